@@ -1,0 +1,5 @@
+# `make test` is the gate.
+.PHONY: test
+
+test:
+	bash .ci/run

@@ -1,0 +1,161 @@
+-- A map that decodes is well formed: every field in its range, the ends of a line differ, no two nodes have the same pair of codes.
+use Prim.Native.Nat.{ℕ, zero, suc, _+_, _-_, _≤_, _<_}
+use mathlib.Core.Path.{_≡_, refl, subst}
+use mathlib.Core.Logic.{_≢_}
+use mathlib.Core.Bool.{Bool, true, false, cond, _&&_}
+use mathlib.Core.List.{List, [], _∷_, _++_}
+use native.Mathlib.Omega.{arith}
+use lib.ListN.{length, length-append}
+use lib.Dec.{leb, eqb}
+use borrow.Author.Tests.{leb-true, eqb-false}
+use Rattle.model.specs.Number.{Number, got, faulty, number}
+use Rattle.model.specs.Map.{Node, Line, Map, greatestNodeCount, greatestLineCount, greatestLineLength, MapAnswer, whole, refused, field, clash, ended, readLine, decodeLines, readNode, decodeNodes, decode}
+use Rattle.model.specs.Lines.{lineAt, nodeAt}
+use Rattle.model.proofs.Tests.{both}
+use Rattle.model.proofs.Every.{Every, none, also, every-append, every-at}
+
+pub record NodeOk (a : Node) : Type 0 where
+  pub lon : a .lon ≤ 35_999_998
+  pub lat : a .lat ≤ 18_000_000
+
+pub record LineOk (nodes : ℕ) (l : Line) : Type 0 where
+  pub start : l .start < nodes
+  pub end : l .end < nodes
+  pub differ : l .start ≢ l .end
+  pub some : 1 ≤ l .length
+  pub long : l .length ≤ greatestLineLength
+  pub frc : l .frc ≤ 7
+  pub fow : l .fow ≤ 7
+  pub out : l .out ≤ 359
+  pub back : l .back ≤ 359
+
+pub record WellFormed (m : Map) : Type 0 where
+  pub nodes : Every NodeOk (m .nodes)
+  pub lines : Every (LineOk (length (m .nodes))) (m .lines)
+  pub two-nodes : 2 ≤ length (m .nodes)
+  pub few-nodes : length (m .nodes) ≤ greatestNodeCount
+  pub one-line : 1 ≤ length (m .lines)
+  pub few-lines : length (m .lines) ≤ greatestLineCount
+  pub distinct : clash (m .nodes) ≡ false
+
+not-whole : {n : ℕ} {m : Map} → refused n ≡ whole m → ⊥
+not-whole e = let z : _≡_ {A = ℕ} 0 1 = cc in omega arith
+
+-- A number that was read lies in its range.
+module _ {m : Map} {low high : ℕ} (n : ℕ) {rest : ℕ → List ℕ → MapAnswer} {G : Type 0}
+    (then : (x : ℕ) (after : List ℕ) → low ≤ x → x ≤ high → rest x after ≡ whole m → G) where
+  ranged : (x : ℕ) (after : List ℕ) (t : Bool) → (leb low x && leb x high) ≡ t →
+      elim t [ true ↦ rest x after | false ↦ refused n ] ≡ whole m → G
+  ranged x after true t e =
+      let t′ = both (leb low x) (leb x high) t in
+      then x after (leb-true _ _ (t′ .0)) (leb-true _ _ (t′ .1)) e
+  ranged x after false t e = absurd (not-whole e)
+
+  numbered : (v : Number) →
+      elim v [
+        | got x after ↦ elim (leb low x && leb x high) [ true ↦ rest x after | false ↦ refused n ]
+        | faulty ↦ refused 2
+      ] ≡ whole m → G
+  numbered (got x after) e = ranged x after _ refl e
+  numbered faulty e = absurd (not-whole e)
+
+next : {m : Map} {low high : ℕ} (n : ℕ) {rest : ℕ → List ℕ → MapAnswer} {G : Type 0} (bs : List ℕ) → field bs low high n rest ≡ whole m →
+    ((x : ℕ) (after : List ℕ) → low ≤ x → x ≤ high → rest x after ≡ whole m → G) → G
+unfolding field
+next n bs e then = numbered n then (number bs) e
+
+ends-differ : {m : Map} {G : Type 0} (a b : ℕ) (rest : MapAnswer) → elim (eqb a b) [ true ↦ refused 5 | false ↦ rest ] ≡ whole m →
+    (a ≢ b → rest ≡ whole m → G) → G
+ends-differ {m} {G} a b rest e then = go (eqb a b) refl e
+  where
+    go : (t : Bool) → eqb a b ≡ t → elim t [ true ↦ refused 5 | false ↦ rest ] ≡ whole m → G
+    go true t e = absurd (not-whole e)
+    go false t e = then (eqb-false a b t) e
+
+-- One node and one line that were read.
+next-node : {m : Map} {rest : Node → List ℕ → MapAnswer} {G : Type 0} (bs : List ℕ) → readNode bs rest ≡ whole m →
+    ((a : Node) (after : List ℕ) → NodeOk a → rest a after ≡ whole m → G) → G
+unfolding readNode
+next-node bs e then =
+    next 4 bs e λ lon bs₁ _ lon≤ e₁.
+    next 4 bs₁ e₁ λ lat bs₂ _ lat≤ e₂.
+    then _ bs₂ (record { lon = lon≤; lat = lat≤ }) e₂
+
+next-line : {m : Map} {rest : Line → List ℕ → MapAnswer} {G : Type 0} (nodes : ℕ) (bs : List ℕ) → 1 ≤ nodes →
+    readLine (nodes - 1) bs rest ≡ whole m → ((l : Line) (after : List ℕ) → LineOk nodes l → rest l after ≡ whole m → G) → G
+unfolding readLine
+next-line nodes bs some e then =
+    next 5 bs e λ start bs₁ _ start≤ e₁.
+    next 5 bs₁ e₁ λ end bs₂ _ end≤ e₂.
+    ends-differ start end _ e₂ λ differ e₂′.
+    next 5 bs₂ e₂′ λ len bs₃ long len≤ e₃.
+    next 5 bs₃ e₃ λ frc bs₄ _ frc≤ e₄.
+    next 5 bs₄ e₄ λ fow bs₅ _ fow≤ e₅.
+    next 5 bs₅ e₅ λ out bs₆ _ out≤ e₆.
+    next 5 bs₆ e₆ λ back bs₇ _ back≤ e₇.
+    then _ bs₇
+    (record {
+      start = omega arith;
+      end = omega arith;
+      differ = differ;
+      some = long;
+      long = len≤;
+      frc = frc≤;
+      fow = fow≤;
+      out = out≤;
+      back = back≤;
+    }) e₇
+
+-- What the loop has read so far: the nodes, and then as many lines as are not left.
+record SoFar (nodes : List Node) : Type 0 where
+  ok : Every NodeOk nodes
+  two : 2 ≤ length nodes
+  few : length nodes ≤ greatestNodeCount
+
+ended-whole : {m : Map} (bs : List ℕ) (nodes : List Node) (lines : List Line) → SoFar nodes → Every (LineOk (length nodes)) lines →
+    1 ≤ length lines → length lines ≤ greatestLineCount → ended bs nodes lines ≡ whole m → WellFormed m
+unfolding ended
+ended-whole {m} [] nodes lines a b one few e = go (clash nodes) refl e
+  where
+    go : (t : Bool) → clash nodes ≡ t → cond t (refused 6) (whole (record { nodes = nodes; lines = lines })) ≡ whole m → WellFormed m
+    go true t e = absurd (not-whole e)
+    go false t e =
+        let made : Map = record { nodes = nodes; lines = lines } in
+        let same : made ≡ m = cc in
+        subst WellFormed same
+        (record { nodes = a .ok; lines = b; two-nodes = a .two; few-nodes = a .few; one-line = one; few-lines = few; distinct = t })
+ended-whole (x ∷ bs) nodes lines a b one few e = absurd (not-whole e)
+
+lines-whole : {m : Map} (left : ℕ) (bs : List ℕ) (nodes : List Node) (lines : List Line) → SoFar nodes → Every (LineOk (length nodes)) lines →
+    1 ≤ left + length lines → left + length lines ≤ greatestLineCount → decodeLines left bs nodes lines ≡ whole m → WellFormed m
+unfolding decodeLines
+lines-whole zero bs nodes lines a b one few e = ended-whole bs nodes lines a b (omega arith) (omega arith) e
+lines-whole (suc left) bs nodes lines a b one few e =
+    next-line (length nodes) bs (omega (arith, a .two)) e λ l after ok e′.
+    lines-whole left after nodes (lines ++ l ∷ []) a (every-append b (also ok none)) (simp length-append (omega arith))
+    (simp length-append (omega arith)) e′
+
+nodes-whole : {m : Map} (left : ℕ) (bs : List ℕ) (nodes : List Node) → 2 ≤ left + length nodes → left + length nodes ≤ greatestNodeCount →
+    Every NodeOk nodes → decodeNodes left bs nodes ≡ whole m → WellFormed m
+unfolding decodeNodes
+nodes-whole zero bs nodes two few a e =
+    next 3 bs e λ count bs₁ low high e₁.
+    lines-whole count bs₁ nodes [] (record { ok = a; two = omega arith; few = omega arith }) none (omega arith) (omega arith) e₁
+nodes-whole (suc left) bs nodes two few a e =
+    next-node bs e λ x after ok e′.
+    nodes-whole left after (nodes ++ x ∷ []) (simp length-append (omega arith)) (simp length-append (omega arith))
+    (every-append a (also ok none)) e′
+
+pub well-formed : (m : Map) (mb : List ℕ) → decode mb ≡ whole m → WellFormed m
+unfolding decode
+well-formed m mb e = next 3 mb e λ count bs low high e₁. nodes-whole count bs [] (omega arith) (omega arith) none e₁
+
+-- Each line and node of such a map by its number.
+module _ {m : Map} (w : WellFormed m) where
+  pub line-ok : (l : ℕ) → l < length (m .lines) → LineOk (length (m .nodes)) (lineAt m l)
+  unfolding lineAt
+  line-ok l h = every-at _ l (w .lines) h
+
+  pub node-ok : (v : ℕ) → v < length (m .nodes) → NodeOk (nodeAt m v)
+  unfolding nodeAt
+  node-ok v h = every-at _ v (w .nodes) h

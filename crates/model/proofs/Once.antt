@@ -1,0 +1,132 @@
+-- The reader's call has one outcome at most, and so has the writer's: a promise that names the outcome pins the answer.
+use Prim.Native.Nat.{ℕ}
+use mathlib.Core.Path.{_≡_, refl}
+use mathlib.Core.Bool.{Bool, true, false}
+use mathlib.Core.List.{List}
+use native.Mathlib.Omega.{arith}
+use lib.Dec.{ltb}
+use Rattle.model.specs.declared.Span.{Span}
+use Rattle.model.specs.Map.{Map, MapAnswer, whole, decode}
+use Rattle.model.specs.Reference.{Reference, ParseAnswer, parsed, parse}
+use Rattle.model.specs.Reading.{Leg}
+use Rattle.model.specs.Stretch.{Stretch, StretchAnswer, remains, checkStretch}
+use Rattle.model.specs.Choice.{LegTest, MoreFirst, more, later, Preferred, same, fewer, more-first, Chosen}
+use Rattle.model.specs.Outcome.{located, locate, LegsAnswer, LegsRead, SpansRead, ReadOutcome, ReadEnd, ReadOn, ReadParsed, ReadMap, ReadWork, workLength, Reads, WriteOutcome, WriteOn, WriteStretch, WriteMap, WriteWork, Writes}
+use Rattle.model.proofs.Legs.{legs-same}
+use Rattle.model.proofs.Spans.{span-same, no-span}
+
+-- Two choices that are each preferred to the other are the same.
+not-both-more : {a b : List (List ℕ)} → MoreFirst a b → MoreFirst b a → ⊥
+not-both-more (more h) (more k) = omega arith
+not-both-more (more h) (later e k) = omega arith
+not-both-more (later e h) (more k) = omega arith
+not-both-more (later e h) (later e′ k) = not-both-more h k
+
+preferred-same : {a b : List (List ℕ)} → Preferred a b → Preferred b a → a ≡ b
+preferred-same same k = refl
+preferred-same (fewer h) same = refl
+preferred-same (fewer h) (fewer k) = absurd (omega arith)
+preferred-same (fewer h) (more-first e k) = absurd (omega arith)
+preferred-same (more-first e h) same = refl
+preferred-same (more-first e h) (fewer k) = absurd (omega arith)
+preferred-same (more-first e h) (more-first e′ k) = absurd (not-both-more h k)
+
+pub chosen-same : {test : LegTest} {lines : List ℕ} {a b : List (List ℕ)} → Chosen test lines a → Chosen test lines b → a ≡ b
+chosen-same c d = preferred-same (c .preferred _ (d .choice)) (d .preferred _ (c .choice))
+
+module _ {m : Map} {s : Stretch} {room : ℕ} where
+  write-on-same : {o o′ : WriteOutcome} → WriteOn m s room o → WriteOn m s room o′ → o ≡ o′
+  write-on-same (WriteOn.no-choice n) (WriteOn.no-choice n′) = refl
+  write-on-same (WriteOn.no-choice n) (WriteOn.no-room c h) = absurd (n _ (c .choice))
+  write-on-same (WriteOn.no-choice n) (WriteOn.accepted c h) = absurd (n _ (c .choice))
+  write-on-same (WriteOn.no-room c h) (WriteOn.no-choice n) = absurd (n _ (c .choice))
+  write-on-same (WriteOn.no-room c h) (WriteOn.no-room c′ h′) = refl
+  write-on-same (WriteOn.no-room c h) (WriteOn.accepted c′ h′) = absurd (omega (arith, rw (chosen-same c c′) at h))
+  write-on-same (WriteOn.accepted c h) (WriteOn.no-choice n) = absurd (n _ (c .choice))
+  write-on-same (WriteOn.accepted c h) (WriteOn.no-room c′ h′) = absurd (omega (arith, rw (chosen-same c c′) at h))
+  write-on-same (WriteOn.accepted c h) (WriteOn.accepted c′ h′) = rw (chosen-same c c′)
+
+module _ (mb : List ℕ) (s : Stretch) (room : ℕ) {o o′ : WriteOutcome} where
+  write-stretch-same : (m : Map) (a : StretchAnswer) → WriteStretch m a room o → WriteStretch m a room o′ → o ≡ o′
+  write-stretch-same m (remains r) h h′ = write-on-same h h′
+  write-stretch-same m (StretchAnswer.refused n) h h′ = cc
+
+  write-map-same : (a : MapAnswer) → WriteMap a s room o → WriteMap a s room o′ → o ≡ o′
+  write-map-same (whole m) h h′ = write-stretch-same m (checkStretch m s) h h′
+  write-map-same (MapAnswer.refused n) h h′ = cc
+
+  write-work-same : (t : Bool) → WriteWork t mb s room o → WriteWork t mb s room o′ → o ≡ o′
+  write-work-same true h h′ = cc
+  write-work-same false h h′ = write-map-same (decode mb) h h′
+
+  pub writes-once : (work : ℕ) → Writes mb s work room o → Writes mb s work room o′ → o ≡ o′
+  writes-once work h h′ = write-work-same (ltb work workLength) h h′
+
+module _ (m : Map) (r : Reference) (room : ℕ) where
+  module _ {lss : List (List ℕ)} {p p′ n n′ : Span} (a : SpansRead m r lss p n) (b : SpansRead m r lss p′ n′) where
+    same-pos : p ≡ p′
+    same-pos = span-same (a .pos-read) (b .pos-read)
+
+    same-neg : n ≡ n′
+    same-neg = span-same (a .neg-read) (b .neg-read)
+
+  end-same : {lss : List (List ℕ)} {o o′ : ReadOutcome} → ReadEnd m r room lss o → ReadEnd m r room lss o′ → o ≡ o′
+  end-same (ReadEnd.no-pos x) (ReadEnd.no-pos x′) = refl
+  end-same (ReadEnd.no-pos x) (ReadEnd.no-neg x′) = refl
+  end-same (ReadEnd.no-pos x) (ReadEnd.too-far b h) = refl
+  end-same (ReadEnd.no-pos x) (ReadEnd.no-room b h k) = absurd (no-span x (b .pos-read))
+  end-same (ReadEnd.no-pos x) (ReadEnd.accepted b h k) = absurd (no-span x (b .pos-read))
+  end-same (ReadEnd.no-neg x) (ReadEnd.no-pos x′) = refl
+  end-same (ReadEnd.no-neg x) (ReadEnd.no-neg x′) = refl
+  end-same (ReadEnd.no-neg x) (ReadEnd.too-far b h) = refl
+  end-same (ReadEnd.no-neg x) (ReadEnd.no-room b h k) = absurd (no-span x (b .neg-read))
+  end-same (ReadEnd.no-neg x) (ReadEnd.accepted b h k) = absurd (no-span x (b .neg-read))
+  end-same (ReadEnd.too-far a g) (ReadEnd.no-pos x) = refl
+  end-same (ReadEnd.too-far a g) (ReadEnd.no-neg x) = refl
+  end-same (ReadEnd.too-far a g) (ReadEnd.too-far b h) = refl
+  end-same (ReadEnd.too-far a g) (ReadEnd.no-room b h k) = absurd (omega (arith, rw (same-pos a b, same-neg a b) at g))
+  end-same (ReadEnd.too-far a g) (ReadEnd.accepted b h k) = absurd (omega (arith, rw (same-pos a b, same-neg a b) at g))
+  end-same (ReadEnd.no-room a g h) (ReadEnd.no-pos x) = absurd (no-span x (a .pos-read))
+  end-same (ReadEnd.no-room a g h) (ReadEnd.no-neg x) = absurd (no-span x (a .neg-read))
+  end-same (ReadEnd.no-room a g h) (ReadEnd.too-far b k) = absurd (omega (arith, rw (same-pos a b, same-neg a b) at g))
+  end-same (ReadEnd.no-room a g h) (ReadEnd.no-room b k l) = refl
+  end-same (ReadEnd.no-room a g h) (ReadEnd.accepted b k l) = absurd (omega arith)
+  end-same (ReadEnd.accepted a g h) (ReadEnd.no-pos x) = absurd (no-span x (a .pos-read))
+  end-same (ReadEnd.accepted a g h) (ReadEnd.no-neg x) = absurd (no-span x (a .neg-read))
+  end-same (ReadEnd.accepted a g h) (ReadEnd.too-far b k) = absurd (omega (arith, rw (same-pos a b, same-neg a b) at g))
+  end-same (ReadEnd.accepted a g h) (ReadEnd.no-room b k l) = absurd (omega arith)
+  end-same (ReadEnd.accepted a g h) (ReadEnd.accepted b k l) = let e = same-pos a b in let e′ = same-neg a b in cc
+
+  found-same : {legs legs′ : List Leg} {a b : LegsAnswer} → locate m r ≡ located legs → locate m r ≡ located legs′ → LegsRead m 0 legs a →
+      LegsRead m 0 legs′ b → a ≡ b
+  found-same {legs} {legs′} e e′ h h′ = let same : legs ≡ legs′ = cc in legs-same (rw same at h) h′
+
+  read-on-same : {o o′ : ReadOutcome} → ReadOn m r room o → ReadOn m r room o′ → o ≡ o′
+  read-on-same (ReadOn.no-point e) (ReadOn.no-point e′) = cc
+  read-on-same (ReadOn.no-point e) (ReadOn.no-leg e′ h) = cc
+  read-on-same (ReadOn.no-point e) (ReadOn.every-leg e′ h end) = cc
+  read-on-same (ReadOn.no-leg e h) (ReadOn.no-point e′) = cc
+  read-on-same (ReadOn.no-leg e h) (ReadOn.no-leg e′ h′) = let same = found-same e e′ h h′ in cc
+  read-on-same (ReadOn.no-leg e h) (ReadOn.every-leg e′ h′ end) = let same = found-same e e′ h h′ in cc
+  read-on-same (ReadOn.every-leg e h end) (ReadOn.no-point e′) = cc
+  read-on-same (ReadOn.every-leg e h end) (ReadOn.no-leg e′ h′) = let same = found-same e e′ h h′ in cc
+  read-on-same (ReadOn.every-leg {lss = lss} e h end) (ReadOn.every-leg {lss = lss′} e′ h′ end′) =
+      let same = found-same e e′ h h′ in
+      let same-lists : lss ≡ lss′ = cc in
+      end-same (rw same-lists at end) end′
+
+module _ (mb ref : List ℕ) (room : ℕ) {o o′ : ReadOutcome} where
+  read-parsed-same : (m : Map) (a : ParseAnswer) → ReadParsed m a room o → ReadParsed m a room o′ → o ≡ o′
+  read-parsed-same m (parsed r) h h′ = read-on-same m r room h h′
+  read-parsed-same m (ParseAnswer.refused n) h h′ = cc
+
+  read-map-same : (a : MapAnswer) → ReadMap a ref room o → ReadMap a ref room o′ → o ≡ o′
+  read-map-same (whole m) h h′ = read-parsed-same m (parse ref) h h′
+  read-map-same (MapAnswer.refused n) h h′ = cc
+
+  read-work-same : (t : Bool) → ReadWork t mb ref room o → ReadWork t mb ref room o′ → o ≡ o′
+  read-work-same true h h′ = cc
+  read-work-same false h h′ = read-map-same (decode mb) h h′
+
+  pub reads-once : (work : ℕ) → Reads mb ref work room o → Reads mb ref work room o′ → o ≡ o′
+  reads-once work h h′ = read-work-same (ltb work workLength) h h′

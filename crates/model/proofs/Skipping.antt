@@ -1,0 +1,151 @@
+-- What remains of a stretch that is not refused: a part of its lines, and offsets that end on the first and on the last of them.
+use Prim.Native.Nat.{ℕ, _+_, _-_, _≤_, _<_}
+use mathlib.Core.Path.{_≡_, refl, sym, _∙_, ap}
+use mathlib.Core.Bool.{Bool, true, false, cond, _||_}
+use mathlib.Core.List.{List, [], _∷_, _++_, reverse, reverse-append, reverse-reverse, reverse-cons}
+use native.Mathlib.Omega.{arith}
+use lib.ListN.{length, length-append, length-reverse}
+use lib.Dec.{leb, ltb, eqb}
+use borrow.Author.Tests.{leb-true, leb-false, ltb-false, eqb-true, eq-eqb}
+use Rattle.model.specs.Map.{Map}
+use Rattle.model.specs.Lines.{lineAt, total, firstOf, lastOf}
+use Rattle.model.specs.Stretch.{Stretch, greatestStretch, unknown, gap, Skipped, skip, remaining, StretchAnswer, remains, checkStretch}
+use Rattle.model.proofs.Tests.{neither}
+
+pub total-append : (m : Map) (xs ys : List ℕ) → total m (xs ++ ys) ≡ total m xs + total m ys
+unfolding total
+total-append m [] ys = omega arith
+total-append m (x ∷ xs) ys = omega (arith, total-append m xs ys)
+
+total-reverse : (m : Map) (xs : List ℕ) → total m (reverse xs) ≡ total m xs
+unfolding total
+total-reverse m [] = refl
+total-reverse m (x ∷ xs) = rw (reverse-cons, total-append) (omega (arith, total-reverse m xs))
+
+pub first-append : (xs ys : List ℕ) → 0 < length xs → firstOf (xs ++ ys) ≡ firstOf xs
+unfolding firstOf
+first-append [] ys h = absurd (omega arith)
+first-append (x ∷ xs) ys h = refl
+
+pub last-append : (xs ys : List ℕ) → 0 < length ys → lastOf (xs ++ ys) ≡ lastOf ys
+unfolding lastOf
+last-append xs [] h = absurd (omega arith)
+last-append [] (y ∷ ys) h = refl
+last-append (x ∷ []) (y ∷ ys) h = refl
+last-append (x ∷ x′ ∷ xs) (y ∷ ys) h = last-append (x′ ∷ xs) (y ∷ ys) h
+
+-- A list without a gap, taken apart.
+pub no-gap : (m : Map) (l k : ℕ) (ls : List ℕ) → gap m (l ∷ k ∷ ls) ≡ false →
+    (lineAt m l .end ≡ lineAt m k .start) × (gap m (k ∷ ls) ≡ false)
+unfolding gap
+no-gap m l k ls e = go (eqb (lineAt m l .end) (lineAt m k .start)) refl e
+  where
+    go : (t : Bool) → eqb (lineAt m l .end) (lineAt m k .start) ≡ t → cond t (gap m (k ∷ ls)) true ≡ false →
+        (lineAt m l .end ≡ lineAt m k .start) × (gap m (k ∷ ls) ≡ false)
+    go true t e = (eqb-true _ _ t, e)
+    go false t e = absurd (let z : _≡_ {A = ℕ} 0 1 = cc in omega arith)
+
+pub gap-suffix : (m : Map) (xs ys : List ℕ) → gap m (xs ++ ys) ≡ false → gap m ys ≡ false
+unfolding gap
+gap-suffix m [] ys e = e
+gap-suffix m (x ∷ []) [] e = refl
+gap-suffix m (x ∷ []) (y ∷ ys) e = no-gap m x y ys e .1
+gap-suffix m (x ∷ x′ ∷ xs) ys e = gap-suffix m (x′ ∷ xs) ys (no-gap m x x′ (xs ++ ys) e .1)
+
+gap-prefix : (m : Map) (xs ys : List ℕ) → gap m (xs ++ ys) ≡ false → gap m xs ≡ false
+unfolding gap
+gap-prefix m [] ys e = refl
+gap-prefix m (x ∷ []) ys e = refl
+gap-prefix m (x ∷ x′ ∷ xs) ys e =
+    let e′ = no-gap m x x′ (xs ++ ys) e in
+    rw (eq-eqb _ _ (e′ .0), gap) (gap-prefix m (x′ ∷ xs) ys (e′ .1))
+
+-- What skipping whole lines leaves.
+record Skips (m : Map) (offset : ℕ) (ls : List ℕ) (s : Skipped) : Type 0 where
+  dropped : List ℕ
+  whole : dropped ++ s .lines ≡ ls
+  first : s .offset < lineAt m (firstOf (s .lines)) .length
+  sum : total m ls + s .offset ≡ total m (s .lines) + offset
+
+skips : (m : Map) (offset : ℕ) (ls : List ℕ) → offset < total m ls → Skips m offset ls (skip m offset ls)
+unfolding skip total firstOf
+skips m offset [] h = absurd (omega arith)
+skips m offset (l ∷ ls) h = go (leb (lineAt m l .length) offset) refl (skips m (offset - lineAt m l .length) ls)
+  where
+    longer : (s : Skipped) → lineAt m l .length ≤ offset → Skips m (offset - lineAt m l .length) ls s → Skips m offset (l ∷ ls) s
+    longer s short k =
+        record { dropped = l ∷ k .dropped; whole = ap (λ (x : List ℕ). l ∷ x) (k .whole); first = k .first; sum = omega (arith, k .sum) }
+
+    go : (t : Bool) → leb (lineAt m l .length) offset ≡ t →
+        (offset - lineAt m l .length < total m ls → Skips m (offset - lineAt m l .length) ls (skip m (offset - lineAt m l .length) ls)) →
+        Skips m offset (l ∷ ls)
+        (elim t [ true ↦ skip m (offset - lineAt m l .length) ls | false ↦ record { lines = l ∷ ls; offset = offset } ])
+    go true t later = longer _ (leb-true _ _ t) (later (omega (arith, leb-true)))
+    go false t later = record { dropped = []; whole = refl; first = leb-false _ _ t; sum = refl }
+
+-- What the proof needs of a stretch that is left.
+pub record Left (m : Map) (s : Stretch) : Type 0 where
+  pub first : s .pos < lineAt m (firstOf (s .lines)) .length
+  pub last : s .neg < lineAt m (lastOf (s .lines)) .length
+  pub below : s .pos + s .neg < total m (s .lines)
+  pub joint : gap m (s .lines) ≡ false
+  pub few : length (s .lines) ≤ 64
+
+filled : (m : Map) (xs : List ℕ) → 0 < total m xs → 0 < length xs
+unfolding total
+filled m [] h = h
+filled m (x ∷ xs) h = omega arith
+
+last-reverse : (xs : List ℕ) → 0 < length xs → lastOf (reverse xs) ≡ firstOf xs
+unfolding firstOf lastOf
+last-reverse [] h = absurd (omega arith)
+last-reverse (x ∷ xs) h = rw reverse-cons (last-append (reverse xs) (x ∷ []) (omega arith))
+
+module _ (m : Map) (s : Stretch) (below : s .pos + s .neg < total m (s .lines)) (joint : gap m (s .lines) ≡ false)
+    (few : length (s .lines) ≤ 64) where
+  module _ (front back : Skipped) (f : Skips m (s .pos) (s .lines) front) (b : Skips m (s .neg) (reverse (front .lines)) back) where
+    front-split : front .lines ≡ reverse (back .lines) ++ reverse (b .dropped)
+    front-split = sym (reverse-reverse _) ∙ ap reverse (sym (b .whole)) ∙ reverse-append (b .dropped) (back .lines)
+
+    split : f .dropped ++ (reverse (back .lines) ++ reverse (b .dropped)) ≡ s .lines
+    split = rw (← front-split) (f .whole)
+
+    both-below : front .offset + back .offset < total m (back .lines)
+    both-below = omega (arith, f .sum, b .sum, total-reverse m (front .lines))
+
+    skipped : Left m (record { lines = reverse (back .lines); pos = front .offset; neg = back .offset })
+    skipped =
+        let some : 0 < length (back .lines) = filled m (back .lines) (omega (arith, both-below)) in
+        let same : firstOf (front .lines) ≡ firstOf (reverse (back .lines)) = rw front-split (first-append _ _ (rw length-reverse some)) in
+        let joint′ : gap m (reverse (back .lines) ++ reverse (b .dropped)) ≡ false = gap-suffix m (f .dropped) _ (rw split joint) in
+        record {
+          first = rw same at (f .first);
+          last = rw (last-reverse _ some) (b .first);
+          below = rw total-reverse both-below;
+          joint = gap-prefix m _ (reverse (b .dropped)) joint′;
+          few = omega (arith, simp length-append at (ap length split));
+        }
+
+  left-of : Left m (remaining m s)
+  unfolding remaining
+  left-of =
+      let front = skips m (s .pos) (s .lines) (omega arith) in
+      skipped _ _ front (skips m (s .neg) _ (rw total-reverse (omega (arith, front .sum))))
+
+-- A stretch that is not refused.
+passed : (t : Bool) (n : ℕ) {rest : StretchAnswer} {r : Stretch} → cond t (StretchAnswer.refused n) rest ≡ remains r →
+    (t ≡ false) × (rest ≡ remains r)
+passed true n e = absurd (let z : _≡_ {A = ℕ} 0 1 = cc in omega arith)
+passed false n e = (refl, e)
+
+pub taken : (m : Map) (s r : Stretch) → checkStretch m s ≡ remains r → (r ≡ remaining m s) × Left m r
+unfolding checkStretch
+taken m s r e =
+    let count = length (s .lines) in
+    let r₇ = passed (eqb count 0 || ltb greatestStretch count || unknown m (s .lines)) 7 e in
+    let r₈ = passed (gap m (s .lines)) 8 (r₇ .1) in
+    let r₉ = passed (leb (total m (s .lines)) (s .pos + s .neg)) 9 (r₈ .1) in
+    let many = neither (eqb count 0 || ltb greatestStretch count) (unknown m (s .lines)) (r₇ .0) in
+    let few : count ≤ greatestStretch = ltb-false _ _ (neither (eqb count 0) (ltb greatestStretch count) (many .0) .1) in
+    let same : remaining m s ≡ r = cc (r₉ .1) in
+    (sym same, rw same at (left-of m s (leb-false _ _ (r₉ .0)) (r₈ .0) few))

@@ -1,0 +1,59 @@
+-- Calls: the answer, and what each call leaves in what it was lent (paper 01, "Refused, by place", last paragraph).
+use Prim.Native.Nat.{ℕ}
+use mathlib.Core.Path.{_≡_}
+use mathlib.Core.Bool.{cond}
+use mathlib.Core.List.{List, _++_}
+use lib.ListN.{length, drop, replicate}
+use lib.Dec.{ltb}
+use Rattle.model.specs.declared.Refusal.{Refusal}
+use Rattle.model.specs.declared.Span.{Span}
+use Rattle.model.specs.declared.ReadAnswer.{ReadAnswer}
+use Rattle.model.specs.declared.WriteAnswer.{WriteAnswer}
+use Rattle.model.specs.Refusal.{refusalOf}
+use Rattle.model.specs.Stretch.{Stretch}
+use Rattle.model.specs.Outcome.{ReadOutcome, read, workLength, Reads, WriteOutcome, written, Writes}
+use Rattle.model.specs.declared.ReadAnswer.the-variants as Reader
+use Rattle.model.specs.declared.WriteAnswer.the-variants as Writer
+
+-- "After every call but refusal 1 the first 12,288 of the work area are zero and the rest unchanged; refusal 1 changes nothing."
+unfoldable pub cleared : List ℕ → List ℕ
+cleared work = cond (ltb (length work) workLength) work (replicate workLength 0 ++ drop workLength work)
+
+-- "The result stands first in its buffer, the rest unchanged."
+unfoldable pub placed : List ℕ → List ℕ → List ℕ
+placed result buffer = result ++ drop (length result) buffer
+
+-- "A refusal leaves the byte and line buffers unchanged."
+unfoldable pub linesAfter : ReadOutcome → List ℕ → List ℕ
+linesAfter (read ls pos neg) lines = placed ls lines
+linesAfter (ReadOutcome.refused r) lines = lines
+
+unfoldable pub bytesAfter : WriteOutcome → List ℕ → List ℕ
+bytesAfter (written bs) bytes = placed bs bytes
+bytesAfter (WriteOutcome.refused r) bytes = bytes
+
+-- "The reader answers the count of lines and, for each offset, its span."
+pub data ReadAnswers : ReadAnswer → ReadOutcome → Type 0 where
+  lines : {ls : List ℕ} {pos neg : Span} → ReadAnswers (Reader.Read (length ls) pos neg) (read ls pos neg)
+  refusal : {why : Refusal} → ReadAnswers (Reader.Refused why) (ReadOutcome.refused (refusalOf why))
+
+-- "The writer answers the count of bytes."
+pub data WriteAnswers : WriteAnswer → WriteOutcome → Type 0 where
+  bytes : {bs : List ℕ} → WriteAnswers (Writer.Written (length bs)) (written bs)
+  refusal : {why : Refusal} → WriteAnswers (Writer.Refused why) (WriteOutcome.refused (refusalOf why))
+
+-- A call of the reader: its answer, and the work area and the line buffer before and after it.
+pub record ReadCall (mb ref work lines : List ℕ) (a : ReadAnswer) (work′ lines′ : List ℕ) : Type 0 where
+  pub outcome : ReadOutcome
+  pub reads : Reads mb ref (length work) (length lines) outcome
+  pub answers : ReadAnswers a outcome
+  pub work-after : work′ ≡ cleared work
+  pub lines-after : lines′ ≡ linesAfter outcome lines
+
+-- A call of the writer: its answer, and the work area and the byte buffer before and after it.
+pub record WriteCall (mb : List ℕ) (s : Stretch) (work bytes : List ℕ) (a : WriteAnswer) (work′ bytes′ : List ℕ) : Type 0 where
+  pub outcome : WriteOutcome
+  pub writes : Writes mb s (length work) (length bytes) outcome
+  pub answers : WriteAnswers a outcome
+  pub work-after : work′ ≡ cleared work
+  pub bytes-after : bytes′ ≡ bytesAfter outcome bytes

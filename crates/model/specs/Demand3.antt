@@ -1,0 +1,73 @@
+-- Demand 3: what the writer accepts the reader hands back exactly, and nothing else fits the bytes (paper 01, "The words of demand 3").
+use Prim.Native.Nat.{ℕ, _+_, _*_, _-_, _≤_, _<_}
+use mathlib.Core.Path.{_≡_}
+use mathlib.Core.List.{List}
+use lib.ListN.{length}
+use Rattle.model.specs.declared.Span.{Span}
+use Rattle.model.specs.Map.{Map, whole, decode}
+use Rattle.model.specs.Lines.{total}
+use Rattle.model.specs.Reference.{Reference, parsed, parse}
+use Rattle.model.specs.Reading.{Leg, Readings}
+use Rattle.model.specs.Stretch.{Stretch, remaining}
+use Rattle.model.specs.Choice.{good, Chosen, firstLeg, lastLeg}
+use Rattle.model.specs.Outcome.{located, locate, ReadOutcome, read, workLength, Reads, written, Writes}
+
+-- "A joining of least-length legs that fits the bytes is a reading of the reference on that map": these are its legs.
+pub record Fits (m : Map) (bytes : List ℕ) (lss : List (List ℕ)) : Type 0 where
+  pub reference : Reference
+  pub legs : List Leg
+  pub parses : parse bytes ≡ parsed reference
+  pub locates : locate m reference ≡ located legs
+  pub readings : Readings m legs lss
+
+-- What is left of an offset lies in a span whose ends are less than a 256th of the leg apart.
+pub record Within (offset : ℕ) (s : Span) (leg : ℕ) : Type 0 where
+  pub from : s .least ≤ offset
+  pub to : offset ≤ s .greatest
+  pub close : 256 * (s .greatest - s .least) < leg
+
+-- The reader accepts and hands back these lines and spans, and nothing else, with every "full work area" ("one that refusal 1 lets pass") and
+-- every "long enough buffer" ("at least as many numbers as the stretch has lines left").
+pub record ReadAs (mb bytes lines : List ℕ) (pos neg : Span) : Type 0 where
+  pub accepts : (work room : ℕ) → workLength ≤ work → length lines ≤ room → Reads mb bytes work room (read lines pos neg)
+  pub nothing-else : (work room : ℕ) (o : ReadOutcome) → workLength ≤ work → length lines ≤ room → Reads mb bytes work room o →
+      o ≡ read lines pos neg
+
+-- What reading a stretch's bytes on the same map gives: the lines left, in order, and spans that hold what is left of the offsets, "the
+-- first leg for the positive, the last for the negative". A joining fits the bytes; "there is exactly one, and its legs are the
+-- stretch's own, cut at the points the writer chose".
+pub record ReadBack (mb : List ℕ) (s : Stretch) (bytes : List ℕ) : Type 0 where
+  pub map : Map
+  pub decodes : decode mb ≡ whole map
+  pub legs : List (List ℕ)
+  pub chosen : Chosen (good map) (remaining map s .lines) legs
+  pub pos : Span
+  pub neg : Span
+  pub reads : ReadAs mb bytes (remaining map s .lines) pos neg
+  pub holds-pos : Within (remaining map s .pos) pos (total map (firstLeg legs))
+  pub holds-neg : Within (remaining map s .neg) neg (total map (lastLeg legs))
+  pub fits : Fits map bytes legs
+  pub only : (others : List (List ℕ)) → Fits map bytes others → others ≡ legs
+
+-- Two offsets no further apart than a span's ends.
+pub record Apart (a b : ℕ) (s : Span) : Type 0 where
+  pub up : b ≤ a + (s .greatest - s .least)
+  pub down : a ≤ b + (s .greatest - s .least)
+
+-- What two stretches with the same bytes have in common: the lines left, and what is left of the offsets up to the span "that reading
+-- their bytes gives".
+pub record Alike (mb bytes : List ℕ) (s t : Stretch) : Type 0 where
+  pub map : Map
+  pub decodes : decode mb ≡ whole map
+  pub lines : remaining map s .lines ≡ remaining map t .lines
+  pub pos : Span
+  pub neg : Span
+  pub reads : ReadAs mb bytes (remaining map s .lines) pos neg
+  pub near-pos : Apart (remaining map s .pos) (remaining map t .pos) pos
+  pub near-neg : Apart (remaining map s .neg) (remaining map t .neg) neg
+
+-- Demand 3, "a single claim": about a writing that was accepted and reading what it wrote; and about two writings that gave the same bytes.
+pub record Demand3 : Type 0 where
+  pub back : (mb bytes : List ℕ) (s : Stretch) (work room : ℕ) → Writes mb s work room (written bytes) → ReadBack mb s bytes
+  pub alike : (mb bytes : List ℕ) (s t : Stretch) (work work′ room room′ : ℕ) →
+      Writes mb s work room (written bytes) → Writes mb t work′ room′ (written bytes) → Alike mb bytes s t

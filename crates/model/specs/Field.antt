@@ -1,0 +1,27 @@
+-- The values of a reference's fields (paper 01, "The bytes"; document 000, section 7).
+use Prim.Native.Nat.{ℕ, _+_, _*_, _-_, _/_, _%_}
+use mathlib.Core.Bool.{cond}
+use lib.Dec.{leb}
+
+-- "Code of a coordinate c": the size of the code is |c| × 16,777,216 ÷ 36,000,000 plus a half, cut.
+unfoldable pub codeSize : ℕ → ℕ
+codeSize c = (c * 33_554_432 + 36_000_000) / 72_000_000
+
+-- The code as 24 bits, two's complement. A coordinate is held as the map stores it, with `half` added to it.
+unfoldable pub code : ℕ → ℕ → ℕ
+code half c = cond (leb half c) (codeSize (c - half)) ((16_777_216 - codeSize (half - c)) % 16_777_216)
+
+-- "Sector: bearing × 4 ÷ 45, rounded down."
+unfoldable pub sector : ℕ → ℕ
+sector bearing = bearing * 4 / 45
+
+-- "D: leg length divided by 586, rounded down." 586 decimetres are OpenLR's 58.6 m.
+abbrev pub distanceStep : ℕ
+distanceStep = 586
+
+unfoldable pub distance : ℕ → ℕ
+distance length = length / distanceStep
+
+-- "Its byte is 256 × offset ÷ leg length, rounded down."
+unfoldable pub offsetByte : ℕ → ℕ → ℕ
+offsetByte leg offset = 256 * offset / leg

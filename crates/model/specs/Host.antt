@@ -1,0 +1,91 @@
+-- The C host's calls (paper 01, "The product", second paragraph): each line number as four bytes, low byte first.
+use Prim.Native.Nat.{ℕ, _+_, _*_, _/_, _%_, min}
+use mathlib.Core.Path.{_≡_}
+use mathlib.Core.Bool.{cond}
+use mathlib.Core.List.{List, [], _∷_}
+use lib.ListN.{length}
+use lib.Dec.{eqb}
+use Rattle.model.specs.Refusal.{row, rowAt}
+use Rattle.model.specs.Stretch.{Stretch}
+use Rattle.model.specs.Outcome.{ReadOutcome, read, workLength, Reads, WriteOutcome, written, Writes}
+use Rattle.model.specs.Call.{placed}
+
+-- The line numbers of some bytes; bytes beyond the last whole four are left out.
+unfoldable pub words : List ℕ → List ℕ
+words [] = []
+words (a ∷ []) = []
+words (a ∷ b ∷ []) = []
+words (a ∷ b ∷ c ∷ []) = []
+words (a ∷ b ∷ c ∷ d ∷ rest) = (a + 256 * b + 65_536 * c + 16_777_216 * d) ∷ words rest
+
+-- The bytes of some line numbers.
+unfoldable pub wordBytes : List ℕ → List ℕ
+wordBytes [] = []
+wordBytes (l ∷ ls) = l % 256 ∷ l / 256 % 256 ∷ l / 65_536 % 256 ∷ l / 16_777_216 % 256 ∷ wordBytes ls
+
+-- "A byte list whose length is no multiple of four is refusal 7": it holds no line, and so gets 7 in its place.
+unfoldable pub hostStretch : List ℕ → ℕ → ℕ → Stretch
+hostStretch bytes pos neg = record { lines = cond (eqb (length bytes % 4) 0) (words bytes) []; pos = pos; neg = neg }
+
+-- "A line buffer holds a quarter of its bytes, rounded down, and a list of over 1,024 lines is refusal 20."
+unfoldable pub hostRoom : ℕ → ℕ
+hostRoom bytes = min (bytes / 4) 1_024
+
+-- The numbers that the host gets from the reader: a refusal or 0, its point or leg, the count of lines and the spans; 0 where they say nothing.
+pub record HostRead : Type 0 where
+  pub refusal : ℕ
+  pub place : ℕ
+  pub lines : ℕ
+  pub posLeast : ℕ
+  pub posGreatest : ℕ
+  pub negLeast : ℕ
+  pub negGreatest : ℕ
+
+unfoldable pub hostRead : ReadOutcome → HostRead
+hostRead (read ls pos neg) =
+    record {
+      refusal = 0;
+      place = 0;
+      lines = length ls;
+      posLeast = pos .least;
+      posGreatest = pos .greatest;
+      negLeast = neg .least;
+      negGreatest = neg .greatest;
+    }
+hostRead (ReadOutcome.refused (row n)) =
+    record { refusal = n; place = 0; lines = 0; posLeast = 0; posGreatest = 0; negLeast = 0; negGreatest = 0 }
+hostRead (ReadOutcome.refused (rowAt n k)) =
+    record { refusal = n; place = k; lines = 0; posLeast = 0; posGreatest = 0; negLeast = 0; negGreatest = 0 }
+
+-- And from the writer: a refusal or 0, and the count of bytes.
+pub record HostWritten : Type 0 where
+  pub refusal : ℕ
+  pub bytes : ℕ
+
+unfoldable pub hostWritten : WriteOutcome → HostWritten
+hostWritten (written bs) = record { refusal = 0; bytes = length bs }
+hostWritten (WriteOutcome.refused (row n)) = record { refusal = n; bytes = 0 }
+hostWritten (WriteOutcome.refused (rowAt n k)) = record { refusal = n; bytes = 0 }
+
+-- The host's buffers after a call.
+unfoldable pub hostLinesAfter : ReadOutcome → List ℕ → List ℕ
+hostLinesAfter (read ls pos neg) lines = placed (wordBytes ls) lines
+hostLinesAfter (ReadOutcome.refused r) lines = lines
+
+unfoldable pub hostBytesAfter : WriteOutcome → List ℕ → List ℕ
+hostBytesAfter (written bs) bytes = placed bs bytes
+hostBytesAfter (WriteOutcome.refused r) bytes = bytes
+
+-- A host's call of the reader, with the line buffer before and after it. "The entry points hold the work area themselves."
+pub record HostReadCall (mb ref lines : List ℕ) (a : HostRead) (lines′ : List ℕ) : Type 0 where
+  pub outcome : ReadOutcome
+  pub reads : Reads mb ref workLength (hostRoom (length lines)) outcome
+  pub answers : a ≡ hostRead outcome
+  pub lines-after : lines′ ≡ hostLinesAfter outcome lines
+
+-- A host's call of the writer, with the byte buffer before and after it.
+pub record HostWriteCall (mb stretch : List ℕ) (pos neg : ℕ) (bytes : List ℕ) (a : HostWritten) (bytes′ : List ℕ) : Type 0 where
+  pub outcome : WriteOutcome
+  pub writes : Writes mb (hostStretch stretch pos neg) workLength (length bytes) outcome
+  pub answers : a ≡ hostWritten outcome
+  pub bytes-after : bytes′ ≡ hostBytesAfter outcome bytes

@@ -1,0 +1,181 @@
+-- What the reader and the writer come to: for each outcome, when it is the one (paper 01, "Refused, by place").
+use Prim.Native.Nat.{ℕ, _+_, _≤_, _<_}
+use mathlib.Core.Path.{_≡_}
+use mathlib.Core.Bool.{Bool, true, false, _&&_}
+use mathlib.Core.List.{List, [], _∷_}
+use lib.ListN.{length}
+use lib.Dec.{ltb, eqb}
+use Rattle.model.specs.declared.Span.{Span}
+use Rattle.model.specs.Refusal.{Refused, row, rowAt}
+use Rattle.model.specs.Map.{Node, Map, MapAnswer, whole, decode, lonCode, latCode}
+use Rattle.model.specs.Field.{offsetByte}
+use Rattle.model.specs.Difference.{standsAt}
+use Rattle.model.specs.Lines.{LineAttributes, nodeAt, total}
+use Rattle.model.specs.Reference.{Offset, absent, byte, Point, Reference, ParseAnswer, parsed, parse}
+use Rattle.model.specs.Reading.{Arrival, any, matching, Leg, Only, Several, Unread, joined}
+use Rattle.model.specs.Stretch.{Stretch, StretchAnswer, remains, checkStretch}
+use Rattle.model.specs.Choice.{good, Choice, Chosen, firstLeg, lastLeg, stretchBytes}
+
+-- The first node that passes a test, counted from `v`. On a decoded map no other passes one of the tests below (proofs/Nodes.antt).
+pub data Found : Type 0 where
+  found : ℕ → Found
+  missing : Found
+
+unfoldable pub seek : (Node → Bool) → ℕ → List Node → Found
+seek test v [] = missing
+seek test v (a ∷ rest) = elim (test a) [ true ↦ found v | false ↦ seek test (v + 1) rest ]
+
+-- The legs between the nodes of a reference's points, or the first "point with no node" (refusal 16).
+pub data Located : Type 0 where
+  located : List Leg → Located
+  no-node : ℕ → Located
+
+unfoldable pub leg-first : Leg → Located → Located
+leg-first leg (located legs) = located (leg ∷ legs)
+leg-first leg (no-node k) = no-node k
+
+-- How a leg arrives that has these points after its own: the last one as the last P and R say.
+unfoldable pub arrivalBefore : List Point → LineAttributes → Arrival
+arrivalBefore [] last = matching last
+arrivalBefore (p ∷ ps) last = any
+
+-- The legs from node `v`, which is point `k`, on: "each later point is the node at the previous node's coordinates plus the differences".
+unfoldable pub legsFrom : Map → LineAttributes → ℕ → ℕ → List Point → Located
+legsFrom m last v k [] = located []
+legsFrom m last v k (p ∷ ps) =
+    elim (seek (standsAt (nodeAt m v) (p .next)) 0 (m .nodes)) [
+      | found u ↦
+          leg-first
+          (record {
+            from = v;
+            to = u;
+            leaves = p .leaves;
+            lowest = p .lowest;
+            distance = p .distance;
+            arrival = arrivalBefore ps last;
+          })
+          (legsFrom m last u (k + 1) ps)
+      | missing ↦ no-node (k + 1)
+    ]
+
+-- "The first point is the node with its two codes."
+unfoldable pub hasCodes : ℕ → ℕ → Node → Bool
+hasCodes lon lat a = eqb (lonCode a) lon && eqb (latCode a) lat
+
+unfoldable pub locate : Map → Reference → Located
+locate m r =
+    elim (seek (hasCodes (r .lon) (r .lat)) 0 (m .nodes)) [
+      | found v ↦ legsFrom m (r .arrives) v 0 (r .points)
+      | missing ↦ no-node 0
+    ]
+
+-- Every leg read, or a refusal and the leg it is given for.
+pub data LegsAnswer : Type 0 where
+  every : List (List ℕ) → LegsAnswer
+  failed : ℕ → ℕ → LegsAnswer
+
+-- "All legs are tried in order, and the first leg without exactly one reading decides between 17 and 18." Legs are counted from `k`.
+pub data LegsRead (m : Map) : ℕ → List Leg → LegsAnswer → Type 0 where
+  none : {k : ℕ} → LegsRead m k [] (every [])
+  only : {k : ℕ} {leg : Leg} {rest : List Leg} {ls : List ℕ} {lss : List (List ℕ)} →
+      Only m leg ls → LegsRead m (k + 1) rest (every lss) → LegsRead m k (leg ∷ rest) (every (ls ∷ lss))
+  unread : {k : ℕ} {leg : Leg} {rest : List Leg} → Unread m leg → LegsRead m k (leg ∷ rest) (failed 17 k)
+  several : {k : ℕ} {leg : Leg} {rest : List Leg} → Several m leg → LegsRead m k (leg ∷ rest) (failed 18 k)
+  later : {k n j : ℕ} {leg : Leg} {rest : List Leg} {ls : List ℕ} →
+      Only m leg ls → LegsRead m (k + 1) rest (failed n j) → LegsRead m k (leg ∷ rest) (failed n j)
+
+-- "Of the whole offsets from 1 to below the leg length": `o` is one, and it gives the byte.
+pub record Gives (leg byte o : ℕ) : Type 0 where
+  pub above : 0 < o
+  pub inside : o < leg
+  pub same : offsetByte leg o ≡ byte
+
+-- Span, the paper's word: "the least and the greatest that give its byte", "0 and 0 if unflagged".
+pub data SpanRead (leg : ℕ) : Offset → Span → Type 0 where
+  unflagged : SpanRead leg absent (record { least = 0; greatest = 0 })
+  flagged : {b lo hi : ℕ} → Gives leg b lo → Gives leg b hi → ((o : ℕ) → Gives leg b o → (lo ≤ o) × (o ≤ hi)) →
+      SpanRead leg (byte b) (record { least = lo; greatest = hi })
+
+-- Refusal 19, first half: "no whole offset from 1 to below the leg length gives a flagged byte".
+pub data NoOffset (leg : ℕ) : Offset → Type 0 where
+  no-offset : {b : ℕ} → ((o : ℕ) → Gives leg b o → ⊥) → NoOffset leg (byte b)
+
+-- Both spans of the legs that were read: "on the first leg for the positive and the last for the negative".
+pub record SpansRead (m : Map) (r : Reference) (lss : List (List ℕ)) (pos neg : Span) : Type 0 where
+  pub pos-read : SpanRead (total m (firstLeg lss)) (r .pos) pos
+  pub neg-read : SpanRead (total m (lastLeg lss)) (r .neg) neg
+
+-- An outcome of the reader.
+pub data ReadOutcome : Type 0 where
+  read : List ℕ → Span → Span → ReadOutcome
+  refused : Refused → ReadOutcome
+
+-- Once every leg is read, for a line buffer of `room` numbers: 19, 20, or accepted.
+pub data ReadEnd (m : Map) (r : Reference) (room : ℕ) (lss : List (List ℕ)) : ReadOutcome → Type 0 where
+  no-pos : NoOffset (total m (firstLeg lss)) (r .pos) → ReadEnd m r room lss (refused (row 19))
+  no-neg : NoOffset (total m (lastLeg lss)) (r .neg) → ReadEnd m r room lss (refused (row 19))
+  too-far : {pos neg : Span} → SpansRead m r lss pos neg → total m (joined lss) ≤ pos .least + neg .least →
+      ReadEnd m r room lss (refused (row 19))
+  no-room : {pos neg : Span} → SpansRead m r lss pos neg → pos .least + neg .least < total m (joined lss) →
+      room < length (joined lss) → ReadEnd m r room lss (refused (row 20))
+  accepted : {pos neg : Span} → SpansRead m r lss pos neg → pos .least + neg .least < total m (joined lss) →
+      length (joined lss) ≤ room → ReadEnd m r room lss (read (joined lss) pos neg)
+
+-- On a map, for a reference taken apart: 16, then 17 or 18, then the rest.
+pub data ReadOn (m : Map) (r : Reference) (room : ℕ) : ReadOutcome → Type 0 where
+  no-point : {k : ℕ} → locate m r ≡ no-node k → ReadOn m r room (refused (rowAt 16 k))
+  no-leg : {legs : List Leg} {n k : ℕ} → locate m r ≡ located legs → LegsRead m 0 legs (failed n k) →
+      ReadOn m r room (refused (rowAt n k))
+  every-leg : {legs : List Leg} {lss : List (List ℕ)} {o : ReadOutcome} →
+      locate m r ≡ located legs → LegsRead m 0 legs (every lss) → ReadEnd m r room lss o → ReadOn m r room o
+
+-- "Work area under 12,288 numbers of 32 bits" (refusal 1).
+abbrev pub workLength : ℕ
+workLength = 12_288
+
+-- Row by row: the reference (12 to 15) after the map (2 to 6) after the work area (1).
+abbrev pub ReadParsed : Map → ParseAnswer → ℕ → ReadOutcome → Type 0
+ReadParsed m (parsed r) room o = ReadOn m r room o
+ReadParsed m (ParseAnswer.refused n) room o = o ≡ refused (row n)
+
+abbrev pub ReadMap : MapAnswer → List ℕ → ℕ → ReadOutcome → Type 0
+ReadMap (whole m) ref room o = ReadParsed m (parse ref) room o
+ReadMap (MapAnswer.refused n) ref room o = o ≡ refused (row n)
+
+abbrev pub ReadWork : Bool → List ℕ → List ℕ → ℕ → ReadOutcome → Type 0
+ReadWork true mb ref room o = o ≡ refused (row 1)
+ReadWork false mb ref room o = ReadMap (decode mb) ref room o
+
+-- The reader's outcome for map bytes, reference bytes, a work area of `work` numbers and a line buffer of `room` numbers.
+abbrev pub Reads : List ℕ → List ℕ → ℕ → ℕ → ReadOutcome → Type 0
+Reads mb ref work room o = ReadWork (ltb work workLength) mb ref room o
+
+-- An outcome of the writer.
+pub data WriteOutcome : Type 0 where
+  written : List ℕ → WriteOutcome
+  refused : Refused → WriteOutcome
+
+-- On a map, for what remains of a stretch and a byte buffer of `room` bytes: 10, 11, or accepted.
+pub data WriteOn (m : Map) (s : Stretch) (room : ℕ) : WriteOutcome → Type 0 where
+  no-choice : ((lss : List (List ℕ)) → Choice (good m) (s .lines) lss → ⊥) → WriteOn m s room (refused (row 10))
+  no-room : {lss : List (List ℕ)} → Chosen (good m) (s .lines) lss → room < length (stretchBytes m lss s) →
+      WriteOn m s room (refused (row 11))
+  accepted : {lss : List (List ℕ)} → Chosen (good m) (s .lines) lss → length (stretchBytes m lss s) ≤ room →
+      WriteOn m s room (written (stretchBytes m lss s))
+
+-- Row by row: the stretch as given (7 to 9) after the map (2 to 6) after the work area (1).
+abbrev pub WriteStretch : Map → StretchAnswer → ℕ → WriteOutcome → Type 0
+WriteStretch m (remains s) room o = WriteOn m s room o
+WriteStretch m (StretchAnswer.refused n) room o = o ≡ refused (row n)
+
+abbrev pub WriteMap : MapAnswer → Stretch → ℕ → WriteOutcome → Type 0
+WriteMap (whole m) s room o = WriteStretch m (checkStretch m s) room o
+WriteMap (MapAnswer.refused n) s room o = o ≡ refused (row n)
+
+abbrev pub WriteWork : Bool → List ℕ → Stretch → ℕ → WriteOutcome → Type 0
+WriteWork true mb s room o = o ≡ refused (row 1)
+WriteWork false mb s room o = WriteMap (decode mb) s room o
+
+-- The writer's outcome for map bytes, a stretch as given, a work area of `work` numbers and a byte buffer of `room` bytes.
+abbrev pub Writes : List ℕ → Stretch → ℕ → ℕ → WriteOutcome → Type 0
+Writes mb s work room o = WriteWork (ltb work workLength) mb s room o

@@ -1,0 +1,61 @@
+-- A stretch, the paper's word for the lines an office marks with its two offsets, and what remains of it (paper 01, "A stretch"; refusals 7 to 9).
+use Prim.Native.Nat.{ℕ, _+_, _-_}
+use mathlib.Core.Bool.{Bool, true, false, cond, _||_}
+use mathlib.Core.List.{List, [], _∷_, reverse}
+use lib.ListN.{length}
+use lib.Dec.{ltb, leb, eqb}
+use Rattle.model.specs.Map.{Map}
+use Rattle.model.specs.Lines.{lineAt, total}
+
+-- Line numbers in order, and the positive and the negative offset in decimetres.
+pub record Stretch : Type 0 where
+  pub lines : List ℕ
+  pub pos : ℕ
+  pub neg : ℕ
+
+-- "1 to 64 line numbers."
+abbrev pub greatestStretch : ℕ
+greatestStretch = 64
+
+-- Refusal 7: "no such line".
+unfoldable pub unknown : Map → List ℕ → Bool
+unknown m [] = false
+unknown m (l ∷ ls) = leb (length (m .lines)) l || unknown m ls
+
+-- Refusal 8: "a line does not end where the next starts".
+unfoldable pub gap : Map → List ℕ → Bool
+gap m [] = false
+gap m (l ∷ []) = false
+gap m (l ∷ k ∷ ls) = cond (eqb (lineAt m l .end) (lineAt m k .start)) (gap m (k ∷ ls)) true
+
+-- Lines left after an offset has dropped those that it covers, and what is left of the offset.
+pub record Skipped : Type 0 where
+  pub lines : List ℕ
+  pub offset : ℕ
+
+-- "While the positive offset is not below the first line's length, that line is dropped and the offset lowered by it."
+unfoldable pub skip : Map → ℕ → List ℕ → Skipped
+skip m offset [] = record { lines = []; offset = offset }
+skip m offset (l ∷ ls) =
+    elim (leb (lineAt m l .length) offset) [
+      | true ↦ skip m (offset - lineAt m l .length) ls
+      | false ↦ record { lines = l ∷ ls; offset = offset }
+    ]
+
+-- "Likewise the negative offset at the end." What remains of a stretch.
+unfoldable pub remaining : Map → Stretch → Stretch
+remaining m s =
+    let front = skip m (s .pos) (s .lines) in
+    let back = skip m (s .neg) (reverse (front .lines)) in
+    record { lines = reverse (back .lines); pos = front .offset; neg = back .offset }
+
+-- A stretch as given, refused with 7 to 9, or what remains of it.
+pub data StretchAnswer : Type 0 where
+  remains : Stretch → StretchAnswer
+  refused : ℕ → StretchAnswer
+
+unfoldable pub checkStretch : Map → Stretch → StretchAnswer
+checkStretch m s =
+    cond (eqb (length (s .lines)) 0 || ltb greatestStretch (length (s .lines)) || unknown m (s .lines)) (refused 7)
+    (cond (gap m (s .lines)) (refused 8)
+    (cond (leb (total m (s .lines)) (s .pos + s .neg)) (refused 9) (remains (remaining m s))))
