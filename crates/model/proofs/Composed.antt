@@ -17,7 +17,7 @@ use Rattle.model.specs.Choice.{Good, good, Usable, final, before, pointO
 use Rattle.model.specs.Outcome.{SpansRead}
 use Rattle.model.proofs.Differences.{difference-small}
 use Rattle.model.proofs.Every.{Every, none, also}
-use Rattle.model.proofs.Decoded.{WellFormed, LineOk, node-ok}
+use Rattle.model.specs.WellFormed.{WellFormed, LineOk}
 use Rattle.model.proofs.Bytes.{AttributesFit, PointFits, OffsetFits, Fitting}
 use Rattle.model.proofs.Joining.{connected, first-ok, last-ok, lowest-small, from-known, as-many, first-leg, last-leg}
 use Rattle.model.proofs.Spans.{offset-byte, stated, span}
@@ -79,7 +79,7 @@ module _ {m : Map} (w : WellFormed m) where
     pub fitting : length lss ≤ 64 → Fitting (referenceOf m lss pos neg)
     unfolding referenceOf lonCode latCode
     fitting few =
-        let at = node-ok w _ (from-known w (first-leg u)) in
+        let at = w .node-ok _ (from-known w (first-leg u)) in
         record {
           lon = code-small 18_000_000 _ (omega (arith, at .lon));
           lat = code-small 9_000_000 _ (omega (arith, at .lat));

@@ -1,5 +1,5 @@
 -- A map that decodes is well formed: every field in its range, the ends of a line differ, no two nodes have the same pair of codes.
-use Prim.Native.Nat.{ℕ, zero, suc, _+_, _-_, _≤_, _<_}
+use Prim.Native.Nat.{ℕ, zero, suc, _+_, _-_, _≤_}
 use mathlib.Core.Path.{_≡_, refl, subst}
 use mathlib.Core.Logic.{_≢_}
 use mathlib.Core.Bool.{Bool, true, false, cond, _&&_}
@@ -9,34 +9,11 @@ use lib.ListN.{length, length-append}
 use lib.Dec.{leb, eqb}
 use borrow.Author.Tests.{leb-true, eqb-false}
 use Rattle.model.specs.Number.{Number, got, faulty, number}
-use Rattle.model.specs.Map.{Node, Line, Map, greatestNodeCount, greatestLineCount, greatestLineLength, MapAnswer, whole, refused, field, clash, ended, readLine, decodeLines, readNode, decodeNodes, decode}
+use Rattle.model.specs.Map.{Node, Line, Map, greatestNodeCount, greatestLineCount, MapAnswer, whole, refused, field, clash, ended, readLine, decodeLines, readNode, decodeNodes, decode}
 use Rattle.model.specs.Lines.{lineAt, nodeAt}
+use Rattle.model.specs.WellFormed.{NodeOk, LineOk, WellFormed}
 use Rattle.model.proofs.Tests.{both}
 use Rattle.model.proofs.Every.{Every, none, also, every-append, every-at}
-
-pub record NodeOk (a : Node) : Type 0 where
-  pub lon : a .lon ≤ 35_999_998
-  pub lat : a .lat ≤ 18_000_000
-
-pub record LineOk (nodes : ℕ) (l : Line) : Type 0 where
-  pub start : l .start < nodes
-  pub end : l .end < nodes
-  pub differ : l .start ≢ l .end
-  pub some : 1 ≤ l .length
-  pub long : l .length ≤ greatestLineLength
-  pub frc : l .frc ≤ 7
-  pub fow : l .fow ≤ 7
-  pub out : l .out ≤ 359
-  pub back : l .back ≤ 359
-
-pub record WellFormed (m : Map) : Type 0 where
-  pub nodes : Every NodeOk (m .nodes)
-  pub lines : Every (LineOk (length (m .nodes))) (m .lines)
-  pub two-nodes : 2 ≤ length (m .nodes)
-  pub few-nodes : length (m .nodes) ≤ greatestNodeCount
-  pub one-line : 1 ≤ length (m .lines)
-  pub few-lines : length (m .lines) ≤ greatestLineCount
-  pub distinct : clash (m .nodes) ≡ false
 
 not-whole : {n : ℕ} {m : Map} → refused n ≡ whole m → ⊥
 not-whole e = let z : _≡_ {A = ℕ} 0 1 = cc in omega arith
@@ -114,7 +91,7 @@ record SoFar (nodes : List Node) : Type 0 where
 
 ended-whole : {m : Map} (bs : List ℕ) (nodes : List Node) (lines : List Line) → SoFar nodes → Every (LineOk (length nodes)) lines →
     1 ≤ length lines → length lines ≤ greatestLineCount → ended bs nodes lines ≡ whole m → WellFormed m
-unfolding ended
+unfolding ended lineAt nodeAt
 ended-whole {m} [] nodes lines a b one few e = go (clash nodes) refl e
   where
     go : (t : Bool) → clash nodes ≡ t → cond t (refused 6) (whole (record { nodes = nodes; lines = lines })) ≡ whole m → WellFormed m
@@ -123,7 +100,15 @@ ended-whole {m} [] nodes lines a b one few e = go (clash nodes) refl e
         let made : Map = record { nodes = nodes; lines = lines } in
         let same : made ≡ m = cc in
         subst WellFormed same
-        (record { nodes = a .ok; lines = b; two-nodes = a .two; few-nodes = a .few; one-line = one; few-lines = few; distinct = t })
+        (record {
+          node-ok = λ v h. every-at _ v (a .ok) h;
+          line-ok = λ l h. every-at _ l b h;
+          two-nodes = a .two;
+          few-nodes = a .few;
+          one-line = one;
+          few-lines = few;
+          distinct = t;
+        })
 ended-whole (x ∷ bs) nodes lines a b one few e = absurd (not-whole e)
 
 lines-whole : {m : Map} (left : ℕ) (bs : List ℕ) (nodes : List Node) (lines : List Line) → SoFar nodes → Every (LineOk (length nodes)) lines →
@@ -149,13 +134,3 @@ nodes-whole (suc left) bs nodes two few a e =
 pub well-formed : (m : Map) (mb : List ℕ) → decode mb ≡ whole m → WellFormed m
 unfolding decode
 well-formed m mb e = next 3 mb e λ count bs low high e₁. nodes-whole count bs [] (omega arith) (omega arith) none e₁
-
--- Each line and node of such a map by its number.
-module _ {m : Map} (w : WellFormed m) where
-  pub line-ok : (l : ℕ) → l < length (m .lines) → LineOk (length (m .nodes)) (lineAt m l)
-  unfolding lineAt
-  line-ok l h = every-at _ l (w .lines) h
-
-  pub node-ok : (v : ℕ) → v < length (m .nodes) → NodeOk (nodeAt m v)
-  unfolding nodeAt
-  node-ok v h = every-at _ v (w .nodes) h

@@ -14,7 +14,8 @@ use Rattle.model.specs.Choice.{good, Usable, firstLeg, lastLeg, referenc
 use Rattle.model.specs.Outcome.{located, locate, SpansRead, read, ReadEnd, ReadOn, workLength, Reads, written, Writes}
 use Rattle.model.specs.Demand3.{Fits, Within, ReadAs, ReadBack, Apart, Alike, Demand3}
 use Rattle.model.proofs.Every.{Every, Byte}
-use Rattle.model.proofs.Decoded.{WellFormed, well-formed}
+use Rattle.model.specs.WellFormed.{WellFormed}
+use Rattle.model.proofs.Decoded.{well-formed}
 use Rattle.model.proofs.Joining.{first-leg, last-leg, first-length, last-length, as-many, first-joined, last-joined}
 use Rattle.model.proofs.Legs.{legsOf, sole, readings, readings-only, legs-read}
 use Rattle.model.proofs.Spans.{stated, within}

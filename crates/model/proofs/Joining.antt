@@ -10,7 +10,7 @@ use Rattle.model.specs.Lines.{lineAt, Connected, single, linked, total, 
 use Rattle.model.specs.Reading.{joined}
 use Rattle.model.specs.Stretch.{gap}
 use Rattle.model.specs.Choice.{fromNode, toNode, Good, good, Usable, final, before, firstLeg, lastLeg}
-use Rattle.model.proofs.Decoded.{WellFormed, LineOk, line-ok}
+use Rattle.model.specs.WellFormed.{WellFormed, LineOk}
 use Rattle.model.proofs.Skipping.{no-gap, first-append, last-append}
 
 first-known : {m : Map} {ls : List ℕ} → Connected m ls → firstOf ls < length (m .lines)
@@ -44,15 +44,15 @@ connected g = g .only .reading .allowed .connected
 -- What the map's ranges say of a connected list's lines and ends.
 module _ {m : Map} (w : WellFormed m) where
   pub first-ok : {ls : List ℕ} → Connected m ls → LineOk (length (m .nodes)) (lineAt m (firstOf ls))
-  first-ok c = line-ok w _ (first-known c)
+  first-ok c = w .line-ok _ (first-known c)
 
   pub last-ok : {ls : List ℕ} → Connected m ls → LineOk (length (m .nodes)) (lineAt m (lastOf ls))
-  last-ok c = line-ok w _ (last-known c)
+  last-ok c = w .line-ok _ (last-known c)
 
   pub lowest-small : {ls : List ℕ} → Connected m ls → lowest m ls ≤ 7
   unfolding lowest
-  lowest-small (single {l = l} h) = omega (arith, line-ok w l h .frc)
-  lowest-small (linked {l = l} h f c) = omega (arith, line-ok w l h .frc, lowest-small c)
+  lowest-small (single {l = l} h) = omega (arith, w .line-ok l h .frc)
+  lowest-small (linked {l = l} h f c) = omega (arith, w .line-ok l h .frc, lowest-small c)
 
   pub from-known : {ls : List ℕ} → Connected m ls → fromNode m ls < length (m .nodes)
   unfolding fromNode

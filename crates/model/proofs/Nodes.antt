@@ -11,7 +11,8 @@ use Rattle.model.specs.Difference.{DifferencesFit, differences, standsAt
 use Rattle.model.specs.Lines.{nodeAt}
 use Rattle.model.specs.Outcome.{found, seek, hasCodes}
 use Rattle.model.proofs.Tests.{neither}
-use Rattle.model.proofs.Decoded.{WellFormed, well-formed}
+use Rattle.model.specs.WellFormed.{WellFormed}
+use Rattle.model.proofs.Decoded.{well-formed}
 use Rattle.model.proofs.Differences.{stands-there, stands-only}
 
 not-among : (a : Node) (nodes : List Node) (i : ℕ) (d : Node) → among a nodes ≡ false → i < length nodes → sameCodes a (getD nodes i d) ≡ false

@@ -5,7 +5,7 @@ use mathlib.Core.Bool.{cond}
 use mathlib.Core.List.{List, [], _∷_}
 use lib.ListN.{length}
 use lib.Dec.{eqb}
-use Rattle.model.specs.Refusal.{row, rowAt}
+use Rattle.model.specs.Refusal.{numberOf, placeOf}
 use Rattle.model.specs.Stretch.{Stretch}
 use Rattle.model.specs.Outcome.{ReadOutcome, read, workLength, Reads, WriteOutcome, written, Writes}
 use Rattle.model.specs.Call.{placed}
@@ -52,10 +52,8 @@ hostRead (read ls pos neg) =
       negLeast = neg .least;
       negGreatest = neg .greatest;
     }
-hostRead (ReadOutcome.refused (row n)) =
-    record { refusal = n; place = 0; lines = 0; posLeast = 0; posGreatest = 0; negLeast = 0; negGreatest = 0 }
-hostRead (ReadOutcome.refused (rowAt n k)) =
-    record { refusal = n; place = k; lines = 0; posLeast = 0; posGreatest = 0; negLeast = 0; negGreatest = 0 }
+hostRead (ReadOutcome.refused r) =
+    record { refusal = numberOf r; place = placeOf r; lines = 0; posLeast = 0; posGreatest = 0; negLeast = 0; negGreatest = 0 }
 
 -- And from the writer: a refusal or 0, and the count of bytes.
 pub record HostWritten : Type 0 where
@@ -64,8 +62,7 @@ pub record HostWritten : Type 0 where
 
 unfoldable pub hostWritten : WriteOutcome → HostWritten
 hostWritten (written bs) = record { refusal = 0; bytes = length bs }
-hostWritten (WriteOutcome.refused (row n)) = record { refusal = n; bytes = 0 }
-hostWritten (WriteOutcome.refused (rowAt n k)) = record { refusal = n; bytes = 0 }
+hostWritten (WriteOutcome.refused r) = record { refusal = numberOf r; bytes = 0 }
 
 -- The host's buffers after a call.
 unfoldable pub hostLinesAfter : ReadOutcome → List ℕ → List ℕ

@@ -4,6 +4,7 @@ pub mod Field
 pub mod Map
 pub mod Difference
 pub mod Lines
+pub mod WellFormed
 pub mod Stretch
 pub mod Reference
 pub mod Reading

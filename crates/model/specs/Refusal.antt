@@ -8,6 +8,16 @@ pub data Refused : Type 0 where
   row : ℕ → Refused
   rowAt : ℕ → ℕ → Refused
 
+unfoldable pub numberOf : Refused → ℕ
+numberOf (row n) = n
+numberOf (rowAt n k) = n
+
+-- The point or leg, 0 where there is none.
+unfoldable pub placeOf : Refused → ℕ
+placeOf (row n) = 0
+placeOf (rowAt n k) = k
+
+-- What each case of the enum is.
 unfoldable pub refusalOf : Refusal → Refused
 refusalOf WorkAreaShort = row 1
 refusalOf MapNumber = row 2
