@@ -1,0 +1,4 @@
+-- What the answers of this crate say, by the definitions of crates/model/specs.
+pub mod Difference
+pub mod Leg
+pub mod Offset

@@ -1,0 +1,34 @@
+// The sector of a line's bearing, and byte D of a leg.
+ghost use mathlib.Core.Path.{_≡_};
+ghost use Rattle.model.specs.Field.{sector, distance};
+ghost use Rattle.fields.specs.Leg.{LongestLeg};
+
+// Decimetres to a step of byte D: 58.6 m.
+pub const DISTANCE_STEP: u32 = 586;
+
+// The greatest length of a leg in decimetres.
+pub const GREATEST_LEG_LENGTH: u32 = 150_000;
+
+// The sector of a bearing in whole degrees.
+pub fn sector(bearing: u32) -> u32
+    ensures { λ r. ⌜ r ≡ sector bearing ⌝ }
+{
+    (bearing as u64 * 4 / 45) as u32
+}
+
+// Byte D of a length in decimetres.
+pub fn distance(length: u32) -> u32
+    ensures { λ r. ⌜ r ≡ distance length ⌝ }
+{
+    length / DISTANCE_STEP
+}
+
+// The greatest length of a leg whose byte D is at most `d`.
+pub fn longest_leg(d: u32) -> u32
+    ensures { λ r. ⌜ LongestLeg d r ⌝ }
+{
+    if d < GREATEST_LEG_LENGTH / DISTANCE_STEP {
+        return d * DISTANCE_STEP + (DISTANCE_STEP - 1);
+    }
+    GREATEST_LEG_LENGTH
+}
