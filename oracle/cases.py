@@ -1,0 +1,239 @@
+"""Cases with their expected outcomes, from a fixed seed.
+
+Usage: python3 oracle/cases.py KIND COUNT [--seed N], where KIND is map, leg, read or write.
+"""
+
+import argparse
+import random
+from dataclasses import dataclass, replace
+
+from damages import map_damages
+from depot_map import DepotMap, map_to_bytes, read_map
+from fields import LONGEST_LEG
+from legs import Leg, LegSearch, Readings, describe_leg, list_length
+from outcome import Refused, RefusedCall, outcome_text
+from read_recipes import READ_RECIPES, ReadInput, read_outcome
+from sample_maps import full_size_sample, random_walk
+from write_recipes import WRITE_RECIPES, WriteInput, any_sample, write_outcome
+
+
+@dataclass(frozen=True)
+class MapCase:
+    """Expected: the map itself, or a refusal from 2 to 6."""
+    label: str
+    map_bytes: bytes
+    expected: object
+
+    def row(self):
+        if isinstance(self.expected, Refused):
+            text = outcome_text(self.expected)
+        else:
+            text = f"map of {len(self.expected.nodes)} nodes and {len(self.expected.lines)} lines"
+        return [self.map_bytes.hex(), self.label, text]
+
+
+@dataclass(frozen=True)
+class LegCase:
+    """Expected: none, one with its lines, or several readings."""
+    label: str
+    depot_map: DepotMap
+    map_bytes: bytes
+    leg: Leg
+    expected: Readings
+
+    def row(self):
+        lines = "" if self.expected.lines is None else " " + " ".join(map(str, self.expected.lines))
+        return [self.map_bytes.hex(), str(self.leg), self.label, self.expected.how_many + lines]
+
+
+@dataclass(frozen=True)
+class ReadCase:
+    label: str
+    given: ReadInput
+    expected: object
+
+    def row(self):
+        given = self.given
+        numbers = f"work {given.work_length} lines {given.line_room}"
+        return [given.map_bytes.hex(), given.reference.hex(), numbers, self.label, one_row(self.expected)]
+
+
+@dataclass(frozen=True)
+class WriteCase:
+    label: str
+    given: WriteInput
+    expected: object
+
+    def row(self):
+        given = self.given
+        numbers = (f"stretch {' '.join(map(str, given.lines))} pos {given.pos} neg {given.neg}"
+                   f" work {given.work_length} bytes {given.byte_room}")
+        return [given.map_bytes.hex(), numbers, self.label, one_row(self.expected)]
+
+
+def one_row(outcome):
+    return outcome_text(outcome).replace("\n", " ")
+
+
+def map_outcome(map_bytes):
+    try:
+        return read_map(map_bytes)
+    except RefusedCall as refusal:
+        return refusal.refused
+
+
+def random_source(kind, seed, index):
+    """Each case has its own source, so that it does not depend on how many cases are asked for."""
+    return random.Random(f"{kind} {seed} {index}")
+
+
+def good_map(rng, turn):
+    sample = full_size_sample(rng) if turn % 20 == 19 else any_sample(rng, turn)
+    return sample.label, map_to_bytes(sample.depot_map)
+
+
+def damaged_map(refusal):
+    def recipe(rng, turn):
+        sample = full_size_sample(rng) if turn % 50 == 49 else any_sample(rng, turn)
+        damages = [damage for damage in map_damages(sample.depot_map) if damage.refusal == refusal]
+        damage = damages[turn % len(damages)]
+        return damage.label, damage.apply(sample.depot_map)
+    return recipe
+
+
+def changed_map(rng, turn):
+    """A map with one byte changed, put in or left out; any outcome may follow."""
+    sample = any_sample(rng, turn)
+    map_bytes = map_to_bytes(sample.depot_map)
+    position = rng.randrange(len(map_bytes))
+    before, byte, after = map_bytes[:position], map_bytes[position], map_bytes[position + 1:]
+    new_bytes = [bytes([byte ^ 1 << rng.randrange(8)]), bytes([rng.randrange(256)]), b"",
+                 bytes([byte, rng.randrange(256)])][turn // 10 % 4]
+    return sample.label, before + new_bytes + after
+
+
+MAP_RECIPES = {
+    "good map": good_map,
+    "changed map": changed_map,
+    "refusal 2": damaged_map(2),
+    "refusal 3": damaged_map(3),
+    "refusal 4": damaged_map(4),
+    "refusal 5": damaged_map(5),
+    "refusal 6": damaged_map(6),
+}
+
+
+def stretch_leg(rng, sample):
+    """A leg from part of a stretch or from a walk; up to 150,001 decimetres, and so perhaps one too long."""
+    walk = sample.stretch if rng.random() < 0.6 else random_walk(rng, sample.depot_map, rng.randrange(1, 7))
+    start = rng.randrange(len(walk))
+    lines = walk[start:start + rng.randrange(1, 6)]
+    while len(lines) > 1 and list_length(sample.depot_map, lines) > LONGEST_LEG + 1:
+        lines = lines[:-1]
+    return describe_leg(sample.depot_map, lines, rng.random() < 0.5)
+
+
+def leg_as_it_is(rng, turn):
+    sample = any_sample(rng, turn)
+    return sample, stretch_leg(rng, sample)
+
+
+def leg_with_other_class(rng, turn):
+    sample = any_sample(rng, turn)
+    leg = stretch_leg(rng, sample)
+    classes = [max(0, leg.lowest_frc - 1), min(7, leg.lowest_frc + 1), 7]
+    return sample, replace(leg, lowest_frc=rng.choice(classes))
+
+
+def leg_with_other_distance(rng, turn):
+    sample = any_sample(rng, turn)
+    leg = stretch_leg(rng, sample)
+    distances = [max(0, leg.distance_byte - 1), min(255, leg.distance_byte + 1)]
+    return sample, replace(leg, distance_byte=rng.choice(distances))
+
+
+def leg_with_other_marks(rng, turn):
+    sample = any_sample(rng, turn)
+    leg = stretch_leg(rng, sample)
+    marks = replace(leg.first_marks, **rng.choice([{"sector": rng.randrange(32)}, {"fow": rng.randrange(8)},
+                                                   {"frc": rng.randrange(8)}]))
+    if leg.last_marks is not None and turn // 10 % 2:
+        return sample, replace(leg, last_marks=marks)
+    return sample, replace(leg, first_marks=marks)
+
+
+def leg_to_other_node(rng, turn):
+    """Any two nodes, the same one twice too, with the marks of some lines there."""
+    sample = any_sample(rng, turn)
+    leg = stretch_leg(rng, sample)
+    end_node = leg.start_node if turn // 10 % 2 else rng.randrange(len(sample.depot_map.nodes))
+    return sample, replace(leg, end_node=end_node, distance_byte=rng.choice([leg.distance_byte, 0, 1, 255]))
+
+
+def leg_on_full_map(rng, turn):
+    sample = full_size_sample(rng)
+    return sample, stretch_leg(rng, sample)
+
+
+LEG_RECIPES = {
+    "leg": leg_as_it_is,
+    "lowest class changed": leg_with_other_class,
+    "D changed": leg_with_other_distance,
+    "marks changed": leg_with_other_marks,
+    "end changed": leg_to_other_node,
+    "full size": leg_on_full_map,
+}
+
+
+def make_cases(kind, recipes, seed, count, make_case):
+    """Recipes in turn. The turn tells a recipe how often it has been used, so that it can vary its edges."""
+    names = list(recipes)
+    cases = []
+    for index in range(count):
+        turn, which = divmod(index, len(names))
+        name = names[which]
+        cases.append(make_case(name, *recipes[name](random_source(kind, seed, index), turn)))
+    return cases
+
+
+def map_cases(seed, count):
+    def make_case(name, detail, map_bytes):
+        return MapCase(f"{name}: {detail}", map_bytes, map_outcome(map_bytes))
+    return make_cases("map", MAP_RECIPES, seed, count, make_case)
+
+
+def leg_cases(seed, count):
+    def make_case(name, sample, leg):
+        readings = LegSearch(sample.depot_map).readings(leg)
+        label = f"{name}: {sample.label}"
+        return LegCase(label, sample.depot_map, map_to_bytes(sample.depot_map), leg, readings)
+    return make_cases("leg", LEG_RECIPES, seed, count, make_case)
+
+
+def read_cases(seed, count):
+    def make_case(name, detail, given):
+        return ReadCase(f"{name}: {detail}", given, read_outcome(given))
+    return make_cases("read", READ_RECIPES, seed, count, make_case)
+
+
+def write_cases(seed, count):
+    def make_case(name, detail, given):
+        return WriteCase(f"{name}: {detail}", given, write_outcome(given))
+    return make_cases("write", WRITE_RECIPES, seed, count, make_case)
+
+
+KINDS = {"map": map_cases, "leg": leg_cases, "read": read_cases, "write": write_cases}
+
+
+def main():
+    parser = argparse.ArgumentParser(description="Print cases, one a line, with their expected outcomes.")
+    parser.add_argument("kind", choices=KINDS)
+    parser.add_argument("count", type=int)
+    parser.add_argument("--seed", type=int, default=1)
+    arguments = parser.parse_args()
+    for case in KINDS[arguments.kind](arguments.seed, arguments.count):
+        print(" | ".join(case.row()))
+
+
+if __name__ == "__main__":
+    main()

@@ -1,0 +1,259 @@
+"""Ways to damage a good map or a good reference, each with the refusal that must follow from the table."""
+
+from dataclasses import dataclass, field
+
+from depot_map import (GREATEST_LATITUDE, GREATEST_LONGITUDE, LARGEST_NUMBER, LATITUDE_SHIFT, LONGITUDE_SHIFT,
+                       map_numbers, numbers_to_bytes, write_number)
+from fields import coordinate_code
+from legs import Marks, marks_arriving, marks_leaving
+from reader import point_nodes
+from reference import last_point_position, p_byte_positions, take_apart
+
+LINE_FIELDS = ("start node", "end node", "length", "FRC", "FOW", "bearing out", "bearing back")
+
+
+@dataclass(frozen=True)
+class MapDamage:
+    """Numbers of a map to be replaced (by a value, or by bytes in a wrong form), bytes cut off or added."""
+    refusal: int
+    label: str
+    changes: dict = field(default_factory=dict)
+    cut_bytes: int = 0
+    left_over: bytes = b""
+
+    def apply(self, depot_map):
+        numbers = map_numbers(depot_map)
+        for index, replacement in self.changes.items():
+            numbers[index] = replacement
+        written = numbers_to_bytes(numbers)
+        return written[:len(written) - self.cut_bytes] + self.left_over
+
+
+def longitude_index(node):
+    return 1 + 2 * node
+
+
+def latitude_index(node):
+    return 2 + 2 * node
+
+
+def line_count_index(depot_map):
+    return 1 + 2 * len(depot_map.nodes)
+
+
+def line_field_index(depot_map, line, line_field):
+    return line_count_index(depot_map) + 1 + 7 * line + LINE_FIELDS.index(line_field)
+
+
+def not_shortest(number):
+    """The number with a useless group of zero bits at its end."""
+    shortest = write_number(number)
+    return shortest[:-1] + bytes([shortest[-1] + 128, 0])
+
+
+def form_damages(depot_map):
+    """Refusal 2, at the first and at the last number."""
+    numbers = map_numbers(depot_map)
+    last = len(numbers) - 1
+    whole = len(numbers_to_bytes(numbers))
+    over = write_number(LARGEST_NUMBER + 1)
+    return [
+        MapDamage(2, "no bytes", cut_bytes=whole),
+        MapDamage(2, "ends after its first number", cut_bytes=whole - len(write_number(numbers[0]))),
+        MapDamage(2, "ends one byte early", cut_bytes=1),
+        MapDamage(2, "first number not shortest", {0: not_shortest(numbers[0])}),
+        MapDamage(2, "last number not shortest", {last: not_shortest(numbers[last])}),
+        MapDamage(2, "first number too large", {0: over}),
+        MapDamage(2, "last number too large", {last: over}),
+        MapDamage(2, "last number without an end", {last: b"\xff\xff\xff\xff\xff\xff"}),
+        MapDamage(2, "a zero byte left over", left_over=b"\x00"),
+        MapDamage(2, "left-over byte that is no number", left_over=b"\x80"),
+    ]
+
+
+def count_damages(depot_map):
+    index = line_count_index(depot_map)
+    return [MapDamage(3, f"{count} nodes", {0: count}) for count in (0, 1, 513, LARGEST_NUMBER)] + [
+        MapDamage(3, f"{count} lines", {index: count}) for count in (0, 1_025, LARGEST_NUMBER)]
+
+
+def coordinate_damages(depot_map):
+    damages = []
+    for place, node in (("first", 0), ("last", len(depot_map.nodes) - 1)):
+        for value in (GREATEST_LONGITUDE + LONGITUDE_SHIFT + 1, LARGEST_NUMBER):
+            damages.append(MapDamage(4, f"{place} longitude too large", {longitude_index(node): value}))
+        for value in (GREATEST_LATITUDE + LATITUDE_SHIFT + 1, LARGEST_NUMBER):
+            damages.append(MapDamage(4, f"{place} latitude too large", {latitude_index(node): value}))
+    return damages
+
+
+def line_damages(depot_map):
+    node_count = len(depot_map.nodes)
+    wrong_values = {"start node": (node_count,), "end node": (node_count,), "length": (0, 150_001),
+                    "FRC": (8,), "FOW": (8,), "bearing out": (360,), "bearing back": (360,)}
+    damages = []
+    for place, line in (("first", 0), ("last", len(depot_map.lines) - 1)):
+        for name in LINE_FIELDS:
+            index = line_field_index(depot_map, line, name)
+            for value in wrong_values[name] + (LARGEST_NUMBER,):
+                damages.append(MapDamage(5, f"{name} of the {place} line {value}", {index: value}))
+        equal_end = {line_field_index(depot_map, line, "end node"): depot_map.lines[line].start_node}
+        damages.append(MapDamage(5, f"equal ends of the {place} line", equal_end))
+    return damages
+
+
+def neighbour_with_same_code(coordinate, shift):
+    """Another coordinate with the same code, as a map's number. Each code has at least two coordinates."""
+    below = coordinate - 1
+    if below >= -shift and coordinate_code(below) == coordinate_code(coordinate):
+        return below + shift
+    return coordinate + 1 + shift
+
+
+def same_code_damages(depot_map):
+    """Refusal 6, between the first two, the last two and the first and the last node."""
+    last = len(depot_map.nodes) - 1
+    damages = []
+    for kept, changed in ((0, 1), (last - 1, last), (0, last)):
+        node = depot_map.nodes[kept]
+        same = {longitude_index(changed): node.longitude + LONGITUDE_SHIFT,
+                latitude_index(changed): node.latitude + LATITUDE_SHIFT}
+        near = dict(same)
+        near[longitude_index(changed)] = neighbour_with_same_code(node.longitude, LONGITUDE_SHIFT)
+        near_latitude = dict(same)
+        near_latitude[latitude_index(changed)] = neighbour_with_same_code(node.latitude, LATITUDE_SHIFT)
+        where = f"nodes {kept} and {changed} of {last + 1}"
+        damages += [MapDamage(6, f"{where} equal", same), MapDamage(6, f"{where} with the same codes", near),
+                    MapDamage(6, f"{where} with the same codes", near_latitude)]
+    return damages
+
+
+def two_map_damages(depot_map):
+    """Maps with two faults: the first faulty number decides, left-over bytes come after, refusal 6 last."""
+    numbers = map_numbers(depot_map)
+    first_end = line_field_index(depot_map, 0, "end node")
+    first_length = line_field_index(depot_map, 0, "length")
+    last = len(numbers) - 1
+    equal_ends = depot_map.lines[0].start_node
+    same_nodes = same_code_damages(depot_map)[0].changes
+    return [
+        MapDamage(2, "wrong form before a wrong coordinate",
+                  {1: not_shortest(numbers[1]), 2: LARGEST_NUMBER}),
+        MapDamage(4, "wrong coordinate before a wrong form",
+                  {1: LARGEST_NUMBER, 2: not_shortest(numbers[2])}),
+        MapDamage(3, "wrong count before a wrong coordinate", {0: 513, 1: LARGEST_NUMBER}),
+        MapDamage(4, "wrong coordinate before a wrong count",
+                  {2: LARGEST_NUMBER, line_count_index(depot_map): 0}),
+        MapDamage(5, "equal ends before a wrong form",
+                  {first_end: equal_ends, first_length: not_shortest(numbers[first_length])}),
+        MapDamage(2, "end node in a wrong form with equal ends", {first_end: not_shortest(equal_ends)}),
+        MapDamage(2, "count in a wrong form and outside its range", {0: b"\x80\x00"}),
+        MapDamage(5, "wrong line field and a byte left over", {last: 360}, left_over=b"\x00"),
+        MapDamage(3, "no lines and bytes left over", {line_count_index(depot_map): 0}, left_over=b"\x00"),
+        MapDamage(2, "equal nodes and a byte left over", same_nodes, left_over=b"\x00"),
+        MapDamage(5, "equal nodes and a wrong line field", {**same_nodes, last: 360}),
+    ]
+
+
+def map_damages(depot_map):
+    """All damages that are known for a map, refusals 2 to 6."""
+    return (form_damages(depot_map) + count_damages(depot_map) + coordinate_damages(depot_map)
+            + line_damages(depot_map) + same_code_damages(depot_map) + two_map_damages(depot_map))
+
+
+@dataclass(frozen=True)
+class ReferenceDamage:
+    """Changed bytes of a good reference, and the refusal with its point or leg that follows."""
+    refusal: int
+    label: str
+    reference: bytes
+    place: int = None
+
+
+def replaced(data, position, new_bytes):
+    return data[:position] + new_bytes + data[position + len(new_bytes):]
+
+
+def length_damages(reference):
+    shortest = reference[:16]
+    return [ReferenceDamage(12, f"{length} bytes", (reference * 30 + bytes(500))[:length])
+            for length in (0, 15, 460, 461, 466)] + [
+        ReferenceDamage(12, f"{length} bytes", (shortest + bytes(500))[:length])
+        for length in (19, 22, 26, 29, 453, 456)]
+
+
+def form_byte_damages(reference):
+    """Refusals 13 to 15."""
+    p_positions = p_byte_positions(len(reference))
+    r_position = last_point_position(len(reference)) + 5
+    damages = [ReferenceDamage(13, f"status byte {status:02X}", replaced(reference, 0, bytes([status])))
+               for status in (0x00, 0x0A, 0x0C, 0x8B, 0x2B)]
+    for place, position in (("first", p_positions[0]), ("last", p_positions[-1])):
+        for bit in (6, 7):
+            changed = replaced(reference, position, bytes([reference[position] | 1 << bit]))
+            damages.append(ReferenceDamage(14, f"bit {bit} of the {place} P", changed))
+    r_byte = reference[r_position]
+    damages.append(ReferenceDamage(14, "bit 7 of R", replaced(reference, r_position, bytes([r_byte | 0x80]))))
+    for name, bit in (("positive", 0x40), ("negative", 0x20)):
+        label = f"{name} flag turned over"
+        damages.append(ReferenceDamage(15, label, replaced(reference, r_position, bytes([r_byte ^ bit]))))
+    return damages
+
+
+def absent_pair(taken, width):
+    """A pair of signed numbers of a width in bytes that is not among the taken ones."""
+    value = 0
+    while (value, value) in taken:
+        value += 1
+    return value.to_bytes(width, "big", signed=True) * 2
+
+
+def point_damages(depot_map, reference):
+    """Refusal 16, at the first, the second and the last point."""
+    nodes = point_nodes(depot_map, take_apart(reference))
+    codes = {(coordinate_code(node.longitude), coordinate_code(node.latitude)) for node in depot_map.nodes}
+    damages = [ReferenceDamage(16, "first point", replaced(reference, 1, absent_pair(codes, 3)), 0)]
+    for place, point, position in (("second", 1, 10),
+                                   ("last", len(nodes) - 1, last_point_position(len(reference)))):
+        previous = depot_map.nodes[nodes[point - 1]]
+        taken = {(node.longitude - previous.longitude, node.latitude - previous.latitude)
+                 for node in depot_map.nodes}
+        changed = replaced(reference, position, absent_pair(taken, 2))
+        damages.append(ReferenceDamage(16, f"{place} point", changed, point))
+    return damages
+
+
+def absent_sector(taken_marks, frc, fow):
+    """A sector that no line among the taken marks has with this FRC and FOW, or None."""
+    free = [sector for sector in range(32) if Marks(frc, fow, sector) not in taken_marks]
+    return free[0] if free else None
+
+
+def leg_damages(depot_map, reference):
+    """Refusal 17, at the first and the last leg: a sector that no line there has."""
+    parts = take_apart(reference)
+    nodes = point_nodes(depot_map, parts)
+    last_leg = len(parts.points) - 2
+    p_positions = p_byte_positions(len(reference))
+    damages = []
+    for place, leg in (("first", 0), ("last", last_leg)):
+        point = parts.points[leg]
+        leaving = {marks_leaving(line) for line in depot_map.lines if line.start_node == nodes[leg]}
+        sector = absent_sector(leaving, point.frc, point.fow)
+        if sector is not None:
+            changed = replaced(reference, p_positions[leg] + 1, bytes([point.lowest_frc * 32 + sector]))
+            damages.append(ReferenceDamage(17, f"no first line on the {place} leg", changed, leg))
+    end = parts.points[-1]
+    arriving = {marks_arriving(line) for line in depot_map.lines if line.end_node == nodes[-1]}
+    sector = absent_sector(arriving, end.frc, end.fow)
+    if sector is not None:
+        r_position = p_positions[-1] + 1
+        changed = replaced(reference, r_position, bytes([reference[r_position] & 0xE0 | sector]))
+        damages.append(ReferenceDamage(17, "no last line on the last leg", changed, last_leg))
+    return damages
+
+
+def reference_damages(depot_map, reference):
+    """All damages that are known for a reference that can be read, refusals 12 to 17."""
+    return (length_damages(reference) + form_byte_damages(reference) + point_damages(depot_map, reference)
+            + leg_damages(depot_map, reference))

@@ -1,0 +1,139 @@
+"""The depot map: its bytes and refusals 2 to 6 (scope paper, "The depot map", "Refused, by place")."""
+
+from dataclasses import dataclass
+
+from fields import LONGEST_LEG, code_pair
+from outcome import RefusedCall
+
+LARGEST_NUMBER = 4_294_967_295
+LONGITUDE_SHIFT = 18_000_000
+LATITUDE_SHIFT = 9_000_000
+GREATEST_LONGITUDE = 17_999_998
+GREATEST_LATITUDE = 9_000_000
+FEWEST_NODES, MOST_NODES = 2, 512
+FEWEST_LINES, MOST_LINES = 1, 1_024
+
+
+@dataclass(frozen=True)
+class Node:
+    """Coordinates in hundred-thousandths of a degree."""
+    longitude: int
+    latitude: int
+
+
+@dataclass(frozen=True)
+class Line:
+    """A line runs one way only, from its start node to its end node. The length is in decimetres."""
+    start_node: int
+    end_node: int
+    length: int
+    frc: int
+    fow: int
+    bearing_out: int
+    bearing_back: int
+
+
+@dataclass(frozen=True)
+class DepotMap:
+    nodes: tuple
+    lines: tuple
+
+
+def write_number(number):
+    """The shortest form: groups of seven bits, lowest first, top bit set when another byte follows."""
+    written = bytearray()
+    while number >= 128:
+        written.append(number % 128 + 128)
+        number //= 128
+    written.append(number)
+    return bytes(written)
+
+
+def read_number(data, position):
+    """The number at a position and the position after it. Any fault in its form is refusal 2."""
+    number, scale, first_position = 0, 1, position
+    while True:
+        if position >= len(data):
+            raise RefusedCall(2)
+        byte = data[position]
+        number += byte % 128 * scale
+        scale *= 128
+        position += 1
+        if byte < 128:
+            break
+    shortest = byte != 0 or position == first_position + 1
+    if not shortest or number > LARGEST_NUMBER:
+        raise RefusedCall(2)
+    return number, position
+
+
+def map_numbers(depot_map):
+    """The numbers of a map in byte order. Values are not checked, so that wrong maps can be written too."""
+    numbers = [len(depot_map.nodes)]
+    for node in depot_map.nodes:
+        numbers += [node.longitude + LONGITUDE_SHIFT, node.latitude + LATITUDE_SHIFT]
+    numbers.append(len(depot_map.lines))
+    for line in depot_map.lines:
+        numbers += [line.start_node, line.end_node, line.length, line.frc, line.fow,
+                    line.bearing_out, line.bearing_back]
+    return numbers
+
+
+def numbers_to_bytes(numbers):
+    """Bytes of a list of numbers. An entry may be bytes already, for a number in a wrong form."""
+    return b"".join(entry if isinstance(entry, bytes) else write_number(entry) for entry in numbers)
+
+
+def map_to_bytes(depot_map):
+    return numbers_to_bytes(map_numbers(depot_map))
+
+
+class _NumbersInOrder:
+    """Takes numbers from map bytes one after another; each is judged before the next is looked at.
+
+    So the first faulty number decides. A number with a wrong form is refusal 2 whatever its value would be,
+    since 2 stands above 3 to 5 in the table.
+    """
+
+    def __init__(self, data):
+        self.data = data
+        self.position = 0
+
+    def take(self, least, greatest, refusal):
+        number, self.position = read_number(self.data, self.position)
+        if not least <= number <= greatest:
+            raise RefusedCall(refusal)
+        return number
+
+
+def _take_node(numbers):
+    longitude = numbers.take(0, GREATEST_LONGITUDE + LONGITUDE_SHIFT, 4) - LONGITUDE_SHIFT
+    latitude = numbers.take(0, GREATEST_LATITUDE + LATITUDE_SHIFT, 4) - LATITUDE_SHIFT
+    return Node(longitude, latitude)
+
+
+def _take_line(numbers, node_count):
+    start_node = numbers.take(0, node_count - 1, 5)
+    end_node = numbers.take(0, node_count - 1, 5)
+    if end_node == start_node:
+        raise RefusedCall(5)
+    length = numbers.take(1, LONGEST_LEG, 5)
+    frc = numbers.take(0, 7, 5)
+    fow = numbers.take(0, 7, 5)
+    bearing_out = numbers.take(0, 359, 5)
+    bearing_back = numbers.take(0, 359, 5)
+    return Line(start_node, end_node, length, frc, fow, bearing_out, bearing_back)
+
+
+def read_map(data):
+    """The map, or RefusedCall with 2 to 6."""
+    numbers = _NumbersInOrder(data)
+    node_count = numbers.take(FEWEST_NODES, MOST_NODES, 3)
+    nodes = tuple(_take_node(numbers) for _ in range(node_count))
+    line_count = numbers.take(FEWEST_LINES, MOST_LINES, 3)
+    lines = tuple(_take_line(numbers, node_count) for _ in range(line_count))
+    if numbers.position != len(data):
+        raise RefusedCall(2)
+    if len({code_pair(node) for node in nodes}) < node_count:
+        raise RefusedCall(6)
+    return DepotMap(nodes, lines)

@@ -1,0 +1,286 @@
+"""Inputs for read cases. A recipe takes a random source and a turn, and gives a detail and the input.
+
+A recipe whose name starts with "refusal N" must come out as that refusal, by the scope paper's table.
+"""
+
+from dataclasses import dataclass, replace
+
+from damages import map_damages, reference_damages, replaced
+from depot_map import map_to_bytes, read_map
+from fields import differences_fit, offset_span_by_trying
+from legs import list_length
+from reader import LEAST_WORK_LENGTH, read
+from reference import last_point_position, p_byte_positions, put_together
+from sample_maps import SMALL_SAMPLES, MapBuilder, chain_of_ties, full_size_sample, random_walk
+from write_recipes import accepted_input, any_sample, until_found, write_outcome
+from writer import reference_of_legs
+
+AMPLE_LINES = 1_024
+
+
+@dataclass(frozen=True)
+class ReadInput:
+    map_bytes: bytes
+    reference: bytes
+    work_length: int = LEAST_WORK_LENGTH
+    line_room: int = AMPLE_LINES
+
+
+def read_outcome(given):
+    return read(given.map_bytes, given.reference, given.work_length, given.line_room)
+
+
+def any_turn(rng):
+    """A turn by chance, for recipes that use their own turn for another purpose than the kind of sample."""
+    return rng.randrange(len(SMALL_SAMPLES))
+
+
+def written_input(rng, turn):
+    sample, given = accepted_input(rng, turn)
+    return sample.label, ReadInput(given.map_bytes, write_outcome(given).reference)
+
+
+def cut_into_legs(rng, walk, most_lines):
+    legs = []
+    while walk:
+        count = rng.randrange(1, most_lines + 1)
+        legs.append(walk[:count])
+        walk = walk[count:]
+    return legs
+
+
+def legs_can_be_written(depot_map, legs):
+    """Whether the differences fit 16 bits and D fits a byte. A leg may still be over 150,000."""
+    return all(differences_fit(depot_map.nodes[depot_map.lines[lines[0]].start_node],
+                               depot_map.nodes[depot_map.lines[lines[-1]].end_node])
+               and list_length(depot_map, lines) < 256 * 586 for lines in legs)
+
+
+def bytes_of_legs(depot_map, legs, pos=0, neg=0):
+    return put_together(reference_of_legs(depot_map, legs, pos, neg))
+
+
+def composed_from(rng, sample):
+    """A reference made from a walk that is cut into legs by chance, as a writer need not cut it, or None."""
+    walk = sample.stretch if rng.random() < 0.5 else random_walk(rng, sample.depot_map, rng.randrange(1, 12))
+    legs = cut_into_legs(rng, walk, rng.choice([1, 3, 6, 64]))
+    if not legs_can_be_written(sample.depot_map, legs):
+        return None
+    pos = rng.choice([0, rng.randrange(list_length(sample.depot_map, legs[0]))])
+    neg = rng.choice([0, rng.randrange(list_length(sample.depot_map, legs[-1]))])
+    return ReadInput(map_to_bytes(sample.depot_map), bytes_of_legs(sample.depot_map, legs, pos, neg))
+
+
+def composed_on(make_sample):
+    def recipe(rng, turn):
+        def attempt():
+            sample = make_sample(rng, turn)
+            given = composed_from(rng, sample)
+            return None if given is None else (sample.label, given)
+        return until_found(attempt)
+    return recipe
+
+
+composed_legs = composed_on(any_sample)
+full_size = composed_on(lambda rng, turn: full_size_sample(rng))
+
+
+def changed_byte(rng, turn):
+    """Any byte of a reference changed in one bit or by one."""
+    label, given = (written_input, composed_legs)[turn % 2](rng, any_turn(rng))
+    position = rng.randrange(len(given.reference))
+    byte = given.reference[position]
+    one_bit = byte ^ 1 << rng.randrange(8)
+    changed = rng.choice([one_bit, (byte + 1) % 256, (byte - 1) % 256, rng.randrange(256)])
+    return label, replace(given, reference=replaced(given.reference, position, bytes([changed])))
+
+
+def changed_leg_field(rng, turn):
+    """D or the lowest class of a leg changed by one."""
+    label, given = composed_legs(rng, turn)
+    q_position = rng.choice(p_byte_positions(len(given.reference))[:-1]) + 1
+    lowest_class, distance = (q_position, 32), (q_position + 1, 1)
+    position, step = rng.choice([lowest_class, distance])
+    step *= rng.choice([1, -1])
+    changed = bytes([(given.reference[position] + step) % 256])
+    return label, replace(given, reference=replaced(given.reference, position, changed))
+
+
+def changed_offset_byte(rng, turn):
+    """Offset bytes from 0 to 255 on whatever leg there is."""
+    label, given = composed_legs(rng, turn)
+    end = last_point_position(len(given.reference)) + 6
+    flags = rng.choice([0x40, 0x20, 0x60])
+    offset_bytes = bytes(rng.choice([0, 1, 127, 128, 254, 255]) for _ in range(bin(flags).count("1")))
+    r_byte = bytes([given.reference[end - 1] & 0x1F | flags])
+    return label, replace(given, reference=given.reference[:end - 1] + r_byte + offset_bytes)
+
+
+def lines_exactly_enough(rng, turn):
+    label, given = written_input(rng, turn)
+    return label, replace(given, line_room=len(read_outcome(given).lines))
+
+
+def lines_too_few(rng, turn):
+    label, given = written_input(rng, turn)
+    room = len(read_outcome(given).lines) - 1
+    return label, replace(given, line_room=rng.choice([room, room, 0]))
+
+
+def work_area_exactly_enough(rng, turn):
+    label, given = written_input(rng, turn)
+    return label, replace(given, work_length=LEAST_WORK_LENGTH + turn % 2)
+
+
+def work_area_too_short(rng, turn):
+    """Refusal 1 stands above everything else, so that the rest may be wrong as well."""
+    label, given = written_input(rng, turn)
+    others = [given, replace(given, map_bytes=b""), replace(given, reference=b""),
+              replace(given, line_room=0)]
+    work_length = LEAST_WORK_LENGTH - 1 if turn % 2 == 0 else 0
+    return label, replace(others[turn % 4], work_length=work_length)
+
+
+def damaged_map(refusal):
+    def recipe(rng, turn):
+        _, given = written_input(rng, turn)
+        depot_map = read_map(given.map_bytes)
+        damages = [damage for damage in map_damages(depot_map) if damage.refusal == refusal]
+        damage = damages[turn % len(damages)]
+        # The reference is wrong as well every other time; the map's refusal stands above.
+        reference = given.reference if turn % 2 else b""
+        return damage.label, ReadInput(damage.apply(depot_map), reference)
+    return recipe
+
+
+def damaged_reference(refusal):
+    def recipe(rng, turn):
+        _, given = written_input(rng, any_turn(rng))
+        all_damages = reference_damages(read_map(given.map_bytes), given.reference)
+        damages = [damage for damage in all_damages if damage.refusal == refusal]
+        damage = damages[turn % len(damages)]
+        # The line buffer is too short as well every other time; refusal 20 stands below all others.
+        return damage.label, replace(given, reference=damage.reference, line_room=AMPLE_LINES * (turn % 2))
+    return recipe
+
+
+def two_faults(rng, turn):
+    """Two damages of different refusals at once. They change different bits, so that both can be put in."""
+    _, given = written_input(rng, any_turn(rng))
+    damages = [damage for damage in reference_damages(read_map(given.map_bytes), given.reference)
+               if damage.refusal != 12]
+    first = rng.choice(damages)
+    second = rng.choice([damage for damage in damages if damage.refusal != first.refusal])
+    both = bytes(old ^ one ^ other for old, one, other
+                 in zip(given.reference, first.reference, second.reference))
+    if turn % 6 == 0:
+        return f"12 and {first.refusal}", replace(given, reference=first.reference[:15])
+    return f"{first.refusal} and {second.refusal}", replace(given, reference=both)
+
+
+def longest_reference(rng, turn):
+    """459 bytes: 64 legs and two offsets. Ties on legs that are asked for make it a refusal 18."""
+    tied = [(), (0,), (63,), (0, 63)][turn % 4]
+    depot_map, legs = chain_of_ties(64, tied)
+    reference = bytes_of_legs(depot_map, legs, rng.randrange(1, 300), rng.randrange(1, 300))
+    return f"tied legs {list(tied)}", ReadInput(map_to_bytes(depot_map), reference)
+
+
+def shortest_reference(rng, turn):
+    """16 bytes: one leg, no offsets."""
+    depot_map, legs = chain_of_ties(1, (0,) if turn % 2 else ())
+    return "tie" if turn % 2 else "no tie", ReadInput(map_to_bytes(depot_map), bytes_of_legs(depot_map, legs))
+
+
+def tied_leg(rng, turn):
+    """Several readings on the first, the last or a middle leg; a later leg without any does not count."""
+    leg_count = rng.randrange(2, 8)
+    tied = [0, leg_count - 1, rng.randrange(leg_count)][turn % 3]
+    depot_map, legs = chain_of_ties(leg_count, (tied,))
+    reference = bytes_of_legs(depot_map, legs)
+    if turn % 2 and tied < leg_count - 1:
+        d_position = p_byte_positions(len(reference))[tied + 1] + 2
+        reference = replaced(reference, d_position, b"\xff")
+    return f"leg {tied} of {leg_count}", ReadInput(map_to_bytes(depot_map), reference)
+
+
+def leg_without_reading(rng, turn):
+    """No reading because of D on the first, the last or a middle leg; a later tie does not count."""
+    leg_count = rng.randrange(2, 8)
+    wrong = [0, leg_count - 1, rng.randrange(leg_count)][turn % 3]
+    depot_map, legs = chain_of_ties(leg_count, range(wrong, leg_count))
+    reference = bytes_of_legs(depot_map, legs)
+    d_position = p_byte_positions(len(reference))[wrong] + 2
+    return (f"leg {wrong} of {leg_count}",
+            ReadInput(map_to_bytes(depot_map), replaced(reference, d_position, b"\x01")))
+
+
+def row_of_lines(lengths):
+    builder = MapBuilder()
+    nodes = builder.row_of_nodes(len(lengths) + 1)
+    for start, end, length in zip(nodes, nodes[1:], lengths):
+        builder.line(start, end, length)
+    return builder.build()
+
+
+def offset_without_span(rng, turn):
+    """A flagged byte that no whole offset gives on its own leg, though on the other leg one would."""
+    length = rng.choice([1, 2, 100, rng.randrange(1, 256)])
+    free = [byte for byte in range(256) if offset_span_by_trying(byte, length) is None]
+    byte = rng.choice([free[0], free[-1], rng.choice(free)])
+    lengths, flag = (([length, 3_000], 0x40), ([3_000, length], 0x20))[turn % 2]
+    depot_map = row_of_lines(lengths)
+    good = bytes_of_legs(depot_map, [(0,), (1,)])
+    reference = good[:-1] + bytes([good[-1] | flag, byte])
+    given = ReadInput(map_to_bytes(depot_map), reference, line_room=turn % 3)
+    return ("positive", "negative")[turn % 2], given
+
+
+def offsets_reach_total(rng, turn):
+    """One leg with both offsets; up to 256 decimetres a byte belongs to one offset at most."""
+    length = rng.choice([2, 3, 100, 256])
+    pos = rng.choice([1, length - 1, rng.randrange(1, length)])
+    depot_map = row_of_lines([length])
+    reference = bytes_of_legs(depot_map, [(0,)], pos, length - pos)
+    return f"length {length}", ReadInput(map_to_bytes(depot_map), reference, line_room=turn % 2)
+
+
+def offsets_next_to_total(rng, turn):
+    length = rng.choice([3, 100, 256, 1_000, 150_000])
+    pos = rng.choice([1, length - 2, rng.randrange(1, length - 1)])
+    depot_map = row_of_lines([length])
+    return f"length {length}", ReadInput(map_to_bytes(depot_map),
+                                         bytes_of_legs(depot_map, [(0,)], pos, length - 1 - pos))
+
+
+READ_RECIPES = {
+    "written": written_input,
+    "composed legs": composed_legs,
+    "changed byte": changed_byte,
+    "D or lowest class changed": changed_leg_field,
+    "offset bytes changed": changed_offset_byte,
+    "offsets one below the total": offsets_next_to_total,
+    "line buffer exactly long enough": lines_exactly_enough,
+    "work area long enough": work_area_exactly_enough,
+    "shortest reference": shortest_reference,
+    "longest reference": longest_reference,
+    "full size": full_size,
+    "two faults": two_faults,
+    "refusal 1": work_area_too_short,
+    "refusal 2": damaged_map(2),
+    "refusal 3": damaged_map(3),
+    "refusal 4": damaged_map(4),
+    "refusal 5": damaged_map(5),
+    "refusal 6": damaged_map(6),
+    "refusal 12": damaged_reference(12),
+    "refusal 13": damaged_reference(13),
+    "refusal 14": damaged_reference(14),
+    "refusal 15": damaged_reference(15),
+    "refusal 16": damaged_reference(16),
+    "refusal 17, by marks": damaged_reference(17),
+    "refusal 17, by D": leg_without_reading,
+    "refusal 18": tied_leg,
+    "refusal 19, no offset": offset_without_span,
+    "refusal 19, total reached": offsets_reach_total,
+    "refusal 20": lines_too_few,
+}

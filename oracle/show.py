@@ -1,0 +1,22 @@
+"""Reads map.bin and ref.bin in the folder it is run in and prints the outcome ("The tie at the ridge")."""
+
+from pathlib import Path
+
+from outcome import outcome_text
+from reader import LEAST_WORK_LENGTH, read
+
+LINE_ROOM = 1_024
+
+
+def contents(path):
+    """A missing file counts as empty."""
+    return path.read_bytes() if path.exists() else b""
+
+
+def shown(folder):
+    map_bytes, reference = contents(folder / "map.bin"), contents(folder / "ref.bin")
+    return outcome_text(read(map_bytes, reference, LEAST_WORK_LENGTH, LINE_ROOM))
+
+
+if __name__ == "__main__":
+    print(shown(Path(".")))

@@ -1,0 +1,170 @@
+"""The case generator: the same for the same seed, and every aim and every edge occurs."""
+
+import os
+import subprocess
+import sys
+import unittest
+from pathlib import Path
+
+import cases
+from damages import LINE_FIELDS
+from legs import Readings, list_length
+from outcome import Refused, ReferenceWritten, StretchRead
+from reference import take_apart
+
+# Enough for each recipe to go through its edges at least once.
+MAP_CASES, LEG_CASES, READ_CASES, WRITE_CASES = 420, 420, 700, 500
+
+
+def refusal_in_label(label):
+    """The refusal that a label promises, or None."""
+    name = label.split(":")[0]
+    return int(name.split()[1].rstrip(",")) if name.startswith("refusal ") else None
+
+
+class Determinism(unittest.TestCase):
+    def test_same_seed_same_cases(self):
+        for make in cases.KINDS.values():
+            self.assertEqual(make(5, 40), make(5, 40))
+            self.assertNotEqual(make(5, 40), make(6, 40))
+
+    def test_cases_do_not_depend_on_how_many_are_asked_for(self):
+        for make in cases.KINDS.values():
+            self.assertEqual(make(7, 12), make(7, 30)[:12])
+
+    def test_printed_lines_are_the_same_in_every_process(self):
+        for kind in cases.KINDS:
+            printed = [subprocess.run(
+                [sys.executable, "-B", str(Path(cases.__file__)), kind, "30", "--seed", "3"], check=True,
+                capture_output=True, text=True, env={**os.environ, "PYTHONHASHSEED": hash_seed}).stdout
+                for hash_seed in ("1", "2")]
+            self.assertEqual(printed[0], printed[1])
+            self.assertEqual(len(printed[0].splitlines()), 30)
+            self.assertEqual(printed[0].splitlines()[3], " | ".join(cases.KINDS[kind](3, 30)[3].row()))
+
+
+class Coverage(unittest.TestCase):
+    @classmethod
+    def setUpClass(cls):
+        cls.map_cases = cases.map_cases(1, MAP_CASES)
+        cls.leg_cases = cases.leg_cases(1, LEG_CASES)
+        cls.read_cases = cases.read_cases(1, READ_CASES)
+        cls.write_cases = cases.write_cases(1, WRITE_CASES)
+
+    def check_refusals(self, made, numbers):
+        given = {case.expected.number for case in made if isinstance(case.expected, Refused)}
+        self.assertEqual(given, set(numbers))
+
+    def check_labels(self, made, recipes):
+        self.assertEqual({case.label.split(":")[0] for case in made}, set(recipes))
+
+    def test_every_refusal_occurs(self):
+        self.check_refusals(self.map_cases, range(2, 7))
+        self.check_refusals(self.write_cases, range(1, 12))
+        self.check_refusals(self.read_cases, [*range(1, 7), *range(12, 21)])
+
+    def test_every_number_of_readings_occurs(self):
+        self.assertEqual({case.expected.how_many for case in self.leg_cases}, {"none", "one", "several"})
+
+    def test_every_label_occurs(self):
+        self.check_labels(self.map_cases, cases.MAP_RECIPES)
+        self.check_labels(self.leg_cases, cases.LEG_RECIPES)
+        self.check_labels(self.write_cases, cases.WRITE_RECIPES)
+        self.check_labels(self.read_cases, cases.READ_RECIPES)
+
+    def test_a_label_that_promises_a_refusal_gets_it(self):
+        for case in self.map_cases + self.read_cases + self.write_cases:
+            promised = refusal_in_label(case.label)
+            if promised is not None:
+                self.assertIsInstance(case.expected, Refused, case.label)
+                self.assertEqual(case.expected.number, promised, case.label)
+
+    def test_some_are_accepted(self):
+        self.assertGreater(sum(isinstance(case.expected, StretchRead) for case in self.read_cases), 150)
+        self.assertGreater(sum(isinstance(case.expected, ReferenceWritten) for case in self.write_cases), 120)
+
+    def test_line_fields_are_wrong_in_the_first_and_in_the_last_line(self):
+        labels = {case.label for case in self.map_cases}
+        for place in ("first", "last"):
+            for name in LINE_FIELDS:
+                aim = f"refusal 5: {name} of the {place} line"
+                self.assertTrue(any(label.startswith(aim) for label in labels), aim)
+            self.assertIn(f"refusal 5: equal ends of the {place} line", labels)
+
+    def test_refusals_with_a_place_occur_at_the_first_and_at_the_last(self):
+        # A reference of n points has the points 0 to n - 1 and the legs 0 to n - 2.
+        for number, last_from_end in ((16, 1), (17, 2), (18, 2)):
+            refused = [case for case in self.read_cases
+                       if isinstance(case.expected, Refused) and case.expected.number == number]
+            self.assertIn(0, [case.expected.place for case in refused])
+            from_end = [len(take_apart(case.given.reference).points) - case.expected.place
+                        for case in refused if case.expected.place > 0]
+            self.assertIn(last_from_end, from_end)
+            self.assertGreater(len(set(from_end)), 1)
+
+    def test_of_two_faults_the_upper_row_is_given(self):
+        seen = set()
+        for case in self.read_cases:
+            name, detail = case.label.split(": ", 1)
+            if name == "two faults":
+                first, second = detail.split(" and ")
+                self.assertEqual(case.expected.number, min(int(first), int(second)), case.label)
+                seen.add(detail)
+        self.assertGreater(len(seen), 8)
+
+    def test_edges_of_buffers_and_work_areas(self):
+        for made in (self.read_cases, self.write_cases):
+            self.assertLessEqual({12_287, 12_288}, {case.given.work_length for case in made})
+        spare_lines = {case.given.line_room - len(case.expected.lines) for case in self.read_cases
+                       if isinstance(case.expected, StretchRead)}
+        self.assertIn(0, spare_lines)
+        spare_bytes = {case.given.byte_room - len(case.expected.reference) for case in self.write_cases
+                       if isinstance(case.expected, ReferenceWritten)}
+        self.assertIn(0, spare_bytes)
+
+    def test_edges_of_reference_lengths(self):
+        read_lengths = {len(case.given.reference) for case in self.read_cases
+                        if isinstance(case.expected, StretchRead)}
+        written_lengths = {len(case.expected.reference) for case in self.write_cases
+                           if isinstance(case.expected, ReferenceWritten)}
+        for lengths in (read_lengths, written_lengths):
+            self.assertLessEqual({16, 17, 18, 459}, lengths)
+
+    def test_edges_of_differences(self):
+        differences = set()
+        for case in self.write_cases:
+            if isinstance(case.expected, ReferenceWritten):
+                for point in take_apart(case.expected.reference).points[1:]:
+                    differences |= {point.longitude, point.latitude}
+        self.assertLessEqual({-32_768, 32_767, 0}, differences)
+
+    def test_edges_of_leg_lengths(self):
+        lengths = {list_length(case.depot_map, case.expected.lines) for case in self.leg_cases
+                   if case.expected.how_many == "one"}
+        self.assertLessEqual({149_999, 150_000, 585, 586, 587}, lengths)
+        self.assertLessEqual(max(lengths), 150_000)
+
+    def test_loops(self):
+        to_itself = [case for case in self.leg_cases if case.leg.start_node == case.leg.end_node]
+        self.assertIn("one", {case.expected.how_many for case in to_itself})
+        twice = [case for case in self.write_cases if len(set(case.given.lines)) < len(case.given.lines)
+                 and isinstance(case.expected, ReferenceWritten)]
+        self.assertGreater(len(twice), 5)
+
+    def test_sizes_of_maps(self):
+        sizes = {(len(case.depot_map.nodes), len(case.depot_map.lines)) for case in self.leg_cases}
+        self.assertLessEqual({(2, 1), (512, 1_024), (2, 1_024)}, sizes)
+
+    def test_offsets_at_line_ends_and_at_their_greatest(self):
+        offsets = {offset for case in self.write_cases for offset in (case.given.pos, case.given.neg)}
+        self.assertIn(4_294_967_295, offsets)
+        self.assertIn(0, offsets)
+
+    def test_readings_are_one_of_three(self):
+        for case in self.leg_cases:
+            self.assertIsInstance(case.expected, Readings)
+            self.assertEqual(case.expected.how_many == "one", case.expected.lines is not None)
+
+
+if __name__ == "__main__":
+    unittest.main()

@@ -1,0 +1,110 @@
+"""What the writer accepts, the reader gives back: the lines left, and spans that hold the offsets left."""
+
+import random
+import unittest
+
+from depot_map import map_to_bytes
+from fields import offset_span_by_trying
+from legs import list_length, readings_by_enumeration
+from outcome import ReferenceWritten, StretchRead
+from reader import legs_of, point_nodes, read
+from reference import take_apart
+from sample_maps import SMALL_SAMPLES, dense_sample, full_sample, random_walk
+from test_legs import random_tiny_map
+from test_scope_paper import WORK, row_map
+from write_recipes import WriteInput, edge_offsets, write_outcome
+from writer import choose_points, skip_lines, write
+
+
+class RoundTrips(unittest.TestCase):
+    def round_trip(self, depot_map, lines, pos, neg):
+        """True if the writer accepts; then what is read must be what is left."""
+        given = WriteInput(map_to_bytes(depot_map), lines, pos, neg)
+        written = write_outcome(given)
+        if not isinstance(written, ReferenceWritten):
+            return False
+        remaining, pos_left, neg_left = skip_lines(depot_map, lines, pos, neg)
+        outcome = read(given.map_bytes, written.reference, WORK, len(remaining))
+        self.assertIsInstance(outcome, StretchRead)
+        self.assertEqual(outcome.lines, remaining)
+        legs = choose_points(depot_map, remaining)
+        for offset, span, leg in ((pos_left, outcome.positive_span, legs[0]),
+                                  (neg_left, outcome.negative_span, legs[-1])):
+            if offset == 0:
+                self.assertEqual(span, (0, 0))
+            else:
+                self.assertTrue(1 <= span[0] <= offset <= span[1] < list_length(depot_map, leg))
+        return True
+
+    def test_samples_with_edge_offsets(self):
+        rng = random.Random("round trips")
+        accepted = 0
+        for turn in range(40 * len(SMALL_SAMPLES)):
+            sample = SMALL_SAMPLES[turn % len(SMALL_SAMPLES)](rng)
+            pos, neg = edge_offsets(rng, sample.depot_map, sample.stretch)
+            accepted += self.round_trip(sample.depot_map, sample.stretch, pos, neg)
+        self.assertGreater(accepted, 150)
+
+    def test_tiny_maps(self):
+        rng = random.Random("tiny round trips")
+        accepted = 0
+        for _ in range(1_500):
+            depot_map = random_tiny_map(rng, 5, 9)
+            lines = random_walk(rng, depot_map, rng.randrange(1, 9))
+            pos, neg = edge_offsets(rng, depot_map, lines)
+            accepted += self.round_trip(depot_map, lines, pos, neg)
+        self.assertGreater(accepted, 500)
+
+    def test_full_size_maps(self):
+        rng = random.Random("full round trips")
+        accepted = 0
+        for make_sample in [full_sample] * 8 + [dense_sample] * 2:
+            sample = make_sample(rng)
+            accepted += self.round_trip(sample.depot_map, sample.stretch, 1, 1)
+        self.assertGreater(accepted, 4)
+
+    def test_there_is_exactly_one_reading_of_what_is_written(self):
+        # The number of readings of a reference is the product of its legs' numbers.
+        rng = random.Random("one reading")
+        checked = 0
+        for _ in range(600):
+            depot_map = random_tiny_map(rng, 4, 7)
+            lines = random_walk(rng, depot_map, rng.randrange(1, 6))
+            written = write(map_to_bytes(depot_map), lines, 0, 0, WORK, 459)
+            if isinstance(written, ReferenceWritten):
+                reference = take_apart(written.reference)
+                legs = legs_of(reference, point_nodes(depot_map, reference))
+                lists = [readings_by_enumeration(depot_map, leg) for leg in legs]
+                self.assertEqual([len(readings) for readings in lists], [1] * len(legs))
+                self.assertEqual(sum((readings[0] for readings in lists), ()), lines)
+                checked += 1
+        self.assertGreater(checked, 200)
+
+
+class OffsetsOfOneSpan(unittest.TestCase):
+    def test_offsets_give_the_same_bytes_if_and_only_if_one_span_holds_both(self):
+        # Two lines of 700 and 300 in one leg of 1000; offsets below the end lines' lengths skip no line.
+        map_bytes = map_to_bytes(row_map((0, 1, 700), (1, 2, 300)))
+        by_bytes = {}
+        for pos in range(1, 700):
+            reference = write(map_bytes, [0, 1], pos, 0, WORK, 459).reference
+            by_bytes.setdefault(reference, []).append(pos)
+        for reference, offsets in by_bytes.items():
+            span = read(map_bytes, reference, WORK, 2).positive_span
+            self.assertEqual(offsets, [pos for pos in range(span[0], span[1] + 1) if pos < 700])
+            self.assertEqual(span, offset_span_by_trying(reference[-1], 1000))
+
+    def test_sums_of_offsets_next_to_the_total(self):
+        for length in (2, 3, 256, 257, 1000, 150_000):
+            map_bytes = map_to_bytes(row_map((0, 1, length)))
+            for pos in {0, 1, length // 2, length - 1}:
+                neg = length - 1 - pos
+                written = write(map_bytes, [0], pos, neg, WORK, 18)
+                outcome = read(map_bytes, written.reference, WORK, 1)
+                for offset, span in ((pos, outcome.positive_span), (neg, outcome.negative_span)):
+                    self.assertTrue(span[0] <= offset <= span[1])
+
+
+
+if __name__ == "__main__":
+    unittest.main()

@@ -1,0 +1,136 @@
+"""What the scope paper works out by hand: "The tie at the ridge", "At the edges", "Ways to go wrong"."""
+
+import unittest
+
+from depot_map import DepotMap, Line, Node, map_to_bytes, read_map
+from legs import LegSearch, Marks, Leg
+from outcome import Refused, ReferenceWritten, StretchRead, outcome_text
+from reader import read
+from reference import put_together
+from writer import reference_of_legs, write
+
+WORK = 12_288
+RIDGE_NODES = (Node(0, 0), Node(1000, 0), Node(1000, 1000), Node(2000, 0))
+RIDGE_LINES = (Line(0, 1, 1000, 3, 3, 90, 270), Line(1, 3, 1000, 3, 3, 90, 270),
+               Line(1, 2, 500, 3, 3, 0, 180), Line(2, 3, 500, 3, 3, 135, 272))
+RIDGE = map_to_bytes(DepotMap(RIDGE_NODES, RIDGE_LINES))
+THREE_POINTS = bytes.fromhex("0B 000000 000000 1B 68 01 03E8 0000 1B 68 01 03E8 0000 1B 18")
+THREE_POINTS_OFFSET_500 = bytes.fromhex("0B 000000 000000 1B 68 01 03E8 0000 1B 68 01 03E8 0000 1B 58 80")
+TWO_POINTS = bytes.fromhex("0B 000000 000000 1B 68 03 07D0 0000 1B 18")
+
+
+def row_map(*lines):
+    """Nodes at longitude 0, 1000, 2000, ..., and lines between them as (start, end, length)."""
+    last = max(max(line[:2]) for line in lines)
+    nodes = tuple(Node(1000 * number, 0) for number in range(last + 1))
+    return DepotMap(nodes, tuple(Line(start, end, length, 3, 3, 90, 270) for start, end, length in lines))
+
+
+class TieAtTheRidge(unittest.TestCase):
+    def test_stretch_takes_three_points(self):
+        self.assertEqual(write(RIDGE, [0, 1], 0, 0, WORK, 23), ReferenceWritten(THREE_POINTS))
+
+    def test_positive_offset_500(self):
+        self.assertEqual(write(RIDGE, [0, 1], 500, 0, WORK, 24), ReferenceWritten(THREE_POINTS_OFFSET_500))
+
+    def test_program_prints_the_reading(self):
+        outcome = read(RIDGE, THREE_POINTS_OFFSET_500, WORK, 1024)
+        self.assertEqual(outcome, StretchRead((0, 1), (500, 503), (0, 0)))
+        self.assertEqual(outcome_text(outcome), "lines 2 pos 500 503 neg 0 0\n0\n1")
+
+    def test_reading_without_offsets(self):
+        self.assertEqual(read(RIDGE, THREE_POINTS, WORK, 1024), StretchRead((0, 1), (0, 0), (0, 0)))
+
+    def test_two_points_fit_both_ways(self):
+        outcome = read(RIDGE, TWO_POINTS, WORK, 1024)
+        self.assertEqual(outcome, Refused(18, 0))
+        self.assertEqual(outcome_text(outcome), "refused 18 0")
+
+    def test_other_texts(self):
+        self.assertEqual(outcome_text(read(RIDGE, b"", WORK, 1024)), "refused 12")
+        self.assertEqual(outcome_text(read(b"", THREE_POINTS, WORK, 1024)), "refused 2")
+        written = write(RIDGE, [0, 1], 0, 0, WORK, 23)
+        self.assertEqual(outcome_text(written),
+                         "bytes 23\n0B0000000000001B680103E800001B680103E800001B18")
+
+    def test_way_over_the_ridge_takes_three_points_too(self):
+        # With two points both ways fit here too. The first leg with most lines is 0, 2, and then comes 3.
+        # Q of the first point: lowest class 3, sector 8. D of 1500 is 2. The last leg is 500 long, D is 0;
+        # line 3 leaves at 135 degrees, sector 12, and arrives at 272, sector 24.
+        expected = bytes.fromhex("0B 000000 000000 1B 68 02 03E8 03E8 1B 6C 00 03E8 FC18 1B 18")
+        self.assertEqual(write(RIDGE, [0, 2, 3], 0, 0, WORK, 100), ReferenceWritten(expected))
+
+
+class AtTheEdges(unittest.TestCase):
+    def test_byte_80_on_a_leg_of_1000(self):
+        depot_map = map_to_bytes(row_map((0, 1, 1000)))
+        reference = bytes.fromhex("0B 000000 000000 1B 68 01 03E8 0000 1B 58 80")
+        self.assertEqual(read(depot_map, reference, WORK, 1), StretchRead((0,), (500, 503), (0, 0)))
+
+    def test_byte_1_on_a_leg_of_100(self):
+        depot_map = map_to_bytes(row_map((0, 1, 100)))
+        reference = bytes.fromhex("0B 000000 000000 1B 68 00 03E8 0000 1B 58 01")
+        self.assertEqual(read(depot_map, reference, WORK, 1), Refused(19))
+
+    def test_nodes_at_longitude_0_and_1(self):
+        depot_map = DepotMap((Node(0, 7), Node(1, 7)), (Line(0, 1, 1000, 3, 3, 90, 270),))
+        self.assertEqual(write(map_to_bytes(depot_map), [0], 0, 0, WORK, 459), Refused(6))
+        self.assertEqual(read(map_to_bytes(depot_map), THREE_POINTS, WORK, 459), Refused(6))
+
+
+class WaysToGoWrong(unittest.TestCase):
+    def test_first_of_two_equal_ways_must_not_be_taken(self):
+        self.assertEqual(read(RIDGE, TWO_POINTS, WORK, 1024), Refused(18, 0))
+
+    def test_least_is_per_first_line(self):
+        # Two first lines with equal marks: one way is 300 long (D 0), the other 700 (D 1). The least way over
+        # both first lines would be 300 and give no reading for D 1.
+        depot_map = row_map((0, 1, 300), (0, 1, 700))
+        leg = Leg(0, 1, Marks(3, 3, 8), 3, 1)
+        self.assertEqual(LegSearch(depot_map).readings(leg).lines, (1,))
+
+    def test_two_first_lines_with_the_same_distance_byte_are_several(self):
+        # 300 and 400 both give D 0, although 300 is less.
+        depot_map = row_map((0, 1, 300), (0, 1, 400))
+        self.assertEqual(LegSearch(depot_map).readings(Leg(0, 1, Marks(3, 3, 8), 3, 0)).how_many, "several")
+        self.assertEqual(write(map_to_bytes(depot_map), [0], 0, 0, WORK, 459), Refused(10))
+
+    def test_one_point_per_line_is_not_always_safest(self):
+        # Lines 1 and 2 are parallel with equal marks; in mid-leg only the shorter one is least.
+        depot_map = row_map((0, 1, 100), (1, 2, 100), (1, 2, 500), (2, 3, 50))
+        map_bytes = map_to_bytes(depot_map)
+        two_points = bytes.fromhex("0B 000000 000000 1B 68 00 0BB8 0000 1B 18")
+        self.assertEqual(write(map_bytes, [0, 1, 3], 0, 0, WORK, 16), ReferenceWritten(two_points))
+        self.assertEqual(read(map_bytes, two_points, WORK, 3), StretchRead((0, 1, 3), (0, 0), (0, 0)))
+        a_point_each = put_together(reference_of_legs(depot_map, [(0,), (1,), (3,)], 0, 0))
+        self.assertEqual(read(map_bytes, a_point_each, WORK, 3), Refused(18, 1))
+        self.assertEqual(write(map_bytes, [0, 2, 3], 0, 0, WORK, 459), Refused(10))
+
+    def test_negative_coordinates_are_not_rounded_by_a_floor(self):
+        depot_map = DepotMap((Node(-2, -100_000), Node(1000, -100_000)), (Line(0, 1, 1000, 3, 3, 90, 270),))
+        # -2 has the code -1 and -100,000 has the code -46,603, FF49F5 in 24 bits.
+        expected = bytes.fromhex("0B FFFFFF FF49F5 1B 68 01 03EA 0000 1B 18")
+        self.assertEqual(write(map_to_bytes(depot_map), [0], 0, 0, WORK, 16), ReferenceWritten(expected))
+        self.assertEqual(read(map_to_bytes(depot_map), expected, WORK, 1), StretchRead((0,), (0, 0), (0, 0)))
+
+    def test_negative_offset_is_measured_against_the_last_leg(self):
+        # Legs of 100,000 and 60,000, too long for one leg. 256 x 15,000 / 60,000 is 64, on the first leg 38.
+        map_bytes = map_to_bytes(row_map((0, 1, 100_000), (1, 2, 60_000)))
+        written = write(map_bytes, [0, 1], 0, 15_000, WORK, 24)
+        # D: 100,000 / 586 is 170, AA; 60,000 / 586 is 102, 66.
+        expected = bytes.fromhex("0B 000000 000000 1B 68 AA 03E8 0000 1B 68 66 03E8 0000 1B 38 40")
+        self.assertEqual(written, ReferenceWritten(expected))
+        # A positive offset of 15,000 comes first: 256 x 15,000 / 100,000 is 38.4; 38 is 26 in hexadecimal.
+        both = write(map_bytes, [0, 1], 15_000, 15_000, WORK, 25)
+        self.assertEqual(both, ReferenceWritten(expected[:-2] + bytes.fromhex("78 26 40")))
+        # 64 x 60,000 / 256 is 15,000 and 65 x 60,000 / 256 is 15,234.4.
+        self.assertEqual(read(map_bytes, expected, WORK, 2), StretchRead((0, 1), (0, 0), (15_000, 15_234)))
+
+
+class DepotMapOfTheRidge(unittest.TestCase):
+    def test_map_is_read_as_the_paper_lists_it(self):
+        self.assertEqual(read_map(RIDGE), DepotMap(RIDGE_NODES, RIDGE_LINES))
+
+
+if __name__ == "__main__":
+    unittest.main()

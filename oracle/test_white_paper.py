@@ -1,0 +1,60 @@
+"""The binary line example of the white paper (13.1.3), field by field, and put together."""
+
+import base64
+import unittest
+
+from depot_map import DepotMap, Line, Node, map_to_bytes
+from fields import coordinate_code, distance_byte, offset_byte, sector
+from outcome import StretchRead
+from reader import read
+from reference import Point, Reference, put_together, take_apart
+
+# Tables 75 to 90, byte by byte.
+EXAMPLE_BITS = """
+00001011
+00000100 01011011 01011011  00100011 01000110 11110101  00011010 01101100 00001001
+00000000 10011011 11111110 00111011  00011011 10110100 00000100
+11111111 11101011 11111111 10100011  00101011 01011001
+01000100
+"""
+EXAMPLE = bytes(int(bits, 2) for bits in EXAMPLE_BITS.split())
+# Table 74: FRC, FOW, bearing, lowest FRC to next point, and distance to next point in decimetres.
+EXAMPLE_POINTS = (Point(285_531, 2_311_925, 3, 2, 135 * 4 // 45, 3, 9),
+                  Point(155, -453, 3, 3, 20, 5, 4),
+                  Point(-21, -93, 5, 3, 25))
+
+
+class BinaryExample(unittest.TestCase):
+    def test_fields_one_by_one(self):
+        self.assertEqual(coordinate_code(612_683), int.from_bytes(EXAMPLE[1:4], "big"))
+        self.assertEqual([sector(bearing) for bearing in (135, 227, 290)], [0b01100, 0b10100, 0b11001])
+        self.assertEqual([distance_byte(length) for length in (5_610, 2_740)], [EXAMPLE[9], EXAMPLE[16]])
+        self.assertEqual(offset_byte(1_500, 5_610), EXAMPLE[23])
+
+    def test_latitude_of_the_example(self):
+        # Equation 1 gives 2,311,924.13 + 0.5, cut to 2,311,924. Table 77 prints one more (F5, not F4).
+        # The same example's Base64 in the XML listing (13.1.4) has the value of the equation.
+        in_xml_listing = base64.b64decode("CgRbWyNG9BpsCQCb/jsbtAT/6/+jK1kC")[4:7]
+        self.assertEqual(coordinate_code(4_960_851), int.from_bytes(in_xml_listing, "big"))
+        self.assertEqual(coordinate_code(4_960_851), int.from_bytes(EXAMPLE[4:7], "big") - 1)
+
+    def test_taken_apart(self):
+        self.assertEqual(take_apart(EXAMPLE), Reference(EXAMPLE_POINTS, positive_byte=68))
+
+    def test_put_together(self):
+        self.assertEqual(put_together(Reference(EXAMPLE_POINTS, positive_byte=68)), EXAMPLE)
+
+    def test_read_on_a_map_of_the_examples_legs(self):
+        # Nodes 1, 10 and 15 with one line for each leg. Line 1 has FRC 5, the lowest of its leg, so that the
+        # second point's P is 2B here. The latitude's code is that of Equation 1.
+        nodes = (Node(612_683, 4_960_851), Node(612_838, 4_960_398), Node(612_817, 4_960_305))
+        lines = (Line(0, 1, 5_610, 3, 2, 135, 0), Line(1, 2, 2_740, 5, 3, 227, 290))
+        reference = bytearray(EXAMPLE)
+        reference[6], reference[14] = 0xF4, 0x2B
+        # Byte 68 on 5,610: 68 x 5,610 / 256 is 1,490.2 and 69 x 5,610 / 256 is 1,512.07.
+        self.assertEqual(read(map_to_bytes(DepotMap(nodes, lines)), bytes(reference), 12_288, 2),
+                         StretchRead((0, 1), (1_491, 1_512), (0, 0)))
+
+
+if __name__ == "__main__":
+    unittest.main()

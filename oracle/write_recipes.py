@@ -1,0 +1,229 @@
+"""Inputs for write cases. A recipe takes a random source and a turn, and gives a detail and the input.
+
+A recipe whose name starts with "refusal N" must come out as that refusal, by the scope paper's table.
+"""
+
+from dataclasses import dataclass, replace
+
+from damages import map_damages
+from depot_map import LARGEST_NUMBER, map_to_bytes
+from legs import list_length
+from outcome import ReferenceWritten
+from reader import LEAST_WORK_LENGTH
+from sample_maps import SMALL_SAMPLES, MapBuilder, far_sample, full_size_sample, ring_sample
+from writer import MOST_STRETCH_LINES, write
+
+AMPLE_BYTES = 459
+
+
+@dataclass(frozen=True)
+class WriteInput:
+    map_bytes: bytes
+    lines: tuple
+    pos: int = 0
+    neg: int = 0
+    work_length: int = LEAST_WORK_LENGTH
+    byte_room: int = AMPLE_BYTES
+
+
+def write_outcome(given):
+    return write(given.map_bytes, given.lines, given.pos, given.neg, given.work_length, given.byte_room)
+
+
+def any_sample(rng, turn):
+    """A sample of each kind in turn."""
+    return SMALL_SAMPLES[turn % len(SMALL_SAMPLES)](rng)
+
+
+def edge_offsets(rng, depot_map, stretch):
+    """Two offsets at or next to the ends of lines, of the total or of 32 bits; their sum may be too large."""
+    total = list_length(depot_map, stretch)
+    skipped_first = rng.randrange(min(4, len(stretch)))
+    skipped_last = rng.randrange(min(4, len(stretch) - skipped_first))
+    before = list_length(depot_map, stretch[:skipped_first])
+    after = list_length(depot_map, stretch[len(stretch) - skipped_last:])
+    pos = max(0, before + rng.choice([-1, 0, 1]))
+    neg = max(0, after + rng.choice([-1, 0, 1]))
+    if rng.random() < 0.7:
+        return pos, neg
+    rest = max(0, total - pos)
+    return rng.choice([(pos, max(0, rest - 1)), (pos, rest), (0, total - 1), (total - 1, 0), (total, 0),
+                       (LARGEST_NUMBER, 0), (LARGEST_NUMBER, 1), (1, LARGEST_NUMBER)])
+
+
+def until_found(attempt):
+    """Tries until something is found. Only an oracle that is wrong needs more tries than these."""
+    for _ in range(1_000):
+        found = attempt()
+        if found is not None:
+            return found
+    raise RuntimeError("nothing found")
+
+
+def accepted_input(rng, turn):
+    """A sample's name and an input that the writer accepts, with offsets where they are accepted too."""
+    def attempt():
+        sample = any_sample(rng, turn)
+        map_bytes = map_to_bytes(sample.depot_map)
+        for pos, neg in (edge_offsets(rng, sample.depot_map, sample.stretch), (0, 0)):
+            given = WriteInput(map_bytes, sample.stretch, pos, neg)
+            if isinstance(write_outcome(given), ReferenceWritten):
+                return sample, given
+        return None
+    return until_found(attempt)
+
+
+def plain_stretch(rng, turn):
+    sample = any_sample(rng, turn)
+    return sample.label, WriteInput(map_to_bytes(sample.depot_map), sample.stretch)
+
+
+def offsets_at_edges(rng, turn):
+    sample = any_sample(rng, turn)
+    pos, neg = edge_offsets(rng, sample.depot_map, sample.stretch)
+    return sample.label, WriteInput(map_to_bytes(sample.depot_map), sample.stretch, pos, neg)
+
+
+def skipped_lines(rng, turn):
+    """Offsets that cover the first or the last lines whole, and leave exactly one line where possible."""
+    sample = ring_sample(rng) if turn % 2 else any_sample(rng, turn)
+    kept = rng.randrange(len(sample.stretch))
+    before, after = sample.stretch[:kept], sample.stretch[kept + 1:]
+    room = sample.depot_map.lines[sample.stretch[kept]].length - 1
+    pos = list_length(sample.depot_map, before) + rng.choice([0, room // 2])
+    neg = list_length(sample.depot_map, after) + rng.choice([0, room - room // 2])
+    return sample.label, WriteInput(map_to_bytes(sample.depot_map), sample.stretch, pos, neg)
+
+
+def longest_reference(rng, turn):
+    """64 lines that need a leg each: 457 bytes, and 459 with both offsets."""
+    builder = MapBuilder()
+    nodes = builder.row_of_nodes(MOST_STRETCH_LINES + 1)
+    lines = tuple(builder.line(start, end, rng.choice([75_001, 149_999, 150_000]))
+                  for start, end in zip(nodes, nodes[1:]))
+    pos, neg = [(1, 1), (75_000, 75_000), (75_001, 1), (0, 1), (0, 0)][turn % 5]
+    byte_room = AMPLE_BYTES - turn // 5 % 2
+    return f"room for {byte_room} bytes", WriteInput(map_to_bytes(builder.build()), lines, pos, neg,
+                                                     byte_room=byte_room)
+
+
+def full_size(rng, turn):
+    sample = full_size_sample(rng)
+    pos, neg = edge_offsets(rng, sample.depot_map, sample.stretch) if turn % 2 else (0, 0)
+    return sample.label, WriteInput(map_to_bytes(sample.depot_map), sample.stretch, pos, neg)
+
+
+def bytes_exactly_enough(rng, turn):
+    sample, given = accepted_input(rng, turn)
+    return sample.label, replace(given, byte_room=len(write_outcome(given).reference))
+
+
+def bytes_too_few(rng, turn):
+    sample, given = accepted_input(rng, turn)
+    room = len(write_outcome(given).reference) - 1
+    return sample.label, replace(given, byte_room=rng.choice([room, room, 15, 0]))
+
+
+def work_area_exactly_enough(rng, turn):
+    sample, given = accepted_input(rng, turn)
+    return sample.label, replace(given, work_length=LEAST_WORK_LENGTH + turn % 2)
+
+
+def work_area_too_short(rng, turn):
+    """Refusal 1 stands above everything else, so that the rest may be wrong as well."""
+    sample, given = accepted_input(rng, turn)
+    others = [given, replace(given, map_bytes=b""), replace(given, lines=()), replace(given, byte_room=0)]
+    work_length = LEAST_WORK_LENGTH - 1 if turn % 2 == 0 else 0
+    return sample.label, replace(others[turn % 4], work_length=work_length)
+
+
+def damaged_map(refusal):
+    def recipe(rng, turn):
+        sample = any_sample(rng, turn)
+        damages = [damage for damage in map_damages(sample.depot_map) if damage.refusal == refusal]
+        damage = damages[turn % len(damages)]
+        # The stretch is wrong as well every other time; the map's refusal stands above.
+        lines = sample.stretch if turn % 2 else ()
+        return damage.label, WriteInput(damage.apply(sample.depot_map), lines)
+    return recipe
+
+
+def no_such_lines(rng, turn):
+    sample = ring_sample(rng)
+    around = (sample.stretch * (MOST_STRETCH_LINES + 1))[:MOST_STRETCH_LINES + 1]
+    unknown = len(sample.depot_map.lines)
+    start = sample.stretch[:MOST_STRETCH_LINES - 1]
+    details = [
+        ("no lines", ()), ("65 lines", around), ("65 lines that do not join", (0,) * 65),
+        ("first line unknown", (unknown,) + start), ("last line unknown", start + (unknown,)),
+        ("only line unknown", (LARGEST_NUMBER,)), ("unknown line after a gap", (0, 0, unknown))]
+    detail, lines = details[turn % len(details)]
+    # Offsets that are too large do not count yet.
+    return detail, WriteInput(map_to_bytes(sample.depot_map), lines, pos=LARGEST_NUMBER * (turn % 2))
+
+
+def broken_joint(rng, turn):
+    """A line taken twice in a row never joins, since its two ends differ."""
+    sample = any_sample(rng, turn)
+    stretch = sample.stretch[:MOST_STRETCH_LINES - 1]
+    place, lines = (("first", stretch[:1] + stretch), ("last", stretch + stretch[-1:]))[turn % 2]
+    pos = LARGEST_NUMBER * (turn // 2 % 2)
+    return f"{place} joint", WriteInput(map_to_bytes(sample.depot_map), lines, pos)
+
+
+def offsets_too_large(rng, turn):
+    sample = any_sample(rng, turn)
+    total = list_length(sample.depot_map, sample.stretch)
+    part = rng.randrange(total + 1)
+    pairs = [(total, 0), (0, total), (part, total - part), (part, total - part + 1), (LARGEST_NUMBER, 0),
+             (0, LARGEST_NUMBER), (LARGEST_NUMBER, 1), (LARGEST_NUMBER, LARGEST_NUMBER), (2 ** 31, 2 ** 31)]
+    pos, neg = pairs[rng.randrange(len(pairs))]
+    given = WriteInput(map_to_bytes(sample.depot_map), sample.stretch, pos, neg, byte_room=turn % 2)
+    return sample.label, given
+
+
+def offsets_just_below(rng, turn):
+    sample = any_sample(rng, turn)
+    pos = rng.randrange(list_length(sample.depot_map, sample.stretch))
+    neg = list_length(sample.depot_map, sample.stretch) - 1 - pos
+    return sample.label, WriteInput(map_to_bytes(sample.depot_map), sample.stretch, pos, neg)
+
+
+def no_usable_choice(rng, turn):
+    """Two equal lines side by side, or a line between nodes too far apart."""
+    if turn % 2:
+        sample = far_sample(rng)
+        # Lines 4 and 11 run from the hub to 32,768 and from -32,769 back to the hub.
+        lines = (4,) if turn % 4 == 1 else (11,)
+        return sample.label, WriteInput(map_to_bytes(sample.depot_map), lines, byte_room=0)
+    builder = MapBuilder()
+    nodes = builder.row_of_nodes(3)
+    length = rng.choice([1, 586, 75_000])
+    for _ in range(2):
+        builder.line(nodes[0], nodes[1], length)
+    builder.line(nodes[1], nodes[2], length)
+    lines = rng.choice([(0,), (1,), (0, 2), (1, 2)])
+    return "equal lines side by side", WriteInput(map_to_bytes(builder.build()), lines, byte_room=turn % 459)
+
+
+WRITE_RECIPES = {
+    "stretch": plain_stretch,
+    "offsets at line ends": offsets_at_edges,
+    "skipped lines": skipped_lines,
+    "offsets just below the total": offsets_just_below,
+    "byte buffer exactly long enough": bytes_exactly_enough,
+    "work area long enough": work_area_exactly_enough,
+    "longest reference": longest_reference,
+    "full size": full_size,
+    "refusal 1": work_area_too_short,
+    "refusal 2": damaged_map(2),
+    "refusal 3": damaged_map(3),
+    "refusal 4": damaged_map(4),
+    "refusal 5": damaged_map(5),
+    "refusal 6": damaged_map(6),
+    "refusal 7": no_such_lines,
+    "refusal 8": broken_joint,
+    "refusal 9": offsets_too_large,
+    "refusal 10": no_usable_choice,
+    "refusal 11": bytes_too_few,
+}

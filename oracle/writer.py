@@ -1,0 +1,111 @@
+"""The writer: map bytes and a stretch to reference bytes (scope paper, refusals 1 to 11)."""
+
+from depot_map import read_map
+from fields import LONGEST_LEG, code_pair, differences, differences_fit, offset_byte
+from legs import LegSearch, Readings, describe_leg, list_length
+from outcome import ReferenceWritten, RefusedCall
+from reader import check_work_length
+from reference import Point, Reference, put_together
+
+MOST_STRETCH_LINES = 64
+
+
+def check_stretch(depot_map, lines, positive_offset, negative_offset):
+    """Refusals 7 to 9, which look at the stretch as given."""
+    known = all(0 <= line < len(depot_map.lines) for line in lines)
+    if not 1 <= len(lines) <= MOST_STRETCH_LINES or not known:
+        raise RefusedCall(7)
+    for line, next_line in zip(lines, lines[1:]):
+        if depot_map.lines[line].end_node != depot_map.lines[next_line].start_node:
+            raise RefusedCall(8)
+    if positive_offset + negative_offset >= list_length(depot_map, lines):
+        raise RefusedCall(9)
+
+
+def skip_lines(depot_map, lines, positive_offset, negative_offset):
+    """What remains of a stretch after the lines covered whole by an offset are dropped ("A stretch")."""
+    remaining = list(lines)
+    while positive_offset >= depot_map.lines[remaining[0]].length:
+        positive_offset -= depot_map.lines[remaining.pop(0)].length
+    while negative_offset >= depot_map.lines[remaining[-1]].length:
+        negative_offset -= depot_map.lines[remaining.pop()].length
+    return tuple(remaining), positive_offset, negative_offset
+
+
+def leg_is_usable(search, lines, is_last):
+    """Whether a part of the stretch may be a leg: its differences fit and it is the leg's only reading."""
+    depot_map = search.depot_map
+    if list_length(depot_map, lines) > LONGEST_LEG:
+        return False
+    leg = describe_leg(depot_map, lines, is_last)
+    if not differences_fit(depot_map.nodes[leg.start_node], depot_map.nodes[leg.end_node]):
+        return False
+    return search.readings(leg) == Readings("one", tuple(lines))
+
+
+def choose_points(depot_map, lines):
+    """The writer's legs as a list of line lists, or None if no choice of points is usable.
+
+    Fewest points first; then the first leg with most lines, then the second, and so on.
+    """
+    search = LegSearch(depot_map)
+    count = len(lines)
+    usable_ends = [[end for end in range(start + 1, count + 1)
+                    if leg_is_usable(search, lines[start:end], end == count)] for start in range(count)]
+    # fewest[place]: the least number of legs from that place to the end, None if there is no way.
+    fewest = [None] * count + [0]
+    for start in reversed(range(count)):
+        onward = [fewest[end] + 1 for end in usable_ends[start] if fewest[end] is not None]
+        fewest[start] = min(onward, default=None)
+    if fewest[0] is None:
+        return None
+    legs, start = [], 0
+    while start < count:
+        end = max(end for end in usable_ends[start] if fewest[end] == fewest[start] - 1)
+        legs.append(tuple(lines[start:end]))
+        start = end
+    return legs
+
+
+def reference_of_legs(depot_map, legs, positive_offset, negative_offset):
+    """The reference whose points are the ends of the given legs. Whether it can be read is not asked here."""
+    points, previous = [], None
+    for number, lines in enumerate(legs):
+        leg = describe_leg(depot_map, lines, number == len(legs) - 1)
+        node = depot_map.nodes[leg.start_node]
+        longitude, latitude = code_pair(node) if previous is None else differences(previous, node)
+        marks = leg.first_marks
+        points.append(Point(longitude, latitude, marks.frc, marks.fow, marks.sector,
+                            leg.lowest_frc, leg.distance_byte))
+        previous = node
+    longitude, latitude = differences(previous, depot_map.nodes[leg.end_node])
+    points.append(Point(longitude, latitude, leg.last_marks.frc, leg.last_marks.fow, leg.last_marks.sector))
+    positive_byte = negative_byte = None
+    if positive_offset != 0:
+        positive_byte = offset_byte(positive_offset, list_length(depot_map, legs[0]))
+    if negative_offset != 0:
+        negative_byte = offset_byte(negative_offset, list_length(depot_map, legs[-1]))
+    return Reference(tuple(points), positive_byte, negative_byte)
+
+
+def _write(map_bytes, lines, positive_offset, negative_offset, work_length, byte_room):
+    check_work_length(work_length)
+    depot_map = read_map(map_bytes)
+    check_stretch(depot_map, lines, positive_offset, negative_offset)
+    # From here on only what remains of the stretch is spoken of.
+    lines, positive_offset, negative_offset = skip_lines(depot_map, lines, positive_offset, negative_offset)
+    legs = choose_points(depot_map, lines)
+    if legs is None:
+        raise RefusedCall(10)
+    reference = put_together(reference_of_legs(depot_map, legs, positive_offset, negative_offset))
+    if byte_room < len(reference):
+        raise RefusedCall(11)
+    return ReferenceWritten(reference)
+
+
+def write(map_bytes, lines, pos, neg, work_length, byte_room):
+    """The outcome of a call of the writer: ReferenceWritten or Refused."""
+    try:
+        return _write(map_bytes, tuple(lines), pos, neg, work_length, byte_room)
+    except RefusedCall as refusal:
+        return refusal.refused
