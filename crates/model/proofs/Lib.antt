@@ -16,3 +16,4 @@ pub mod Composed
 pub mod Outcomes
 pub mod Once
 pub mod Demand3
+pub mod Cases

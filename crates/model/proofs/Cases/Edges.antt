@@ -1,0 +1,87 @@
+-- The cases marked [M] in paper 01, "At the edges", as one theorem; and the two numbers of "The depot map".
+use Prim.Native.Nat.{ℕ, _≤_}
+use mathlib.Core.Path.{_≡_, refl}
+use mathlib.Core.List.{List, [], _∷_}
+use native.Mathlib.Omega.{arith}
+use Rattle.model.specs.declared.Span.{Span}
+use Rattle.model.specs.Number.{number, got, faulty}
+use Rattle.model.specs.Field.{code, distance, sector}
+use Rattle.model.specs.Map.{Map, MapAnswer, decode}
+use Rattle.model.specs.Lines.{total}
+use Rattle.model.specs.Reference.{byte, Reference}
+use Rattle.model.specs.Choice.{firstLeg, lastLeg}
+use Rattle.model.specs.Refusal.{row}
+use Rattle.model.specs.Outcome.{Gives, SpanRead, flagged, NoOffset, no-offset, SpansRead, ReadOutcome, ReadEnd}
+use Rattle.model.proofs.Cases.Computing.{computing}
+
+-- The code of a longitude, given as the map stores it.
+abbrev pub lon : ℕ → ℕ
+lon c = code 18_000_000 c
+
+-- Once every leg is read the reader gives this refusal, and nothing else, whatever the line buffer.
+pub record Ends (m : Map) (r : Reference) (lss : List (List ℕ)) (n : ℕ) : Type 0 where
+  pub given : (room : ℕ) → ReadEnd m r room lss (ReadOutcome.refused (row n))
+  pub nothing-else : (room : ℕ) (o : ReadOutcome) → ReadEnd m r room lss o → o ≡ ReadOutcome.refused (row n)
+
+pub record Edges : Type 0 where
+  pub codes : lon 18_000_000 ∷ lon 18_000_001 ∷ lon 17_999_999 ∷ lon 18_000_002 ∷ lon 18_000_003 ∷ lon 18_100_000 ∷ lon 35_999_998 ∷ [] ≡
+      0 ∷ 0 ∷ 0 ∷ 1 ∷ 1 ∷ 46_603 ∷ 8_388_607 ∷ []
+  pub distances : distance 585 ∷ distance 586 ∷ distance 150_000 ∷ [] ≡ 0 ∷ 1 ∷ 255 ∷ []
+  pub sectors : sector 11 ∷ sector 12 ∷ sector 359 ∷ [] ≡ 0 ∷ 1 ∷ 31 ∷ []
+  pub byte-80-on-1000 : SpanRead 1_000 (byte 0x80) (record { least = 500; greatest = 503 })
+  pub byte-1-on-100 : (m : Map) (r : Reference) (lss : List (List ℕ)) → total m (firstLeg lss) ≡ 100 → r .pos ≡ byte 1 → Ends m r lss 19
+  pub negative-byte-1-on-100 : (m : Map) (r : Reference) (lss : List (List ℕ)) → total m (lastLeg lss) ≡ 100 → r .neg ≡ byte 1 →
+      Ends m r lss 19
+  pub longitudes-0-and-1 : decode
+      (2 ∷ 0x80 ∷ 0xD1 ∷ 0xCA ∷ 0x08 ∷ 0xC0 ∷ 0xA8 ∷ 0xA5 ∷ 0x04 ∷ 0x81 ∷ 0xD1 ∷ 0xCA ∷ 0x08 ∷ 0xC0 ∷ 0xA8 ∷ 0xA5 ∷ 0x04 ∷ 1 ∷ 0 ∷ 1
+      ∷ 0xE8 ∷ 0x07 ∷ 3 ∷ 3 ∷ 90 ∷ 0x8E ∷ 0x02 ∷ []) ≡
+      MapAnswer.refused 6
+  pub number-300 : number (0xAC ∷ 0x02 ∷ []) ≡ got 300 []
+  pub not-shortest : number (0x80 ∷ 0x00 ∷ []) ≡ faulty
+
+-- No whole offset from 1 to 99 gives byte 1 on a leg of 100: 1 gives 2.
+no-byte-1 : NoOffset 100 (byte 1)
+unfolding computing
+no-byte-1 = no-offset {b = 1} λ o (g : Gives 100 1 o). omega arith
+
+spanless : {s : Span} → SpanRead 100 (byte 1) s → ⊥
+unfolding computing
+spanless (flagged low high all) = omega (arith, low .above, low .inside, low .same)
+
+-- Refusal 19 and nothing else, where one of the spans is missing.
+no-spans : {m : Map} {r : Reference} {lss : List (List ℕ)} → ((room : ℕ) → ReadEnd m r room lss (ReadOutcome.refused (row 19))) →
+    ((pos neg : Span) → SpansRead m r lss pos neg → ⊥) → Ends m r lss 19
+no-spans {m} {r} {lss} given none = record { given = given; nothing-else = λ room o. else }
+  where
+    else : {room : ℕ} {o : ReadOutcome} → ReadEnd m r room lss o → o ≡ ReadOutcome.refused (row 19)
+    else (ReadEnd.no-pos n) = refl
+    else (ReadEnd.no-neg n) = refl
+    else (ReadEnd.too-far s h) = refl
+    else (ReadEnd.no-room s h k) = absurd (none _ _ s)
+    else (ReadEnd.accepted s h k) = absurd (none _ _ s)
+
+-- A span, from its two ends.
+pub spanned : (leg b lo hi : ℕ) → Gives leg b lo → Gives leg b hi → ((o : ℕ) → Gives leg b o → (lo ≤ o) × (o ≤ hi)) →
+    SpanRead leg (byte b) (record { least = lo; greatest = hi })
+spanned leg b lo hi low high all = flagged low high all
+
+pub byte-80 : SpanRead 1_000 (byte 0x80) (record { least = 500; greatest = 503 })
+unfolding computing
+byte-80 = spanned 1_000 0x80 500 503 (omega arith) (omega arith) (λ o g. omega arith)
+
+pub edges : Edges
+unfolding computing
+edges =
+    record {
+      codes = refl;
+      distances = refl;
+      sectors = refl;
+      byte-80-on-1000 = byte-80;
+      byte-1-on-100 = λ m r lss leg e.
+          no-spans (λ room. ReadEnd.no-pos (rw (leg, e) no-byte-1)) (λ pos neg s. spanless (rw (leg, e) at (s .pos-read)));
+      negative-byte-1-on-100 = λ m r lss leg e.
+          no-spans (λ room. ReadEnd.no-neg (rw (leg, e) no-byte-1)) (λ pos neg s. spanless (rw (leg, e) at (s .neg-read)));
+      longitudes-0-and-1 = refl;
+      number-300 = refl;
+      not-shortest = refl;
+    }

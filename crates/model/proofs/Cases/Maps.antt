@@ -1,0 +1,100 @@
+-- Worked cases of paper 01, "The depot map", and of refusals 2 to 6: one table, one theorem.
+use Prim.Native.Nat.{ℕ}
+use mathlib.Core.Path.{_≡_, refl}
+use mathlib.Core.List.{List, [], _∷_, _++_, map}
+use lib.ListN.{replicate}
+use Rattle.model.specs.Number.{got, faulty, number, numberBytes}
+use Rattle.model.specs.Map.{MapAnswer, whole, decode}
+use Rattle.model.proofs.Cases.Computing.{computing}
+
+-- All of these bytes are refused so.
+abbrev Refuses : ℕ → List (List ℕ) → Type 0
+Refuses n bss = map decode bss ≡ map (λ bs. MapAnswer.refused n) bss
+
+-- Nodes stored as 0, 0 and 100, 0, and what follows them.
+abbrev twoNodes : List ℕ → List ℕ
+twoNodes rest = 2 ∷ 0 ∷ 0 ∷ 100 ∷ 0 ∷ rest
+
+-- One line, of which these numbers are given.
+abbrev oneLine : List ℕ → List ℕ
+oneLine numbers = twoNodes (1 ∷ numbers)
+
+-- Longitudes stored as 0 and 1 have the same code.
+abbrev close : List ℕ → List ℕ
+close rest = 2 ∷ 0 ∷ 0 ∷ 1 ∷ 0 ∷ rest
+
+abbrev someLine : List ℕ
+someLine = 1 ∷ 0 ∷ 1 ∷ 10 ∷ 3 ∷ 3 ∷ 90 ∷ 90 ∷ []
+
+pub record MapCases : Type 0 where
+  -- "In groups of seven bits, lowest group first", "in its shortest form and at most 4,294,967,295".
+  pub numbers : map number
+      ((0 ∷ []) ∷ (0x7F ∷ []) ∷ (0x80 ∷ 0x01 ∷ []) ∷ (0xAC ∷ 0x02 ∷ 5 ∷ []) ∷ (0xFF ∷ 0xFF ∷ 0xFF ∷ 0xFF ∷ 0x0F ∷ []) ∷ []) ≡
+      got 0 [] ∷ got 127 [] ∷ got 128 [] ∷ got 300 (5 ∷ []) ∷ got 4_294_967_295 [] ∷ []
+  pub no-numbers : map number
+      ([] ∷ (0x80 ∷ []) ∷ (0xAC ∷ 0x80 ∷ 0 ∷ []) ∷ (0x80 ∷ 0x80 ∷ 0x80 ∷ 0x80 ∷ 0x10 ∷ [])
+      ∷ (0x80 ∷ 0x80 ∷ 0x80 ∷ 0x80 ∷ 0x80 ∷ 0x01 ∷ []) ∷ []) ≡
+      replicate 5 faulty
+  pub written-numbers : map numberBytes (0 ∷ 127 ∷ 128 ∷ 300 ∷ 4_294_967_295 ∷ []) ≡
+      (0 ∷ []) ∷ (0x7F ∷ []) ∷ (0x80 ∷ 0x01 ∷ []) ∷ (0xAC ∷ 0x02 ∷ []) ∷ (0xFF ∷ 0xFF ∷ 0xFF ∷ 0xFF ∷ 0x0F ∷ []) ∷ []
+  -- A number in its range goes on to the next one, which is missing: refusal 2. One outside it is refused at once.
+  -- Counts of 2 and 512 nodes; 0, 1 and 513.
+  pub node-counts : Refuses 2 ([] ∷ (2 ∷ []) ∷ (0x80 ∷ 0x04 ∷ []) ∷ [])
+  pub bad-node-counts : Refuses 3 ((0 ∷ []) ∷ (1 ∷ []) ∷ (0x81 ∷ 0x04 ∷ []) ∷ [])
+  -- Longitudes stored as 0 and 35,999,998, latitude as 18,000,000; longitude 35,999,999, also before a number not shortest; latitude 18,000,001.
+  pub coordinates : Refuses 2 ((2 ∷ 0 ∷ []) ∷ (2 ∷ 0xFE ∷ 0xA1 ∷ 0x95 ∷ 0x11 ∷ []) ∷ (2 ∷ 0 ∷ 0x80 ∷ 0xD1 ∷ 0xCA ∷ 0x08 ∷ []) ∷ [])
+  pub bad-coordinates : Refuses 4
+      ((2 ∷ 0xFF ∷ 0xA1 ∷ 0x95 ∷ 0x11 ∷ []) ∷ (2 ∷ 0xFF ∷ 0xA1 ∷ 0x95 ∷ 0x11 ∷ 0x80 ∷ 0 ∷ []) ∷ (2 ∷ 0 ∷ 0x81 ∷ 0xD1 ∷ 0xCA ∷ 0x08 ∷ []) ∷ [])
+  -- Counts of 1 and 1,024 lines; 0 and 1,025.
+  pub line-counts : Refuses 2 (twoNodes [] ∷ twoNodes (1 ∷ []) ∷ twoNodes (0x80 ∷ 0x08 ∷ []) ∷ [])
+  pub bad-line-counts : Refuses 3 (twoNodes (0 ∷ []) ∷ twoNodes (0x81 ∷ 0x08 ∷ []) ∷ [])
+  -- Start node, end node (also not shortest), length 1 and 150,000, FRC 7, FOW 7, bearing out 359.
+  pub line-fields : Refuses 2
+      (oneLine (1 ∷ []) ∷ oneLine (0 ∷ 1 ∷ []) ∷ oneLine (0 ∷ 0x80 ∷ 0 ∷ []) ∷ oneLine (0 ∷ 1 ∷ 1 ∷ [])
+      ∷ oneLine (0 ∷ 1 ∷ 0xF0 ∷ 0x93 ∷ 0x09 ∷ []) ∷ oneLine (0 ∷ 1 ∷ 1 ∷ 7 ∷ []) ∷ oneLine (0 ∷ 1 ∷ 1 ∷ 7 ∷ 7 ∷ [])
+      ∷ oneLine (0 ∷ 1 ∷ 1 ∷ 7 ∷ 7 ∷ 0xE7 ∷ 0x02 ∷ []) ∷ [])
+  -- Start node 2, end node 2, equal ends (also before a number not shortest), length 0 and 150,001, FRC 8, FOW 8, bearings of 360.
+  pub bad-line-fields : Refuses 5
+      (oneLine (2 ∷ []) ∷ oneLine (0 ∷ 2 ∷ []) ∷ oneLine (1 ∷ 1 ∷ []) ∷ oneLine (0 ∷ 0 ∷ 0x80 ∷ 0 ∷ []) ∷ oneLine (0 ∷ 1 ∷ 0 ∷ [])
+      ∷ oneLine (0 ∷ 1 ∷ 0xF1 ∷ 0x93 ∷ 0x09 ∷ []) ∷ oneLine (0 ∷ 1 ∷ 1 ∷ 8 ∷ []) ∷ oneLine (0 ∷ 1 ∷ 1 ∷ 7 ∷ 8 ∷ [])
+      ∷ oneLine (0 ∷ 1 ∷ 1 ∷ 7 ∷ 7 ∷ 0xE8 ∷ 0x02 ∷ []) ∷ oneLine (0 ∷ 1 ∷ 1 ∷ 7 ∷ 7 ∷ 0 ∷ 0xE8 ∷ 0x02 ∷ []) ∷ [])
+  -- The upper ends of all ranges, and seven fields that differ.
+  pub greatest : decode
+      (2 ∷ 0xFE ∷ 0xA1 ∷ 0x95 ∷ 0x11 ∷ 0x80 ∷ 0xD1 ∷ 0xCA ∷ 0x08 ∷ 0 ∷ 5 ∷ 1 ∷ 0 ∷ 1 ∷ 0xF0 ∷ 0x93 ∷ 0x09 ∷ 7 ∷ 7 ∷ 0xE7 ∷ 0x02 ∷ 0xE7 ∷ 0x02 ∷ []) ≡
+      whole
+      (record {
+        nodes = record { lon = 35_999_998; lat = 18_000_000 } ∷ record { lon = 0; lat = 5 } ∷ [];
+        lines = record { start = 0; end = 1; length = 150_000; frc = 7; fow = 7; out = 359; back = 359 } ∷ [];
+      })
+  pub in-order : decode (oneLine (1 ∷ 0 ∷ 0xAC ∷ 0x02 ∷ 2 ∷ 5 ∷ 90 ∷ 100 ∷ [])) ≡
+      whole
+      (record {
+        nodes = record { lon = 0; lat = 0 } ∷ record { lon = 100; lat = 0 } ∷ [];
+        lines = record { start = 1; end = 0; length = 300; frc = 2; fow = 5; out = 90; back = 100 } ∷ [];
+      })
+  -- "Left-over bytes come last", but before refusal 6, which 5 precedes as well. Also two nodes that do not stand side by side.
+  pub left-over : Refuses 2 (twoNodes (someLine ++ 0 ∷ []) ∷ close (someLine ++ 0 ∷ []) ∷ [])
+  pub line-first : Refuses 5 (close (1 ∷ 0 ∷ 0 ∷ []) ∷ oneLine (0 ∷ 1 ∷ 1 ∷ 7 ∷ 7 ∷ 0 ∷ 0xE8 ∷ 0x02 ∷ 0 ∷ []) ∷ [])
+  pub same-codes : Refuses 6 (close someLine ∷ (3 ∷ 0 ∷ 0 ∷ 100 ∷ 0 ∷ 1 ∷ 0 ∷ someLine) ∷ [])
+
+pub map-cases : MapCases
+unfolding computing
+map-cases =
+    record {
+      numbers = refl;
+      no-numbers = refl;
+      written-numbers = refl;
+      node-counts = refl;
+      bad-node-counts = refl;
+      coordinates = refl;
+      bad-coordinates = refl;
+      line-counts = refl;
+      bad-line-counts = refl;
+      line-fields = refl;
+      bad-line-fields = refl;
+      greatest = refl;
+      in-order = refl;
+      left-over = refl;
+      line-first = refl;
+      same-codes = refl;
+    }
