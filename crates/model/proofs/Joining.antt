@@ -13,12 +13,12 @@ use Rattle.model.specs.Choice.{fromNode, toNode, Good, good, Usable, fin
 use Rattle.model.specs.WellFormed.{WellFormed, LineOk}
 use Rattle.model.proofs.Skipping.{no-gap, first-append, last-append}
 
-first-known : {m : Map} {ls : List ℕ} → Connected m ls → firstOf ls < length (m .lines)
+pub first-known : {m : Map} {ls : List ℕ} → Connected m ls → firstOf ls < length (m .lines)
 unfolding firstOf
 first-known (single h) = h
 first-known (linked h f c) = h
 
-last-known : {m : Map} {ls : List ℕ} → Connected m ls → lastOf ls < length (m .lines)
+pub last-known : {m : Map} {ls : List ℕ} → Connected m ls → lastOf ls < length (m .lines)
 unfolding lastOf
 last-known (single h) = h
 last-known (linked h f c) = last-known c

@@ -1,0 +1,134 @@
+//! Answers calls given one a line on the standard input, for comparing with other programs.
+//!
+//! - `map MAP`
+//! - `leg MAP START END FRC FOW SECTOR CLASS D`, on a last leg with the last line's `FRC FOW SECTOR`
+//! - `read MAP REFERENCE WORK_LENGTH LINE_ROOM`
+//! - `write MAP POS NEG WORK_LENGTH BYTE_ROOM LINE...`
+//!
+//! Bytes are hexadecimal, with `-` for none. Each answer is one line.
+
+use std::fmt::Display;
+use std::io::{self, BufRead, BufWriter, Write};
+
+use plain::depot_map::DepotMap;
+use plain::fields::Marks;
+use plain::legs::{verdict, Leg, LegEnd, Verdict};
+use plain::maps::MapPlan;
+use plain::outcome::Outcome;
+use plain::reader::read;
+use plain::search::{Method, Search};
+use plain::writer::write;
+
+fn main() -> io::Result<()> {
+    let mut out = BufWriter::new(io::stdout().lock());
+    for call in io::stdin().lock().lines() {
+        let answer = answer(&call?).unwrap_or_else(|| "not a call".to_string());
+        writeln!(out, "{}", answer.replace('\n', " "))?;
+    }
+    Ok(())
+}
+
+fn answer(call: &str) -> Option<String> {
+    let mut words = call.split_ascii_whitespace();
+    let (kind, map_bytes) = (words.next()?, bytes(words.next()?)?);
+    if kind == "read" {
+        let reference = bytes(words.next()?)?;
+        let rooms = numbers(words)?;
+        let [work_length, line_room] = rooms[..] else {
+            return None;
+        };
+        return Some(text(read(
+            &map_bytes,
+            &reference,
+            work_length as usize,
+            line_room as usize,
+        )));
+    }
+    let numbers = numbers(words)?;
+    match kind {
+        "map" => Some(text(
+            DepotMap::decode(&map_bytes).map(|map| map_text(&map, &map_bytes)),
+        )),
+        "leg" => leg_answer(&DepotMap::decode(&map_bytes).ok()?, &numbers),
+        "write" => {
+            let [pos, neg, work_length, byte_room, ref stretch @ ..] = numbers[..] else {
+                return None;
+            };
+            let (work_length, byte_room) = (work_length as usize, byte_room as usize);
+            let written = write(&map_bytes, stretch, pos, neg, work_length, byte_room);
+            Some(text(written.map(|reference| reference_text(&reference))))
+        }
+        _ => None,
+    }
+}
+
+fn text<T: Display>(outcome: Outcome<T>) -> String {
+    match outcome {
+        Ok(result) => result.to_string(),
+        Err(refusal) => refusal.to_string(),
+    }
+}
+
+/// A number has one form only, so a map that is put into bytes again gives the same bytes.
+fn map_text(map: &DepotMap, map_bytes: &[u8]) -> String {
+    if MapPlan::of(map).encode() != map_bytes {
+        return "map not read as it stands".to_string();
+    }
+    format!(
+        "map of {} nodes and {} lines",
+        map.nodes.len(),
+        map.lines.len()
+    )
+}
+
+fn reference_text(reference: &[u8]) -> String {
+    let digits: String = reference.iter().map(|byte| format!("{byte:02X}")).collect();
+    format!("bytes {} {digits}", reference.len())
+}
+
+fn leg_answer(map: &DepotMap, numbers: &[u32]) -> Option<String> {
+    let [start, end, frc, fow, sector, class, distance, ref last @ ..] = *numbers else {
+        return None;
+    };
+    let marks = |frc: u32, fow: u32, sector: u32| Marks {
+        frc: frc as u8,
+        fow: fow as u8,
+        sector: sector as u8,
+    };
+    let last_marks = match *last {
+        [frc, fow, sector] => Some(marks(frc, fow, sector)),
+        _ => None,
+    };
+    let leg = Leg {
+        start,
+        first_marks: marks(frc, fow, sector),
+        lowest_class: class as u8,
+        distance: distance as u8,
+        end: LegEnd {
+            node: end,
+            last_marks,
+        },
+    };
+    let mut lines = Vec::new();
+    let name = match verdict(map, &mut Search::new(map, Method::Heap), &leg, &mut lines) {
+        Verdict::None => "none",
+        Verdict::One => "one",
+        Verdict::Several => "several",
+    };
+    let words = lines.iter().map(|line| format!(" {line}"));
+    Some(std::iter::once(name.to_string()).chain(words).collect())
+}
+
+fn bytes(word: &str) -> Option<Vec<u8>> {
+    if word == "-" {
+        return Some(Vec::new());
+    }
+    let pairs = (0..word.len()).step_by(2);
+    pairs
+        .map(|at| u8::from_str_radix(word.get(at..at + 2)?, 16).ok())
+        .collect()
+}
+
+fn numbers<'a>(words: impl Iterator<Item = &'a str>) -> Option<Vec<u32>> {
+    words.map(|word| word.parse().ok()).collect()
+}

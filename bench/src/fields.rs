@@ -1,0 +1,97 @@
+//! The values of the fields of a reference ("The bytes").
+
+use crate::outcome::Span;
+
+/// The longest leg, in decimetres ("What counts as a reading").
+pub const LONGEST_LEG: u32 = 150_000;
+
+/// One step of D, in decimetres.
+pub const DISTANCE_STEP: u32 = 586;
+
+pub const STATUS_BYTE: u8 = 0x0B;
+pub const SHORTEST_REFERENCE: usize = 16;
+pub const LONGEST_REFERENCE: usize = 459;
+pub const FIRST_POINT_BYTES: usize = 9;
+pub const MIDDLE_POINT_BYTES: usize = 7;
+
+/// Bits 7 and 6 of P and bit 7 of R are zero.
+pub const ZERO_BITS_OF_P: u8 = 0xC0;
+pub const ZERO_BIT_OF_R: u8 = 0x80;
+pub const POSITIVE_FLAG: u8 = 0x40;
+pub const NEGATIVE_FLAG: u8 = 0x20;
+
+/// What a point says of its line: FRC and FOW from P, the sector from Q or R.
+#[derive(Clone, Copy, Debug, PartialEq, Eq)]
+pub struct Marks {
+    pub frc: u8,
+    pub fow: u8,
+    pub sector: u8,
+}
+
+impl Marks {
+    /// From P and the byte beside it. That byte is Q or R: both hold the sector in bits 4 to 0.
+    pub fn from_bytes(p: u8, beside: u8) -> Marks {
+        Marks {
+            frc: p >> 3 & 7,
+            fow: p & 7,
+            sector: beside & 31,
+        }
+    }
+
+    pub fn p(self) -> u8 {
+        self.frc << 3 | self.fow
+    }
+}
+
+/// The 24-bit code of a coordinate in hundred-thousandths of a degree. Cutting towards zero makes
+/// the codes of a coordinate and of its opposite opposite, so that the size alone is divided.
+/// Numerator and denominator are doubled: then the half is whole.
+#[inline]
+pub fn coordinate_code(coordinate: i32) -> i32 {
+    let size = u64::from(coordinate.unsigned_abs());
+    let code = ((size * 2 * 16_777_216 + 36_000_000) / (2 * 36_000_000)) as i32;
+    if coordinate < 0 {
+        -code
+    } else {
+        code
+    }
+}
+
+pub fn sector(bearing: u16) -> u8 {
+    (bearing * 4 / 45) as u8
+}
+
+/// D of a leg of at most 150,000 decimetres.
+pub fn distance_byte(leg_length: u32) -> u8 {
+    (leg_length / DISTANCE_STEP) as u8
+}
+
+/// The least and the greatest leg length that give D. The greatest is also a leg's limit.
+pub fn lengths_of_distance_byte(distance: u8) -> (u32, u32) {
+    let least = u32::from(distance) * DISTANCE_STEP;
+    (least, (least + DISTANCE_STEP - 1).min(LONGEST_LEG))
+}
+
+/// The byte of an offset below the leg length.
+pub fn offset_byte(offset: u32, leg_length: u32) -> u8 {
+    (256 * u64::from(offset) / u64::from(leg_length)) as u8
+}
+
+/// The whole offsets from 1 to below the leg length that give the byte, if there are any.
+///
+/// `256 * offset / leg_length` rounds down to `byte` just if
+/// `byte * leg_length <= 256 * offset < (byte + 1) * leg_length`.
+pub fn offset_span(byte: u8, leg_length: u32) -> Option<Span> {
+    let edge = |byte: u64| (byte * u64::from(leg_length)).div_ceil(256);
+    let least = edge(u64::from(byte)).max(1);
+    let beyond = edge(u64::from(byte) + 1);
+    (least < beyond).then(|| Span {
+        least: least as u32,
+        greatest: beyond as u32 - 1,
+    })
+}
+
+/// The 16-bit difference of two coordinates, if it fits.
+pub fn difference(from: i32, to: i32) -> Option<i16> {
+    i16::try_from(to - from).ok()
+}

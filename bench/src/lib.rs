@@ -1,0 +1,11 @@
+//! Line references on a depot map in plain Rust: a second, unrelated implementation
+//! to measure against and to compare with.
+
+pub mod depot_map;
+pub mod fields;
+pub mod legs;
+pub mod maps;
+pub mod outcome;
+pub mod reader;
+pub mod search;
+pub mod writer;

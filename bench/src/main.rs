@@ -1,0 +1,320 @@
+//! The benchmark: each row times the proved function and the plain Rust one in turn, in one
+//! process, and prints `what | ours µs | plain Rust µs | ratio`.
+
+mod proved;
+
+use std::hint::black_box;
+use std::time::{Duration, Instant};
+
+use plain::depot_map::DepotMap;
+use plain::maps::{chain, grid, random_graph, random_walk, reference_with_legs, Lengths, Xorshift};
+use plain::outcome::WORK_AREA;
+use proved::{functions, ProvedFunctions};
+use plain::reader::read;
+use plain::search::{Bounds, Method, Search};
+use plain::writer::{write, write_on_map};
+
+/// The best of many short rounds: a round that something else disturbs does not count.
+const ROUNDS: usize = 400;
+const ROUND_TIME: Duration = Duration::from_micros(60);
+
+/// Different inputs in one row, so that it does not hang on one of them.
+const INPUTS: usize = 8;
+
+const BYTE_ROOM: usize = 459;
+const LINE_ROOM: usize = 65_536;
+
+/// A function to time, on the input with this number.
+type Call<'a> = Box<dyn FnMut(usize) + 'a>;
+
+/// What a row times.
+struct Row<'a> {
+    what: String,
+    inputs: usize,
+    ours: Option<Call<'a>>,
+    plain: Call<'a>,
+}
+
+impl Row<'_> {
+    fn print(mut self) {
+        let plain = &mut *self.plain;
+        let Some(ours) = self.ours.as_deref_mut() else {
+            let [plain] = time_in_turn([plain], self.inputs);
+            println!("{} | - | {plain:.2} | -", self.what);
+            return;
+        };
+        let [ours, plain] = time_in_turn([ours, plain], self.inputs);
+        let ratio = ours / plain;
+        println!("{} | {ours:.2} | {plain:.2} | {ratio:.2}", self.what);
+    }
+}
+
+/// The time of one call of each function in microseconds: the best for each input, and the mean
+/// of these. The rounds of the functions take turns.
+fn time_in_turn<const COUNT: usize>(
+    mut calls: [&mut dyn FnMut(usize); COUNT],
+    inputs: usize,
+) -> [f64; COUNT] {
+    let mut sums = [0.0; COUNT];
+    for input in 0..inputs {
+        let repeats = calls
+            .each_mut()
+            .map(|call| repeats_for_a_round(call, input));
+        let mut best = [f64::INFINITY; COUNT];
+        for _ in 0..ROUNDS {
+            for (number, call) in calls.iter_mut().enumerate() {
+                let time = time_of(call, input, repeats[number]).as_secs_f64() * 1e6;
+                best[number] = best[number].min(time / f64::from(repeats[number]));
+            }
+        }
+        for (sum, best) in sums.iter_mut().zip(best) {
+            *sum += best;
+        }
+    }
+    sums.map(|sum| sum / inputs as f64)
+}
+
+fn repeats_for_a_round(call: &mut dyn FnMut(usize), input: usize) -> u32 {
+    let mut repeats = 1;
+    while time_of(call, input, repeats) < ROUND_TIME {
+        repeats *= 2;
+    }
+    repeats
+}
+
+fn time_of(call: &mut dyn FnMut(usize), input: usize, repeats: u32) -> Duration {
+    let start = Instant::now();
+    for _ in 0..repeats {
+        call(input);
+    }
+    start.elapsed()
+}
+
+/// A full-size map with its bytes.
+struct Sample {
+    name: &'static str,
+    bytes: Vec<u8>,
+    map: DepotMap,
+}
+
+fn samples() -> Vec<Sample> {
+    let plans = [
+        ("grid, equal lengths", grid(1, Lengths::Equal)),
+        ("grid", grid(2, Lengths::SlightlyDifferent)),
+        ("random", random_graph(3, Lengths::SlightlyDifferent)),
+        ("chain", chain(4, Lengths::SlightlyDifferent)),
+    ];
+    let sample = |(name, plan): (&'static str, plain::maps::MapPlan)| {
+        let bytes = plan.shuffled(5).encode();
+        let map = DepotMap::decode(&bytes).expect("a maker makes maps");
+        Sample { name, bytes, map }
+    };
+    plans.into_iter().map(sample).collect()
+}
+
+fn main() {
+    let proved = functions();
+    println!("what | ours µs | plain Rust µs | ratio");
+    for sample in &samples() {
+        decode_row(&proved, sample).print();
+        search_rows(&proved, sample);
+        reading_rows(&proved, sample);
+        writing_rows(&proved, sample);
+    }
+}
+
+fn decode_row<'a>(proved: &ProvedFunctions, sample: &'a Sample) -> Row<'a> {
+    let plain = |_| {
+        let _ = black_box(DepotMap::decode(black_box(&sample.bytes)));
+    };
+    Row {
+        what: format!("decode, {}, {} bytes", sample.name, sample.bytes.len()),
+        inputs: 1,
+        ours: proved_decoding(proved, sample),
+        plain: Box::new(plain),
+    }
+}
+
+fn proved_decoding<'a>(proved: &ProvedFunctions, sample: &'a Sample) -> Option<Call<'a>> {
+    let decode = proved.decode?;
+    let mut work_area = vec![0; WORK_AREA];
+    Some(Box::new(move |_| {
+        black_box(decode(black_box(&sample.bytes), &mut work_area));
+    }))
+}
+
+fn search_rows(proved: &ProvedFunctions, sample: &Sample) {
+    for (method, method_name) in [(Method::Queue, "queue"), (Method::Heap, "heap")] {
+        for limit in [5_000, 15_000, 150_000] {
+            let bounds = first_lines(sample).map(|first| Bounds {
+                first,
+                class: 7,
+                limit,
+            });
+            let mut row = search_row(proved, sample, bounds, method);
+            row.what = format!("search, {}, limit {limit}, {method_name}", sample.name);
+            row.print();
+        }
+    }
+}
+
+fn first_lines(sample: &Sample) -> [u32; INPUTS] {
+    let mut rng = Xorshift::new(6);
+    [(); INPUTS].map(|()| rng.below(sample.map.lines.len() as u32))
+}
+
+fn search_row<'a>(
+    proved: &ProvedFunctions,
+    sample: &'a Sample,
+    bounds: [Bounds; INPUTS],
+    method: Method,
+) -> Row<'a> {
+    let mut search = Search::new(&sample.map, method);
+    let plain = move |input: usize| {
+        search.run(&sample.map, black_box(bounds[input]));
+        black_box(&search);
+    };
+    Row {
+        what: String::new(),
+        inputs: INPUTS,
+        ours: proved_search(proved, sample, bounds),
+        plain: Box::new(plain),
+    }
+}
+
+/// The map is decoded once, outside the time.
+fn proved_search<'a>(
+    proved: &ProvedFunctions,
+    sample: &'a Sample,
+    bounds: [Bounds; INPUTS],
+) -> Option<Call<'a>> {
+    let (decode, search) = (proved.decode?, proved.search?);
+    let mut work_area = vec![0; WORK_AREA];
+    decode(&sample.bytes, &mut work_area);
+    Some(Box::new(move |input| {
+        let bounds = black_box(bounds[input]);
+        search(&mut work_area, bounds.first, bounds.class, bounds.limit);
+        black_box(&work_area);
+    }))
+}
+
+/// Legs and their lengths. 64 long legs are nearly the most work that a reference can ask for.
+const REFERENCES: [(usize, u32); 5] = [
+    (1, 12_000),
+    (3, 12_000),
+    (64, 1_500),
+    (64, 12_000),
+    (64, 50_000),
+];
+
+fn reading_rows(proved: &ProvedFunctions, sample: &Sample) {
+    for (legs, leg_length) in REFERENCES {
+        let mut rng = Xorshift::new(7);
+        let mut next = || reference_with_legs(&mut rng, &sample.map, legs, leg_length);
+        let references: Vec<_> = (0..INPUTS).map_while(|_| next()).collect();
+        if references.is_empty() {
+            continue;
+        }
+        let lines: usize = references.iter().map(|(_, lines)| lines.len()).sum();
+        let lines = lines / references.len();
+        let references = references.into_iter().map(|(bytes, _)| bytes).collect();
+        let mut row = reading_row(proved, sample, references);
+        row.what = format!("read, {}, legs {legs}, lines {lines}", sample.name);
+        row.print();
+    }
+}
+
+fn reading_row<'a>(
+    proved: &ProvedFunctions,
+    sample: &'a Sample,
+    references: Vec<Vec<u8>>,
+) -> Row<'a> {
+    let inputs = references.len();
+    let ours = proved_reading(proved, sample, references.clone());
+    let plain = move |input: usize| {
+        let (map_bytes, reference) = black_box((&sample.bytes, &references[input]));
+        let _ = black_box(read(map_bytes, reference, WORK_AREA, LINE_ROOM));
+    };
+    Row {
+        what: String::new(),
+        inputs,
+        ours,
+        plain: Box::new(plain),
+    }
+}
+
+fn proved_reading<'a>(
+    proved: &ProvedFunctions,
+    sample: &'a Sample,
+    references: Vec<Vec<u8>>,
+) -> Option<Call<'a>> {
+    let read = proved.read?;
+    let mut work_area = vec![0; WORK_AREA];
+    let mut line_buffer = vec![0; LINE_ROOM];
+    Some(Box::new(move |input| {
+        let (map_bytes, reference) = black_box((&sample.bytes, &references[input]));
+        let read = read(map_bytes, reference, &mut work_area, &mut line_buffer);
+        let _ = black_box(read);
+    }))
+}
+
+fn writing_rows(proved: &ProvedFunctions, sample: &Sample) {
+    for count in [4, 16, 64] {
+        let stretches = accepted_stretches(sample, count);
+        if stretches.is_empty() {
+            continue;
+        }
+        let mut row = writing_row(proved, sample, stretches);
+        row.what = format!("write, {}, lines {count}", sample.name);
+        row.print();
+    }
+}
+
+fn accepted_stretches(sample: &Sample, count: usize) -> Vec<Vec<u32>> {
+    let mut rng = Xorshift::new(8);
+    let walks = (0..10_000).filter_map(|_| random_walk(&mut rng, &sample.map, count));
+    let accepted =
+        |walk: &Vec<u32>| write_on_map(&sample.map, walk, 0, 0, BYTE_ROOM, Method::Heap).is_ok();
+    walks.filter(accepted).take(INPUTS).collect()
+}
+
+fn writing_row<'a>(
+    proved: &ProvedFunctions,
+    sample: &'a Sample,
+    stretches: Vec<Vec<u32>>,
+) -> Row<'a> {
+    let inputs = stretches.len();
+    let ours = proved_writing(proved, sample, stretches.clone());
+    let plain = move |input: usize| {
+        let (map_bytes, stretch) = black_box((&sample.bytes, &stretches[input]));
+        let _ = black_box(write(map_bytes, stretch, 0, 0, WORK_AREA, BYTE_ROOM));
+    };
+    Row {
+        what: String::new(),
+        inputs,
+        ours,
+        plain: Box::new(plain),
+    }
+}
+
+fn proved_writing<'a>(
+    proved: &ProvedFunctions,
+    sample: &'a Sample,
+    stretches: Vec<Vec<u32>>,
+) -> Option<Call<'a>> {
+    let write = proved.write?;
+    let mut work_area = vec![0; WORK_AREA];
+    let mut byte_buffer = vec![0; BYTE_ROOM];
+    Some(Box::new(move |input| {
+        let (map_bytes, stretch) = black_box((&sample.bytes, &stretches[input]));
+        let offsets = (0, 0);
+        let written = write(
+            map_bytes,
+            stretch,
+            offsets,
+            &mut work_area,
+            &mut byte_buffer,
+        );
+        let _ = black_box(written);
+    }))
+}

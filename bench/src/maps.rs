@@ -1,0 +1,402 @@
+//! Makers of maps and stretches from a seed, for measuring and comparing.
+
+use std::collections::HashSet;
+
+use crate::depot_map::{DepotMap, Line, Node};
+use crate::fields::{coordinate_code, distance_byte};
+use crate::legs::{verdict, Leg, LegEnd, Verdict};
+use crate::reader::read_on_map;
+use crate::search::{Bounds, Method, Search};
+use crate::writer::{reference_bytes, Stretch};
+
+/// A xorshift generator with a multiplied output.
+pub struct Xorshift(u64);
+
+impl Xorshift {
+    pub fn new(seed: u64) -> Xorshift {
+        // The state must not be 0.
+        Xorshift(seed.wrapping_mul(0x9E37_79B9_7F4A_7C15) | 1)
+    }
+
+    pub fn draw(&mut self) -> u64 {
+        self.0 ^= self.0 >> 12;
+        self.0 ^= self.0 << 25;
+        self.0 ^= self.0 >> 27;
+        self.0.wrapping_mul(0x2545_F491_4F6C_DD1D)
+    }
+
+    /// A number from 0 to below the bound.
+    pub fn below(&mut self, bound: u32) -> u32 {
+        (((self.draw() >> 32) * u64::from(bound)) >> 32) as u32
+    }
+
+    /// A number from the least to the greatest, both included.
+    pub fn within(&mut self, least: u32, greatest: u32) -> u32 {
+        least + self.below(greatest - least + 1)
+    }
+
+    pub fn pick<'a, T>(&mut self, items: &'a [T]) -> &'a T {
+        &items[self.below(items.len() as u32) as usize]
+    }
+
+    pub fn shuffle<T>(&mut self, items: &mut [T]) {
+        for last in (1..items.len()).rev() {
+            items.swap(last, self.below(last as u32 + 1) as usize);
+        }
+    }
+}
+
+/// A map before it is put into bytes.
+#[derive(Clone, Debug, Default, PartialEq, Eq)]
+pub struct MapPlan {
+    pub nodes: Vec<Node>,
+    pub lines: Vec<Line>,
+}
+
+impl MapPlan {
+    pub fn of(map: &DepotMap) -> MapPlan {
+        MapPlan {
+            nodes: map.nodes.clone(),
+            lines: map.lines.clone(),
+        }
+    }
+
+    /// The bytes in the order of "The depot map".
+    pub fn encode(&self) -> Vec<u8> {
+        let mut bytes = Vec::new();
+        push_number(&mut bytes, self.nodes.len() as u32);
+        for node in &self.nodes {
+            push_number(&mut bytes, (node.longitude + 18_000_000) as u32);
+            push_number(&mut bytes, (node.latitude + 9_000_000) as u32);
+        }
+        push_number(&mut bytes, self.lines.len() as u32);
+        for line in &self.lines {
+            let classes = [u32::from(line.frc), u32::from(line.fow)];
+            let bearings = [u32::from(line.bearing_out), u32::from(line.bearing_back)];
+            for number in [line.start, line.end, line.length] {
+                push_number(&mut bytes, number);
+            }
+            for number in classes.into_iter().chain(bearings) {
+                push_number(&mut bytes, number);
+            }
+        }
+        bytes
+    }
+
+    /// The same map with its lines in another order.
+    pub fn shuffled(mut self, seed: u64) -> MapPlan {
+        Xorshift::new(seed).shuffle(&mut self.lines);
+        self
+    }
+}
+
+/// A number in its shortest form: seven bits a byte, lowest first.
+pub fn push_number(bytes: &mut Vec<u8>, mut number: u32) {
+    while number >= 0x80 {
+        bytes.push(number as u8 | 0x80);
+        number >>= 7;
+    }
+    bytes.push(number as u8);
+}
+
+/// How the lengths of a maker's lines vary.
+#[derive(Clone, Copy, Debug, PartialEq, Eq)]
+pub enum Lengths {
+    Equal,
+    SlightlyDifferent,
+}
+
+impl Lengths {
+    fn around(self, rng: &mut Xorshift, length: u32) -> u32 {
+        match self {
+            Lengths::Equal => length,
+            Lengths::SlightlyDifferent => length + rng.below(1 + length / 20),
+        }
+    }
+}
+
+const FULL_NODES: u32 = 512;
+const FULL_LINES: usize = 1024;
+
+/// Most lines have one of two classes, so that a search under a class still goes far.
+fn mixed_frc(rng: &mut Xorshift) -> u8 {
+    *rng.pick(&[3, 3, 3, 3, 3, 4, 4, 4, 4, 2, 2, 5, 6, 7])
+}
+
+/// The compass bearing between two nodes, in whole degrees.
+fn bearing(from: Node, to: Node) -> u16 {
+    let east = f64::from(to.longitude - from.longitude);
+    let north = f64::from(to.latitude - from.latitude);
+    (east.atan2(north).to_degrees().rem_euclid(360.0) as u16).min(359)
+}
+
+fn line_between(plan: &MapPlan, ends: (u32, u32), length: u32, frc: u8, fow: u8) -> Line {
+    let (start, end) = ends;
+    let (from, to) = (plan.nodes[start as usize], plan.nodes[end as usize]);
+    Line {
+        start,
+        end,
+        length,
+        frc,
+        fow,
+        bearing_out: bearing(from, to),
+        bearing_back: bearing(to, from),
+    }
+}
+
+/// 16 by 32 junctions. Neighbouring streets run opposite ways; lines the other way, chosen
+/// freely, fill the map up to 1,024.
+pub fn grid(seed: u64, lengths: Lengths) -> MapPlan {
+    const COLUMNS: u32 = 16;
+    let rng = &mut Xorshift::new(seed);
+    let mut plan = MapPlan::default();
+    for node in 0..FULL_NODES {
+        let (row, column) = (node / COLUMNS, node % COLUMNS);
+        plan.nodes.push(Node {
+            longitude: 500_000 + 100 * column as i32,
+            latitude: 5_200_000 + 100 * row as i32,
+        });
+    }
+    for node in 0..FULL_NODES {
+        let (row, column) = (node / COLUMNS, node % COLUMNS);
+        let east = (column + 1 < COLUMNS).then_some((node + 1, row));
+        let north = (node + COLUMNS < FULL_NODES).then_some((node + COLUMNS, column));
+        for (neighbour, street) in east.into_iter().chain(north) {
+            let forward = street % 2 == 0;
+            let ends = if forward {
+                (node, neighbour)
+            } else {
+                (neighbour, node)
+            };
+            let (length, frc) = (lengths.around(rng, 1000), mixed_frc(rng));
+            plan.lines.push(line_between(&plan, ends, length, frc, 3));
+        }
+    }
+    add_opposite_lines(rng, &mut plan);
+    plan
+}
+
+fn add_opposite_lines(rng: &mut Xorshift, plan: &mut MapPlan) {
+    let count = plan.lines.len() as u32;
+    while plan.lines.len() < FULL_LINES {
+        let line = plan.lines[rng.below(count) as usize];
+        let opposite = line_between(
+            plan,
+            (line.end, line.start),
+            line.length,
+            line.frc,
+            line.fow,
+        );
+        plan.lines.push(opposite);
+    }
+}
+
+/// Nodes anywhere in a square whose sides fit the differences, two lines out of each.
+pub fn random_graph(seed: u64, lengths: Lengths) -> MapPlan {
+    let rng = &mut Xorshift::new(seed);
+    let mut plan = MapPlan {
+        nodes: scattered_nodes(rng, FULL_NODES, 30_000),
+        lines: Vec::new(),
+    };
+    for number in 0..FULL_LINES as u32 {
+        let start = number % FULL_NODES;
+        let end = (start + 1 + rng.below(FULL_NODES - 1)) % FULL_NODES;
+        let length = match lengths {
+            Lengths::Equal => 1000,
+            Lengths::SlightlyDifferent => rng.within(300, 2500),
+        };
+        let (frc, fow) = (mixed_frc(rng), rng.within(1, 4) as u8);
+        plan.lines
+            .push(line_between(&plan, (start, end), length, frc, fow));
+    }
+    plan
+}
+
+/// Nodes in a square, no two with the same codes.
+fn scattered_nodes(rng: &mut Xorshift, count: u32, side: u32) -> Vec<Node> {
+    let mut nodes = Vec::new();
+    let mut codes = HashSet::new();
+    while nodes.len() < count as usize {
+        let node = Node {
+            longitude: rng.below(side) as i32 - side as i32 / 2,
+            latitude: rng.below(side) as i32 - side as i32 / 2,
+        };
+        if codes.insert((
+            coordinate_code(node.longitude),
+            coordinate_code(node.latitude),
+        )) {
+            nodes.push(node);
+        }
+    }
+    nodes
+}
+
+/// One road of 512 nodes with a line each way, and two lines beside others: with equal lengths
+/// ties, else a little longer. The whole road is just within the longest leg.
+pub fn chain(seed: u64, lengths: Lengths) -> MapPlan {
+    let rng = &mut Xorshift::new(seed);
+    let mut plan = MapPlan::default();
+    for node in 0..FULL_NODES as i32 {
+        plan.nodes.push(Node {
+            longitude: 50 * node,
+            latitude: -30 * node,
+        });
+    }
+    for node in 1..FULL_NODES {
+        let (length, frc) = (lengths.around(rng, 280), mixed_frc(rng));
+        for ends in [(node - 1, node), (node, node - 1)] {
+            plan.lines.push(line_between(&plan, ends, length, frc, 2));
+        }
+    }
+    while plan.lines.len() < FULL_LINES {
+        let mut beside = *rng.pick(&plan.lines);
+        beside.length += u32::from(lengths != Lengths::Equal);
+        plan.lines.push(beside);
+    }
+    plan
+}
+
+/// A small map full of ties: few lengths, few marks, lines beside each other.
+pub fn small_map(seed: u64) -> MapPlan {
+    let rng = &mut Xorshift::new(seed);
+    let node_count = rng.within(2, 12);
+    let side = *rng.pick(&[100, 1000, 60_000]);
+    let mut plan = MapPlan {
+        nodes: scattered_nodes(rng, node_count, side),
+        lines: Vec::new(),
+    };
+    let longest = *rng.pick(&[1, 2, 3, 400, 1200, 60_000]);
+    let classes = rng.within(1, 8);
+    let sectors = rng.within(1, 4);
+    for _ in 0..rng.within(1, 4 * node_count) {
+        let start = rng.below(node_count);
+        let end = (start + 1 + rng.below(node_count - 1)) % node_count;
+        let mut line = line_between(&plan, (start, end), rng.within(1, longest), 0, 3);
+        line.frc = rng.below(classes) as u8;
+        line.fow = rng.below(2) as u8;
+        line.bearing_out = (90 * rng.below(sectors)) as u16;
+        line.bearing_back = (90 * rng.below(sectors)) as u16;
+        plan.lines.push(line);
+    }
+    plan
+}
+
+/// A walk of this many lines from a line chosen freely, if no dead end is met. Where there is a
+/// choice it does not turn back to the node it came from.
+pub fn random_walk(rng: &mut Xorshift, map: &DepotMap, count: usize) -> Option<Vec<u32>> {
+    let mut line = rng.below(map.lines.len() as u32);
+    let mut walk = vec![line];
+    while walk.len() < count {
+        let at = map.line(line);
+        let leaving = map.outgoing.of(at.end);
+        let onward = |next: &&u32| map.line(**next).end != at.start;
+        let ahead: Vec<u32> = leaving.iter().filter(onward).copied().collect();
+        let choices = if ahead.is_empty() { leaving } else { &ahead };
+        if choices.is_empty() {
+            return None;
+        }
+        line = *rng.pick(choices);
+        walk.push(line);
+    }
+    Some(walk)
+}
+
+/// A reference of this many legs, each of about this length, that the reader accepts, and the
+/// lines it stands for. Unlike a stretch it may have more than 64 lines.
+pub fn reference_with_legs(
+    rng: &mut Xorshift,
+    map: &DepotMap,
+    legs: usize,
+    leg_length: u32,
+) -> Option<(Vec<u8>, Vec<u32>)> {
+    let mut search = Search::new(map, Method::Heap);
+    for _ in 0..1000 {
+        let Some((lines, places)) = joined_legs(rng, map, &mut search, legs, leg_length) else {
+            continue;
+        };
+        let stretch = Stretch {
+            lines: &lines,
+            positive: 0,
+            negative: 0,
+        };
+        let reference = reference_bytes(map, &stretch, &places);
+        let read = read_on_map(map, &reference, usize::MAX, Method::Heap);
+        if read.is_ok_and(|reading| reading.lines == lines) {
+            return Some((reference, lines));
+        }
+    }
+    None
+}
+
+/// Legs that are only readings, each from where the one before ends: the lines and the places
+/// of the points among them.
+fn joined_legs(
+    rng: &mut Xorshift,
+    map: &DepotMap,
+    search: &mut Search,
+    legs: usize,
+    leg_length: u32,
+) -> Option<(Vec<u32>, Vec<usize>)> {
+    let mut node = rng.below(map.nodes.len() as u32);
+    let mut lines = Vec::new();
+    let mut places = vec![0];
+    while places.len() <= legs {
+        let leg = (0..20).find_map(|_| only_reading(rng, map, search, node, leg_length))?;
+        node = map.line(*leg.last()?).end;
+        lines.extend_from_slice(&leg);
+        places.push(lines.len());
+    }
+    Some((lines, places))
+}
+
+/// A least way of about the wanted length from the node, if it is the only reading of its leg.
+fn only_reading(
+    rng: &mut Xorshift,
+    map: &DepotMap,
+    search: &mut Search,
+    node: u32,
+    leg_length: u32,
+) -> Option<Vec<u32>> {
+    let leaving = map.outgoing.of(node);
+    if leaving.is_empty() {
+        return None;
+    }
+    let bounds = Bounds {
+        first: *rng.pick(leaving),
+        class: 7,
+        limit: leg_length,
+    };
+    search.run(map, bounds);
+    let numbers = 0..map.lines.len() as u32;
+    let far = |line: &u32| {
+        search
+            .least(*line)
+            .is_some_and(|least| 2 * least > leg_length)
+    };
+    let ends: Vec<u32> = numbers.filter(far).collect();
+    if ends.is_empty() {
+        return None;
+    }
+    let mut way = Vec::new();
+    search.append_way(*rng.pick(&ends), &mut way);
+    let leg = leg_of_lines(map, &way);
+    let mut read = Vec::new();
+    let verdict = verdict(map, search, &leg, &mut read);
+    (verdict == Verdict::One && read == way).then_some(way)
+}
+
+/// The leg that the bytes of a line list describe, when it is not the last.
+fn leg_of_lines(map: &DepotMap, lines: &[u32]) -> Leg {
+    let (first, last) = (map.line(lines[0]), map.line(lines[lines.len() - 1]));
+    let each = || lines.iter().map(|&line| map.line(line));
+    Leg {
+        start: first.start,
+        first_marks: first.leaving_marks(),
+        lowest_class: each().fold(0, |class, line| class.max(line.frc)),
+        distance: distance_byte(each().map(|line| line.length).sum()),
+        end: LegEnd {
+            node: last.end,
+            last_marks: None,
+        },
+    }
+}

@@ -1,0 +1,120 @@
+//! What a call answers: its result, or a refusal with the number of the scope paper's table.
+
+use std::fmt;
+
+/// A refusal of "Refused, by place". Three of them carry a point or a leg, counted from 0.
+#[derive(Clone, Copy, Debug, PartialEq, Eq)]
+pub enum Refusal {
+    WorkArea,
+    MapBytes,
+    Count,
+    Coordinate,
+    LineField,
+    SameCodes,
+    NoSuchLines,
+    LinesNotJoined,
+    OffsetsReachTotal,
+    NoUsablePoints,
+    ByteRoom,
+    ReferenceLength,
+    StatusByte,
+    ZeroBit,
+    FlagCount,
+    PointWithoutNode(u32),
+    LegWithoutReading(u32),
+    LegWithSeveralReadings(u32),
+    OffsetByte,
+    LineRoom,
+}
+
+pub type Outcome<T> = Result<T, Refusal>;
+
+/// The least and the greatest offset that give an offset byte; 0 and 0 if the offset is unflagged.
+#[derive(Clone, Copy, Debug, Default, PartialEq, Eq)]
+pub struct Span {
+    pub least: u32,
+    pub greatest: u32,
+}
+
+/// What the reader hands back when it accepts.
+#[derive(Clone, Debug, PartialEq, Eq)]
+pub struct Reading {
+    pub lines: Vec<u32>,
+    pub positive: Span,
+    pub negative: Span,
+}
+
+/// "Every call": the least work area, in numbers of 32 bits.
+pub const WORK_AREA: usize = 12_288;
+
+pub fn check_work_area(work_length: usize) -> Outcome<()> {
+    if work_length < WORK_AREA {
+        return Err(Refusal::WorkArea);
+    }
+    Ok(())
+}
+
+impl Refusal {
+    pub fn number(self) -> u32 {
+        match self {
+            Refusal::WorkArea => 1,
+            Refusal::MapBytes => 2,
+            Refusal::Count => 3,
+            Refusal::Coordinate => 4,
+            Refusal::LineField => 5,
+            Refusal::SameCodes => 6,
+            Refusal::NoSuchLines => 7,
+            Refusal::LinesNotJoined => 8,
+            Refusal::OffsetsReachTotal => 9,
+            Refusal::NoUsablePoints => 10,
+            Refusal::ByteRoom => 11,
+            Refusal::ReferenceLength => 12,
+            Refusal::StatusByte => 13,
+            Refusal::ZeroBit => 14,
+            Refusal::FlagCount => 15,
+            Refusal::PointWithoutNode(_) => 16,
+            Refusal::LegWithoutReading(_) => 17,
+            Refusal::LegWithSeveralReadings(_) => 18,
+            Refusal::OffsetByte => 19,
+            Refusal::LineRoom => 20,
+        }
+    }
+
+    pub fn place(self) -> Option<u32> {
+        match self {
+            Refusal::PointWithoutNode(place)
+            | Refusal::LegWithoutReading(place)
+            | Refusal::LegWithSeveralReadings(place) => Some(place),
+            _ => None,
+        }
+    }
+}
+
+/// As the printing program does it ("The tie at the ridge").
+impl fmt::Display for Refusal {
+    fn fmt(&self, out: &mut fmt::Formatter<'_>) -> fmt::Result {
+        write!(out, "refused {}", self.number())?;
+        match self.place() {
+            Some(place) => write!(out, " {place}"),
+            None => Ok(()),
+        }
+    }
+}
+
+impl fmt::Display for Reading {
+    fn fmt(&self, out: &mut fmt::Formatter<'_>) -> fmt::Result {
+        let (positive, negative) = (self.positive, self.negative);
+        write!(
+            out,
+            "lines {} pos {} {}",
+            self.lines.len(),
+            positive.least,
+            positive.greatest
+        )?;
+        write!(out, " neg {} {}", negative.least, negative.greatest)?;
+        for line in &self.lines {
+            write!(out, "\n{line}")?;
+        }
+        Ok(())
+    }
+}

@@ -1,0 +1,72 @@
+//! Where the proved functions are plugged in.
+//!
+//! The benchmark asks this module alone for them. A function that is `None` has no counterpart
+//! yet: its rows show the plain Rust time alone.
+
+/// The refusal number and, for refusals 16 to 18, the point or leg.
+pub type ProvedRefusal = (u32, Option<u32>);
+
+/// The count of lines and the spans of the offsets: least and greatest of the positive, least and
+/// greatest of the negative one.
+pub type ProvedReading = (usize, [u32; 4]);
+
+/// Decodes a map into the work area. The answer is the refusal, if there is one.
+pub type Decode = fn(map_bytes: &[u8], work_area: &mut [u32]) -> Option<ProvedRefusal>;
+
+/// Searches on a map that is decoded in the work area: first line, class, limit. The answers stay
+/// in the work area.
+pub type SearchLines = fn(work_area: &mut [u32], first: u32, class: u8, limit: u32);
+
+/// Reads a reference into the line buffer.
+pub type Read = fn(
+    map_bytes: &[u8],
+    reference: &[u8],
+    work_area: &mut [u32],
+    line_buffer: &mut [u32],
+) -> Result<ProvedReading, ProvedRefusal>;
+
+/// Writes a stretch into the byte buffer: the stretch, the positive and the negative offset.
+/// The answer is the count of bytes.
+pub type Write = fn(
+    map_bytes: &[u8],
+    stretch: &[u32],
+    offsets: (u32, u32),
+    work_area: &mut [u32],
+    byte_buffer: &mut [u8],
+) -> Result<usize, ProvedRefusal>;
+
+#[derive(Clone, Copy, Default)]
+pub struct ProvedFunctions {
+    pub decode: Option<Decode>,
+    pub search: Option<SearchLines>,
+    pub read: Option<Read>,
+    pub write: Option<Write>,
+}
+
+#[link(name = "measured", kind = "static")]
+extern "C" {
+    fn measured_read_map(map: *const u8, map_len: usize, work: *mut u32, work_len: usize) -> u32;
+}
+
+fn decode(map_bytes: &[u8], work_area: &mut [u32]) -> Option<ProvedRefusal> {
+    // The function reads and writes within the two slices alone; that it does is proved.
+    let refusal = unsafe {
+        measured_read_map(
+            map_bytes.as_ptr(),
+            map_bytes.len(),
+            work_area.as_mut_ptr(),
+            work_area.len(),
+        )
+    };
+    (refusal != 0).then_some((refusal, None))
+}
+
+/// The proved functions that there are.
+pub fn functions() -> ProvedFunctions {
+    ProvedFunctions {
+        decode: Some(decode),
+        search: None,
+        read: None,
+        write: None,
+    }
+}

@@ -1,0 +1,2 @@
+-- What the parts of a file of cases are.
+pub mod Part

@@ -1,0 +1,73 @@
+// Test cases in a file: parts one after another, each behind its length in two bytes, low byte first.
+// What a part means is for the program that reads it.
+ghost use mathlib.Core.Path.{_≡_};
+ghost use Prim.Native.Nat.{_+_, _*_, _≤_, _<_};
+ghost use lib.ListN.{length, getD};
+ghost use Rattle.io.specs.Counts.{Counts};
+ghost use Rattle.cases.specs.Part.{PartIs, wordAt};
+
+// The bytes of a file, first in the buffer, as many as fit. A missing file counts as empty.
+pub fn load(path: &[u8], buffer: &mut [u8]) -> usize
+    ensures { λ r. ⌜ Counts r (now (buffer .exit)) ⌝ }
+{
+    let fd = os::open_read(path);
+    if fd < 0 {
+        return io::count(0, buffer);
+    }
+    let n = io::read_full(fd, buffer);
+    libc::close(fd);
+    n
+}
+
+// Room for a file of cases. A literal of this size in `main` itself is too large for the checker.
+pub fn megabyte() -> [u8; 1048576]
+    ensures { λ r. ⌜ 1048576 ≡ length r ⌝ }
+{
+    [0; 1048576]
+}
+
+fn wide(byte: u8) -> usize
+    ensures { λ r. ⌜ (r ≡ byte) × (r < 256) ⌝ }
+{
+    byte as usize
+}
+
+// Where a part starts and ends, or that there is none.
+pub enum Part {
+    At(usize, usize),
+    Nothing,
+}
+
+// The part whose length stands at byte `at`.
+pub fn part_at(bytes: &[u8], at: usize) -> Part
+    ensures { λ r. ⌜ PartIs (now (bytes .entry)) at r ⌝ }
+{
+    if bytes.len() <= at {
+        return Part::Nothing;
+    }
+    if bytes.len() - at < 2 {
+        return Part::Nothing;
+    }
+    let size = wide(bytes[at]) + wide(bytes[at + 1]) * 256;
+    let from = at + 2;
+    if bytes.len() - from < size {
+        return Part::Nothing;
+    }
+    Part::At(from, from + size)
+}
+
+// The number of four bytes, low byte first, at byte `at`; 0 where they are not all there.
+pub fn word_at(bytes: &[u8], at: usize) -> u32
+    ensures { λ r. ⌜ r ≡ wordAt (now (bytes .entry)) at ⌝ }
+{
+    if bytes.len() <= at {
+        return 0;
+    }
+    if bytes.len() - at < 4 {
+        return 0;
+    }
+    (wide(bytes[at])
+        + wide(bytes[at + 1]) * 256
+        + wide(bytes[at + 2]) * 65_536
+        + wide(bytes[at + 3]) * 16_777_216) as u32
+}

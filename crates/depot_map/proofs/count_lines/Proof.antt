@@ -1,0 +1,53 @@
+-- `count_lines` meets its contract: a refused count, or the stage of the lines.
+use Rattle.model.specs.Refusal.{numberOf, refusalOf}
+use Rattle.model.specs.Map.{decodeNodes}
+use Rattle.depot_map.proofs.Kept.{kept-none}
+use Rattle.depot_map.proofs.Steps.{field-on, field-off, field-range}
+use Rattle.depot_map.proofs.Stages.{stage-refused, stage-then}
+use native.Mathlib.Omega.{arith}
+use borrow.Author.Needs.{needs}
+use Rattle.depot_map.proofs.count_lines.Statement.{statement}
+use Rattle.depot_map.proofs.count_lines.Tie as tie
+
+field-requires : tie.Need-field-requires
+field-requires c κs = search needs
+
+enum-known-lines : tie.Need-enum-known-lines
+enum-known-lines c = search needs
+
+read-lines-requires : tie.Need-read-lines-requires
+read-lines-requires c κs =
+    let known = c .before .before in
+    let few = field-range (known .before .before .field .ensures) (known .lines .given .1) in
+    omega arith
+
+enum-known-why : tie.Need-enum-known-why
+enum-known-why c = search needs
+
+same-length : tie.Need-same-length
+same-length c = search needs
+
+returns : tie.Need-returns
+unfolding decodeNodes numberOf refusalOf
+returns c =
+    let known = c .before .before .before .before .before in
+    let field = known .before .before in
+    stage-then (field-on (field .field .ensures) (known .lines .given .1) _) kept-none (omega arith) (c .before .before .read-lines .ensures)
+
+returns-2 : tie.Need-returns-2
+unfolding decodeNodes numberOf refusalOf
+returns-2 c =
+    let field = c .before .before .before in
+    stage-refused (field-off (field .field .ensures) (c .before .why .given .1) _) kept-none
+
+pub count-lines-spec : {M : Type 1} → statement M
+count-lines-spec =
+    tie.close
+    (tie.spec
+    field-requires
+    enum-known-lines
+    read-lines-requires
+    enum-known-why
+    same-length
+    returns
+    returns-2)

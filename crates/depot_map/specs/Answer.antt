@@ -1,0 +1,24 @@
+-- What `read_map` answers, of all bytes: the map that they are, held by the work area, or the row of the table that refuses them.
+use Prim.Native.Nat.{ℕ}
+use mathlib.Core.Path.{_≡_}
+use mathlib.Core.List.{List}
+use Rattle.model.specs.Refusal.{numberOf, refusalOf}
+use Rattle.model.specs.Map.{Map, whole, refused, decode}
+use Rattle.depot_map.specs.Area.{Holds, Kept}
+use Rattle.depot_map.specs.declared.MapRead.{MapRead}
+use Rattle.depot_map.specs.declared.MapRead.the-variants.{Whole, Refused}
+
+-- The bytes are a map, and the work area `v` holds it.
+pub record WholeMap (bytes v : List ℕ) (nodes lines : ℕ) : Type 0 where
+  pub map : Map
+  pub decodes : decode bytes ≡ whole map
+  pub held : Holds v nodes lines map
+
+unfoldable pub Answers : List ℕ → List ℕ → MapRead → Type 0
+Answers bytes v (Whole nodes lines) = WholeMap bytes v nodes lines
+Answers bytes v (Refused why) = decode bytes ≡ refused (numberOf (refusalOf why))
+
+-- The work area was `w` and is `v`: after a refusal too, only its first 10,240 numbers are changed.
+pub record MapIsRead (bytes w v : List ℕ) (r : MapRead) : Type 0 where
+  pub answers : Answers bytes v r
+  pub kept : Kept 0 10_240 w v

@@ -1,0 +1,28 @@
+// A node of the map: its two numbers, from the bytes into the work area.
+use crate::area::NODE_NUMBERS;
+use crate::field::Position;
+use crate::field::store_field;
+use model::Refusal;
+ghost use Prim.Native.Nat.{_≤_, _<_};
+ghost use lib.ListN.{length};
+ghost use Rattle.model.specs.Outcome.{workLength};
+ghost use Rattle.model.specs.Map.{greatestNodeCount};
+ghost use Rattle.depot_map.specs.Step.{NodeRead};
+
+// The greatest longitude as the map stores it.
+const GREATEST_LONGITUDE: u32 = 35_999_998;
+
+// The greatest latitude as the map stores it.
+const GREATEST_LATITUDE: u32 = 18_000_000;
+
+// Node `i`, from byte `from` on.
+pub fn read_node(map: &[u8], from: usize, work: &mut [u32], i: usize) -> Position
+    requires { ⌜ (workLength ≤ length (now work)) × (i < greatestNodeCount) ⌝ }
+    ensures { λ r. ⌜ NodeRead (now (map .entry)) from i (now (work .entry)) (now (work .exit)) r ⌝ }
+{
+    let why = Refusal::MapCoordinate;
+    let at = NODE_NUMBERS * i;
+    let here = Position::At(from);
+    let lon = store_field(map, here, 0, GREATEST_LONGITUDE, why, work, at);
+    store_field(map, lon, 0, GREATEST_LATITUDE, why, work, at + 1)
+}

@@ -1,0 +1,65 @@
+-- `measured_read_map` meets its contract: what `read_map` answers, by its number.
+use borrow.Author.Needs.{needs}
+use Prim.Native.Nat.{ℕ, _≤_, _<_}
+use mathlib.Core.Path.{_≡_, _∙_}
+use mathlib.Core.List.{List}
+use borrow.Author.Tests.{lt-ltb, le-ltb}
+use Rattle.model.specs.Map.{MapAnswer, decode}
+use Rattle.model.specs.Outcome.{workLength}
+use Rattle.depot_map.proofs.Whole.{read-whole, read-refused}
+use Rattle.measured.specs.Refusal.{refusedBy, mapRefusal}
+use Rattle.measured.proofs.measured_read_map.Statement.{statement}
+use Rattle.measured.proofs.measured_read_map.Tie as tie
+
+module _ (work : ℕ) (bytes : List ℕ) where
+  short : work < workLength → 1 ≡ mapRefusal work bytes
+  unfolding mapRefusal
+  short h = simp (lt-ltb work workLength h)
+
+  full : workLength ≤ work → {a : MapAnswer} → decode bytes ≡ a → refusedBy a ≡ mapRefusal work bytes
+  unfolding mapRefusal
+  full h e = simp (le-ltb work workLength h, e)
+
+returns : tie.Need-returns
+returns c = short _ _ (c .if1 .taken)
+
+read-map-requires : tie.Need-read-map-requires
+read-map-requires c κs = search needs
+
+enum-told : tie.Need-enum-told
+enum-told c = search needs
+
+enum-known-why : tie.Need-enum-known-why
+enum-known-why c = search needs
+
+number-of-requires : tie.Need-number-of-requires
+number-of-requires c κs = search needs
+
+same-length : tie.Need-same-length
+same-length c = search needs
+
+returns-2 : tie.Need-returns-2
+unfolding refusedBy
+returns-2 c = full _ _ (c .before .before .before .before .before .before .if1 .left) (read-whole (c .before .before .before .before .read-map .ensures) (c .enum-told .given .1) .decodes)
+
+same-length-2 : tie.Need-same-length-2
+same-length-2 c = search needs
+
+returns-3 : tie.Need-returns-3
+unfolding refusedBy
+returns-3 c =
+    c .number-of .ensures ∙ full _ _ (c .before .before .before .before .before .before .before .before .if1 .left) (read-refused (c .before .before .before .before .before .before .read-map .ensures) (c .before .before .why .given .1))
+
+pub measured-read-map-spec : {M : Type 1} → statement M
+measured-read-map-spec =
+    tie.close
+    (tie.spec
+    returns
+    read-map-requires
+    enum-told
+    enum-known-why
+    number-of-requires
+    same-length
+    returns-2
+    same-length-2
+    returns-3)

@@ -1,0 +1,2 @@
+-- What the measured functions answer.
+pub mod Refusal

@@ -1,0 +1,128 @@
+-- `show` is safe: the counts of a whole map are those of its nodes and lines, which lie inside the work area.
+use native.Mathlib.Omega.{arith}
+use borrow.Author.Needs.{needs}
+use Prim.Native.Nat.{ℕ, _≤_}
+use mathlib.Core.List.{List}
+use lib.ListN.{length}
+use Rattle.model.specs.Map.{Map}
+use Rattle.depot_map.specs.Area.{Holds}
+use Rattle.depot_map.proofs.Whole.{read-whole}
+use Rattle.test_maps.proofs.show.Statement.{statement}
+use Rattle.test_maps.proofs.show.Tie as tie
+
+-- What a work area that holds a map says of its counts.
+counts : {w : List ℕ} {nodes lines : ℕ} {m : Map} → Holds w nodes lines m → (12_288 ≤ length w) × (nodes ≤ 512) × (lines ≤ 1_024)
+counts h = (h .full, omega (arith, h .node-count, h .formed .few-nodes), omega (arith, h .line-count, h .formed .few-lines))
+
+read-map-requires : tie.Need-read-map-requires
+read-map-requires c κs = search needs
+
+enum-known-nodes : tie.Need-enum-known-nodes
+enum-known-nodes c = search needs
+
+cast-sum-of : tie.Need-cast-sum-of
+cast-sum-of c = search needs
+
+mul-sum-of : tie.Need-mul-sum-of
+mul-sum-of c = search needs
+
+sum-of-requires : tie.Need-sum-of-requires
+sum-of-requires c κs =
+    let w = read-whole (c .before .before .before .before .before .before .read-map .ensures) (c .before .before .nodes .given .1) in
+    omega (arith, counts (w .held))
+
+slice-aggregate-print : tie.Need-slice-aggregate-print
+slice-aggregate-print c = search needs
+
+cast-print : tie.Need-cast-print
+cast-print c = search needs
+
+print-requires : tie.Need-print-requires
+print-requires c κs = search needs
+
+slice-aggregate-print-2 : tie.Need-slice-aggregate-print-2
+slice-aggregate-print-2 c = search needs
+
+cast-print-2 : tie.Need-cast-print-2
+cast-print-2 c = search needs
+
+print-requires-2 : tie.Need-print-requires-2
+print-requires-2 c κs = search needs
+
+slice-aggregate-print-3 : tie.Need-slice-aggregate-print-3
+slice-aggregate-print-3 c = search needs
+
+cast-sum-of-2 : tie.Need-cast-sum-of-2
+cast-sum-of-2 c = search needs
+
+mul-sum-of-2 : tie.Need-mul-sum-of-2
+mul-sum-of-2 c = search needs
+
+add-sum-of : tie.Need-add-sum-of
+add-sum-of c = search needs
+
+sum-of-requires-2 : tie.Need-sum-of-requires-2
+sum-of-requires-2 c κs =
+    let w = read-whole (c .before .before .before .before .before .before .before .before .before .before .before .before .before .read-map .ensures) (c .before .before .before .before .before .before .before .before .before .nodes .given .1) in
+    omega (arith, counts (w .held), c .before .before .before .before .before .before .sum-of .ensures)
+
+print-requires-3 : tie.Need-print-requires-3
+print-requires-3 c κs = search needs
+
+enum-known-why : tie.Need-enum-known-why
+enum-known-why c = search needs
+
+slice-aggregate-print-4 : tie.Need-slice-aggregate-print-4
+slice-aggregate-print-4 c = search needs
+
+number-of-requires : tie.Need-number-of-requires
+number-of-requires c κs = search needs
+
+cast-print-3 : tie.Need-cast-print-3
+cast-print-3 c = search needs
+
+print-requires-4 : tie.Need-print-requires-4
+print-requires-4 c κs = search needs
+
+slice-aggregate-write-all : tie.Need-slice-aggregate-write-all
+slice-aggregate-write-all c = search needs
+
+write-all-requires : tie.Need-write-all-requires
+write-all-requires c κs = search needs
+
+same-length : tie.Need-same-length
+same-length c = search needs
+
+returns : tie.Need-returns
+returns c = search needs
+
+pub show-spec : {M : Type 1} → statement M
+show-spec =
+    tie.close
+    (tie.spec
+    read-map-requires
+    enum-known-nodes
+    cast-sum-of
+    mul-sum-of
+    sum-of-requires
+    slice-aggregate-print
+    cast-print
+    print-requires
+    slice-aggregate-print-2
+    cast-print-2
+    print-requires-2
+    slice-aggregate-print-3
+    cast-sum-of-2
+    mul-sum-of-2
+    add-sum-of
+    sum-of-requires-2
+    print-requires-3
+    enum-known-why
+    slice-aggregate-print-4
+    number-of-requires
+    cast-print-3
+    print-requires-4
+    slice-aggregate-write-all
+    write-all-requires
+    same-length
+    returns)
