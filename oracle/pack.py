@@ -7,9 +7,11 @@ import argparse
 import sys
 from pathlib import Path
 
-from cases import map_cases
-from depot_map import map_numbers
+from cases import leg_cases, map_cases, random_source, stretch_leg
+from depot_map import map_numbers, map_to_bytes
+from legs import LegSearch, list_length
 from outcome import Refused, outcome_text
+from sample_maps import full_size_sample
 
 CRATES = Path(__file__).parent.parent / "crates"
 SUM_MODULUS = 4_294_967_291
@@ -42,7 +44,51 @@ def test_maps():
     return packed(case.map_bytes for case in cases), [map_row(case.expected) for case in cases]
 
 
-PROGRAMS = {"test_maps": test_maps}
+def words(numbers):
+    """Numbers of four bytes each, low byte first."""
+    return b"".join(number.to_bytes(4, "little") for number in numbers)
+
+
+def leg_words(leg):
+    """Two nodes, the first line's marks, lowest class and D; then 1 and the last line's marks, or 0."""
+    def marks(marks):
+        return [marks.frc, marks.fow, marks.sector]
+
+    last = [0, 0, 0, 0] if leg.last_marks is None else [1] + marks(leg.last_marks)
+    return words([leg.start_node, leg.end_node] + marks(leg.first_marks) + [leg.lowest_frc, leg.distance_byte] + last)
+
+
+def leg_row(depot_map, readings):
+    if readings.how_many != "one":
+        return readings.how_many
+    lines = readings.lines
+    return f"one {lines[0]} {lines[-1]} {list_length(depot_map, lines)} {len(lines)}"
+
+
+def full_map_legs(maps, legs):
+    """Many legs on each of some full-size maps; the map stands with the first of its legs only."""
+    parts, rows = [], []
+    for turn in range(maps):
+        rng = random_source("full-size legs", 1, turn)
+        sample = full_size_sample(rng)
+        search = LegSearch(sample.depot_map)
+        for number in range(legs):
+            leg = stretch_leg(rng, sample)
+            parts += [map_to_bytes(sample.depot_map) if number == 0 else b"", leg_words(leg)]
+            rows.append(leg_row(sample.depot_map, search.readings(leg)))
+    return parts, rows
+
+
+def test_legs():
+    small = [case for case in leg_cases(seed=1, count=1_200) if not case.label.startswith("full size")]
+    parts, rows = full_map_legs(maps=12, legs=40)
+    for case in small:
+        parts += [case.map_bytes, leg_words(case.leg)]
+        rows.append(leg_row(case.depot_map, case.expected))
+    return packed(parts), rows
+
+
+PROGRAMS = {"test_maps": test_maps, "test_legs": test_legs}
 
 
 def files():

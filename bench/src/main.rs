@@ -9,10 +9,10 @@ use std::time::{Duration, Instant};
 use plain::depot_map::DepotMap;
 use plain::maps::{chain, grid, random_graph, random_walk, reference_with_legs, Lengths, Xorshift};
 use plain::outcome::WORK_AREA;
-use proved::{functions, ProvedFunctions};
 use plain::reader::read;
 use plain::search::{Bounds, Method, Search};
 use plain::writer::{write, write_on_map};
+use proved::{functions, ProvedFunctions};
 
 /// The best of many short rounds: a round that something else disturbs does not count.
 const ROUNDS: usize = 400;
@@ -143,17 +143,22 @@ fn proved_decoding<'a>(proved: &ProvedFunctions, sample: &'a Sample) -> Option<C
     }))
 }
 
+const METHODS: [(Method, &str); 3] = [
+    (Method::Queue, "queue"),
+    (Method::Heap, "heap of nodes"),
+    (Method::LineHeap, "heap of lines"),
+];
+
 fn search_rows(proved: &ProvedFunctions, sample: &Sample) {
-    for (method, method_name) in [(Method::Queue, "queue"), (Method::Heap, "heap")] {
+    for (method, method_name) in METHODS {
         for limit in [5_000, 15_000, 150_000] {
             let bounds = first_lines(sample).map(|first| Bounds {
                 first,
                 class: 7,
                 limit,
             });
-            let mut row = search_row(proved, sample, bounds, method);
-            row.what = format!("search, {}, limit {limit}, {method_name}", sample.name);
-            row.print();
+            let what = format!("search, {}, limit {limit}, {method_name}", sample.name);
+            print_search_row(proved, sample, bounds, method, &what);
         }
     }
 }
@@ -163,39 +168,47 @@ fn first_lines(sample: &Sample) -> [u32; INPUTS] {
     [(); INPUTS].map(|()| rng.below(sample.map.lines.len() as u32))
 }
 
-fn search_row<'a>(
+/// Searches in one call of the proved function, so that the map's decoding weighs little.
+const SEARCHES: u32 = 100;
+
+/// The proved search is timed by the difference between `SEARCHES` searches and none, each with a
+/// decoding of the map before it.
+fn print_search_row(
     proved: &ProvedFunctions,
-    sample: &'a Sample,
+    sample: &Sample,
     bounds: [Bounds; INPUTS],
     method: Method,
-) -> Row<'a> {
-    let mut search = Search::new(&sample.map, method);
-    let plain = move |input: usize| {
-        search.run(&sample.map, black_box(bounds[input]));
-        black_box(&search);
+    what: &str,
+) {
+    let mut plain_search = Search::new(&sample.map, method);
+    let mut plain = |input: usize| {
+        for _ in 0..SEARCHES {
+            plain_search.run(&sample.map, black_box(bounds[input]));
+            black_box(&plain_search);
+        }
     };
-    Row {
-        what: String::new(),
-        inputs: INPUTS,
-        ours: proved_search(proved, sample, bounds),
-        plain: Box::new(plain),
-    }
-}
-
-/// The map is decoded once, outside the time.
-fn proved_search<'a>(
-    proved: &ProvedFunctions,
-    sample: &'a Sample,
-    bounds: [Bounds; INPUTS],
-) -> Option<Call<'a>> {
-    let (decode, search) = (proved.decode?, proved.search?);
+    let Some(search) = proved.search else {
+        let [plain] = time_in_turn([&mut plain], INPUTS);
+        println!("{what} | - | {:.2} | -", plain / f64::from(SEARCHES));
+        return;
+    };
     let mut work_area = vec![0; WORK_AREA];
-    decode(&sample.bytes, &mut work_area);
-    Some(Box::new(move |input| {
-        let bounds = black_box(bounds[input]);
-        search(&mut work_area, bounds.first, bounds.class, bounds.limit);
-        black_box(&work_area);
-    }))
+    let mut other_area = vec![0; WORK_AREA];
+    let run = |area: &mut [u32], input: usize, times: u32| {
+        let Bounds {
+            first,
+            class,
+            limit,
+        } = black_box(bounds[input]);
+        search(&sample.bytes, area, first, class, limit, times);
+        black_box(area);
+    };
+    let mut none = |input: usize| run(&mut work_area, input, 0);
+    let mut many = |input: usize| run(&mut other_area, input, SEARCHES);
+    let [none, many, plain] = time_in_turn([&mut none, &mut many, &mut plain], INPUTS);
+    let ours = (many - none) / f64::from(SEARCHES);
+    let plain = plain / f64::from(SEARCHES);
+    println!("{what} | {ours:.2} | {plain:.2} | {:.2}", ours / plain);
 }
 
 /// Legs and their lengths. 64 long legs are nearly the most work that a reference can ask for.

@@ -13,9 +13,10 @@ pub type ProvedReading = (usize, [u32; 4]);
 /// Decodes a map into the work area. The answer is the refusal, if there is one.
 pub type Decode = fn(map_bytes: &[u8], work_area: &mut [u32]) -> Option<ProvedRefusal>;
 
-/// Searches on a map that is decoded in the work area: first line, class, limit. The answers stay
-/// in the work area.
-pub type SearchLines = fn(work_area: &mut [u32], first: u32, class: u8, limit: u32);
+/// Decodes a map into the work area and searches so many times from a first line, under a class and
+/// a limit. The time of a search is the difference that the number of times makes.
+pub type SearchLines =
+    fn(map_bytes: &[u8], work_area: &mut [u32], first: u32, class: u8, limit: u32, times: u32);
 
 /// Reads a reference into the line buffer.
 pub type Read = fn(
@@ -46,6 +47,16 @@ pub struct ProvedFunctions {
 #[link(name = "measured", kind = "static")]
 extern "C" {
     fn measured_read_map(map: *const u8, map_len: usize, work: *mut u32, work_len: usize) -> u32;
+    fn measured_search(
+        map: *const u8,
+        map_len: usize,
+        work: *mut u32,
+        work_len: usize,
+        first: u32,
+        class: u32,
+        limit: u32,
+        times: u32,
+    ) -> u32;
 }
 
 fn decode(map_bytes: &[u8], work_area: &mut [u32]) -> Option<ProvedRefusal> {
@@ -61,11 +72,27 @@ fn decode(map_bytes: &[u8], work_area: &mut [u32]) -> Option<ProvedRefusal> {
     (refusal != 0).then_some((refusal, None))
 }
 
+fn search(map_bytes: &[u8], work_area: &mut [u32], first: u32, class: u8, limit: u32, times: u32) {
+    let refusal = unsafe {
+        measured_search(
+            map_bytes.as_ptr(),
+            map_bytes.len(),
+            work_area.as_mut_ptr(),
+            work_area.len(),
+            first,
+            u32::from(class),
+            limit,
+            times,
+        )
+    };
+    assert_eq!(refusal, 0, "the map is whole");
+}
+
 /// The proved functions that there are.
 pub fn functions() -> ProvedFunctions {
     ProvedFunctions {
         decode: Some(decode),
-        search: None,
+        search: Some(search),
         read: None,
         write: None,
     }

@@ -16,8 +16,11 @@ const NOT_REACHED: u32 = u32::MAX;
 pub enum Method {
     /// First in, first out; a line's length may be corrected. Ties are counted afterwards.
     Queue,
-    /// Dijkstra's, with ties on the way.
+    /// Dijkstra's over nodes, with ties on the way.
     Heap,
+    /// Dijkstra's over lines, with ties on the way: it does not use that every line that leaves a
+    /// node can follow every line that arrives there.
+    LineHeap,
 }
 
 /// What stands before a line on the least way to it.
@@ -83,6 +86,7 @@ impl Search {
         match self.method {
             Method::Queue => self.run_queue(map, bounds),
             Method::Heap => self.run_heap(map, bounds),
+            Method::LineHeap => self.run_line_heap(map, bounds),
         }
     }
 
@@ -244,6 +248,46 @@ impl Search {
                 _ => Before::Line(next),
             };
             self.arrive(next_line.end, total, by);
+        }
+    }
+
+    /// Lines leave the heap by the least length to them. Lengths are at least 1, so that by then
+    /// every line before them that ties has left it.
+    fn run_line_heap(&mut self, map: &DepotMap, bounds: Bounds) {
+        let first = map.line(bounds.first);
+        self.heap.push(Reverse(
+            u64::from(first.length) << 32 | u64::from(bounds.first),
+        ));
+        while let Some(Reverse(key)) = self.heap.pop() {
+            let (length, line) = ((key >> 32) as u32, key as u32);
+            if length == self.least[line as usize] {
+                self.leave_line(map, bounds, line);
+            }
+        }
+    }
+
+    #[inline]
+    fn leave_line(&mut self, map: &DepotMap, bounds: Bounds, line: u32) {
+        let length = self.least[line as usize];
+        let by = match self.before[line as usize] {
+            Before::Several => Before::Several,
+            _ => Before::Line(line),
+        };
+        for &next in map.outgoing.of(map.line(line).end) {
+            let next_line = map.line(next);
+            let total = length + next_line.length;
+            let least = &mut self.least[next as usize];
+            if total > *least || total > bounds.limit || next_line.frc > bounds.class {
+                continue;
+            }
+            if total == *least {
+                self.before[next as usize] = Before::Several;
+                continue;
+            }
+            *least = total;
+            self.before[next as usize] = by;
+            let key = u64::from(total) << 32 | u64::from(next);
+            self.heap.push(Reverse(key));
         }
     }
 }

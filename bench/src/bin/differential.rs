@@ -1,4 +1,4 @@
-//! Compares the two searches with each other, and reads back everything that the writer accepts,
+//! Compares the searches with each other, and reads back everything that the writer accepts,
 //! over maps from a seed: `differential SEED COUNT`.
 
 use std::process::ExitCode;
@@ -82,7 +82,8 @@ fn compare_on_map(seed: u64, turn: u64, counts: &mut Counts) -> Result<(), Strin
 }
 
 fn compare_searches(rng: &mut Xorshift, map: &DepotMap, counts: &mut Counts) -> Result<(), String> {
-    let mut searches = METHODS.map(|method| Search::new(map, method));
+    let methods = [Method::Queue, Method::Heap, Method::LineHeap];
+    let mut searches = methods.map(|method| Search::new(map, method));
     for _ in 0..20 {
         let first = rng.below(map.lines.len() as u32);
         let bounds = Bounds {
@@ -93,19 +94,16 @@ fn compare_searches(rng: &mut Xorshift, map: &DepotMap, counts: &mut Counts) -> 
         for search in &mut searches {
             search.run(map, bounds);
         }
-        let [queue, heap] = &searches;
+        let [queue, others @ ..] = &searches;
         for line in 0..map.lines.len() as u32 {
             let answer = |search: &Search| {
                 search
                     .least(line)
                     .map(|length| (length, search.before(line)))
             };
-            if answer(queue) != answer(heap) {
-                return Err(format!(
-                    "{bounds:?} line {line}: {:?} {:?}",
-                    answer(queue),
-                    answer(heap)
-                ));
+            if let Some(other) = others.iter().find(|other| answer(other) != answer(queue)) {
+                let (one, another) = (answer(queue), answer(other));
+                return Err(format!("{bounds:?} line {line}: {one:?} {another:?}"));
             }
         }
         counts.searches += 1;

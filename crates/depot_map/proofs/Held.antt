@@ -10,6 +10,7 @@ use lib.Seq.{getD-at}
 use lib.Dec.{lit<}
 use Rattle.model.specs.Map.{Node, Line}
 use Rattle.depot_map.specs.Area.{Kept}
+use Rattle.depot_map.specs.Step.{Attributes}
 use Rattle.depot_map.specs.Held.{linePlace, heldNode, lineFrom, heldLine, listed, heldNodes, heldLines}
 
 -- ---- the first n of some numbered things
@@ -44,6 +45,10 @@ module _ {A : Type 0} where
 
 pub node-path : {a b a′ b′ : ℕ} → a ≡ a′ → b ≡ b′ → _≡_ {A = Node} (record { lon = a; lat = b }) (record { lon = a′; lat = b′ })
 node-path p q = λ i. record { lon = p i; lat = q i }
+
+pub attributes-path : {a b c d e a′ b′ c′ d′ e′ : ℕ} → a ≡ a′ → b ≡ b′ → c ≡ c′ → d ≡ d′ → e ≡ e′ →
+    _≡_ {A = Attributes} (record { length = a; frc = b; fow = c; out = d; back = e }) (record { length = a′; frc = b′; fow = c′; out = d′; back = e′ })
+attributes-path p q r s t = λ i. record { length = p i; frc = q i; fow = r i; out = s i; back = t i }
 
 pub line-path : {a b c d e f g a′ b′ c′ d′ e′ f′ g′ : ℕ} → a ≡ a′ → b ≡ b′ → c ≡ c′ → d ≡ d′ → e ≡ e′ → f ≡ f′ → g ≡ g′ →
     _≡_ {A = Line} (record { start = a; end = b; length = c; frc = d; fow = e; out = f; back = g })

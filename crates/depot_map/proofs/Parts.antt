@@ -1,64 +1,54 @@
--- A node and a line, read number by number.
-use Prim.Native.Nat.{ℕ, _+_, _*_}
+-- A node and a line, read number by number and then stored.
+use Prim.Native.Nat.{ℕ, _+_, _*_, _≤_, _<_}
 use mathlib.Core.Path.{_≡_, refl, sym, ap, _∙_}
 use mathlib.Core.Logic.{_≢_}
 use mathlib.Core.Bool.{true, false}
-use mathlib.Core.List.{List}
+use mathlib.Core.List.{List, [], _∷_}
+use native.Mathlib.Nat.{add-assoc}
 use native.Mathlib.Omega.{arith}
-use lib.ListN.{getD}
-use lib.Dec.{eqb}
+use lib.ListN.{length, getD}
+use lib.Seq.{sets}
+use lib.Dec.{eqb, lit<}
 use borrow.Author.Tests.{eq-eqb, ne-eqb}
-use Rattle.model.specs.declared.Refusal.{Refusal}
 use Rattle.model.specs.declared.Refusal.the-variants.{MapCoordinate, MapLine}
 use Rattle.model.specs.Refusal.{numberOf, refusalOf}
 use Rattle.model.specs.Map.{Line, MapAnswer, refused, field, readNode, readLine}
-use Rattle.depot_map.specs.Area.{Kept}
 use Rattle.depot_map.specs.Held.{linePlace, heldNode, lineFrom, heldLine}
-use Rattle.depot_map.specs.Step.{goFrom, FieldStored, NodeRead, readAttributes, AttributesRead, LineRead}
-use Rattle.depot_map.specs.declared.field.Position.{Position}
-use Rattle.depot_map.proofs.Held.{line-path}
+use Rattle.depot_map.specs.Step.{goOn, FieldRead, NodeRead, readAttributes, heldAttributes, AttributesRead, LineRead}
+use Rattle.depot_map.specs.declared.field.Read.{Read}
+use Rattle.depot_map.proofs.Held.{node-path, attributes-path, line-path}
 use Rattle.depot_map.proofs.Kept.{kept-within, kept-over}
-use Rattle.depot_map.proofs.Steps.{from-on, from-off}
-use Rattle.depot_map.specs.declared.field.Position.the-variants as Position
+use Rattle.depot_map.proofs.Steps.{field-on, step-refused, step-read}
+use Rattle.depot_map.proofs.Stored.{stored, stored-first}
+use Rattle.depot_map.specs.declared.field.Read.the-variants as Read
 
 -- ---- a node
 
-pub node-read : {bytes : List ℕ} {from i : ℕ} {w v₁ v₂ : List ℕ} {r₁ r₂ : Position} →
-    FieldStored bytes (Position.At from) 0 35_999_998 MapCoordinate (2 * i) w v₁ r₁ →
-    FieldStored bytes r₁ 0 18_000_000 MapCoordinate (2 * i + 1) v₁ v₂ r₂ → NodeRead bytes from i w v₂ r₂
-unfolding readNode heldNode goFrom numberOf refusalOf
-node-read {bytes} {i = i} {v₂ = v₂} {r₂ = r₂} lon lat =
-    record {
-      goes = λ rest.
-          lon .goes _ ∙ lat .goes _
-          ∙ ap (λ (x : ℕ). goFrom bytes (rest (record { lon = x; lat = getD v₂ (2 * i + 1) 0 })) r₂) (sym (lat .kept .below (2 * i) (omega arith)));
-      kept = kept-over (omega arith) (lon .kept) (lat .kept);
-    }
+pub node-read : {bytes : List ℕ} {from lon after lat next : ℕ} {w v : List ℕ} {r₁ r₂ : Read} (i : ℕ) →
+    FieldRead bytes from 0 35_999_998 MapCoordinate r₁ → r₁ ≡ Read.Got lon after →
+    FieldRead bytes after 0 18_000_000 MapCoordinate r₂ → r₂ ≡ Read.Got lat next →
+    2 * i + 2 ≤ length w → v ≡ sets w (2 * i) (lon ∷ lat ∷ []) → NodeRead bytes from i w v (Read.Got lat next)
+unfolding readNode heldNode numberOf refusalOf
+node-read {bytes} {lon = lon} {lat = lat} {w = w} i f₁ e₁ f₂ e₂ fits put =
+    let s = stored (lon ∷ lat ∷ []) w (2 * i) fits put in
+    step-read bytes _ (λ rest. field-on f₁ e₁ _ ∙ field-on f₂ e₂ _) (node-path (stored-first (2 * i) s) (s .held 1 (lit< tt))) (s .kept)
 
 -- ---- the attributes of a line
 
-five : {a b c d e a′ b′ c′ d′ e′ : ℕ} (f : ℕ → ℕ → ℕ → ℕ → ℕ → MapAnswer) → a ≡ a′ → b ≡ b′ → c ≡ c′ → d ≡ d′ → e ≡ e′ →
-    f a b c d e ≡ f a′ b′ c′ d′ e′
-five f p q r s t = λ i. f (p i) (q i) (r i) (s i) (t i)
-
-pub attributes-read : {bytes : List ℕ} {from at : ℕ} {w v₁ v₂ v₃ v₄ v₅ : List ℕ} {r₁ r₂ r₃ r₄ r₅ : Position} →
-    FieldStored bytes (Position.At from) 1 150_000 MapLine (at + 2) w v₁ r₁ → FieldStored bytes r₁ 0 7 MapLine (at + 3) v₁ v₂ r₂ →
-    FieldStored bytes r₂ 0 7 MapLine (at + 4) v₂ v₃ r₃ → FieldStored bytes r₃ 0 359 MapLine (at + 5) v₃ v₄ r₄ →
-    FieldStored bytes r₄ 0 359 MapLine (at + 6) v₄ v₅ r₅ → AttributesRead bytes from at w v₅ r₅
-unfolding readAttributes goFrom numberOf refusalOf
-attributes-read {bytes} {at = at} {w} {v₁} {v₂} {v₃} {v₄} {v₅} {r₅ = r₅} len frc fow out back =
-    let back-kept : Kept (at + 6) (at + 7) v₄ v₅ = kept-within (omega arith) (omega arith) (back .kept) in
-    let out-kept : Kept (at + 5) (at + 7) v₃ v₅ = kept-over (omega arith) (out .kept) back-kept in
-    let fow-kept : Kept (at + 4) (at + 7) v₂ v₅ = kept-over (omega arith) (fow .kept) out-kept in
-    let frc-kept : Kept (at + 3) (at + 7) v₁ v₅ = kept-over (omega arith) (frc .kept) fow-kept in
-    record {
-      goes = λ rest.
-          len .goes _ ∙ frc .goes _ ∙ fow .goes _ ∙ out .goes _ ∙ back .goes _
-          ∙ five (λ a b c d e. goFrom bytes (rest a b c d e) r₅) (sym (frc-kept .below (at + 2) (omega arith)))
-          (sym (fow-kept .below (at + 3) (omega arith))) (sym (out-kept .below (at + 4) (omega arith)))
-          (sym (back-kept .below (at + 5) (omega arith))) refl;
-      kept = kept-over (omega arith) (len .kept) frc-kept;
-    }
+pub attributes-read : {bytes : List ℕ} {from len n₁ frc n₂ fow n₃ out n₄ back n₅ : ℕ} {w v : List ℕ} {r₁ r₂ r₃ r₄ r₅ : Read} (at : ℕ) →
+    FieldRead bytes from 1 150_000 MapLine r₁ → r₁ ≡ Read.Got len n₁ →
+    FieldRead bytes n₁ 0 7 MapLine r₂ → r₂ ≡ Read.Got frc n₂ →
+    FieldRead bytes n₂ 0 7 MapLine r₃ → r₃ ≡ Read.Got fow n₃ →
+    FieldRead bytes n₃ 0 359 MapLine r₄ → r₄ ≡ Read.Got out n₄ →
+    FieldRead bytes n₄ 0 359 MapLine r₅ → r₅ ≡ Read.Got back n₅ →
+    at + 7 ≤ length w → v ≡ sets w (at + 2) (len ∷ frc ∷ fow ∷ out ∷ back ∷ []) → AttributesRead bytes from at w v (Read.Got back n₅)
+unfolding readAttributes heldAttributes numberOf refusalOf
+attributes-read {bytes} {len = len} {frc = frc} {fow = fow} {out = out} {back = back} {w = w} {v = v} at f₁ e₁ f₂ e₂ f₃ e₃ f₄ e₄ f₅ e₅ fits put =
+    let s = stored (len ∷ frc ∷ fow ∷ out ∷ back ∷ []) w (at + 2) (omega arith) put in
+    let f : (k : ℕ) → k < 5 → getD v (at + (2 + k)) 0 ≡ getD (len ∷ frc ∷ fow ∷ out ∷ back ∷ []) k 0 = λ k h. rw (add-assoc at 2 k) at (s .held k h) in
+    step-read bytes _ (λ rest. field-on f₁ e₁ _ ∙ field-on f₂ e₂ _ ∙ field-on f₃ e₃ _ ∙ field-on f₄ e₄ _ ∙ field-on f₅ e₅ _)
+    (attributes-path (f 0 (lit< tt)) (f 1 (lit< tt)) (f 2 (lit< tt)) (f 3 (lit< tt)) (f 4 (lit< tt)))
+    (kept-within (omega arith) (omega arith) (s .kept))
 
 -- ---- a line
 
@@ -69,39 +59,26 @@ module _ (a b : ℕ) (x : MapAnswer) where
   other-ends : a ≢ b → elim (eqb a b) [ true ↦ refused 5 | false ↦ x ] ≡ x
   other-ends h = rw (ne-eqb a b h)
 
--- Its two ends have been read, and are in the area `v₂`.
-module _ {bytes : List ℕ} {from last : ℕ} (i : ℕ) {w v₁ v₂ : List ℕ} {r₁ r₂ : Position}
-    (start : FieldStored bytes (Position.At from) 0 last MapLine (linePlace i) w v₁ r₁)
-    (end : FieldStored bytes r₁ 0 last MapLine (linePlace i + 1) v₁ v₂ r₂) where
-  ends-kept : Kept (linePlace i) (linePlace i + 7) w v₂
-  ends-kept = kept-over (omega arith) (start .kept) (end .kept)
+-- Its two ends have been read.
+module _ {bytes : List ℕ} {from last start after end next : ℕ} (i : ℕ) {w : List ℕ} {r₁ r₂ : Read}
+    (f₁ : FieldRead bytes from 0 last MapLine r₁) (e₁ : r₁ ≡ Read.Got start after)
+    (f₂ : FieldRead bytes after 0 last MapLine r₂) (e₂ : r₂ ≡ Read.Got end next) where
+  pub line-equal : start ≡ end → LineRead bytes from last i w w (Read.Refused MapLine)
+  unfolding readLine numberOf refusalOf
+  line-equal h = step-refused bytes refl (λ rest. field-on f₁ e₁ _ ∙ field-on f₂ e₂ _ ∙ equal-ends _ _ _ h)
 
-  same-start : getD v₂ (linePlace i) 0 ≡ getD v₁ (linePlace i) 0
-  same-start = end .kept .below (linePlace i) (omega arith)
-
-  pub line-refused : {why : Refusal} → r₂ ≡ Position.Refused why → LineRead bytes from last i w v₂ r₂
-  unfolding readLine goFrom numberOf refusalOf
-  line-refused e =
-      record { goes = λ rest. start .goes _ ∙ end .goes _ ∙ from-off bytes e _ ∙ sym (from-off bytes e _); kept = ends-kept }
-
-  module _ {next : ℕ} (e : r₂ ≡ Position.At next) where
-    pub line-equal : getD v₂ (linePlace i) 0 ≡ getD v₂ (linePlace i + 1) 0 → LineRead bytes from last i w v₂ (Position.Refused MapLine)
-    unfolding readLine goFrom numberOf refusalOf
-    line-equal h =
-        record {
-          goes = λ rest. start .goes _ ∙ end .goes _ ∙ from-on bytes e _ ∙ equal-ends _ _ _ (sym same-start ∙ h);
-          kept = ends-kept;
-        }
-
-    pub line-read : {v : List ℕ} {r : Position} → getD v₂ (linePlace i) 0 ≢ getD v₂ (linePlace i + 1) 0 →
-        AttributesRead bytes next (linePlace i) v₂ v r → LineRead bytes from last i w v r
-    unfolding readLine readAttributes heldLine lineFrom goFrom numberOf refusalOf
-    line-read {v} {r} h attributes =
-        let k = attributes .kept in
-        record {
-          goes = λ rest.
-              start .goes _ ∙ end .goes _ ∙ from-on bytes e _ ∙ other-ends _ _ _ (λ p. h (same-start ∙ p)) ∙ attributes .goes _
-              ∙ ap (λ (l : Line). goFrom bytes (rest l) r)
-              (sym (line-path (k .below (linePlace i) (omega arith) ∙ same-start) (k .below (linePlace i + 1) (omega arith)) refl refl refl refl refl));
-          kept = kept-over (omega arith) ends-kept k;
-        }
+  pub line-read : {v u : List ℕ} {r : Read} → start ≢ end → linePlace i + 2 ≤ length w → AttributesRead bytes next (linePlace i) v u r →
+      v ≡ sets w (linePlace i) (start ∷ end ∷ []) → LineRead bytes from last i w u r
+  unfolding readLine readAttributes heldAttributes heldLine lineFrom numberOf refusalOf
+  line-read {r = r} h fits attributes put =
+      let s = stored (start ∷ end ∷ []) w (linePlace i) fits put in
+      let k = attributes .kept in
+      record {
+        goes = λ rest.
+            field-on f₁ e₁ _ ∙ field-on f₂ e₂ _ ∙ other-ends _ _ _ h
+            ∙ attributes .goes (λ a. rest (record { start = start; end = end; length = a .length; frc = a .frc; fow = a .fow; out = a .out; back = a .back }))
+            ∙ ap (λ (l : Line). goOn bytes (λ x. rest l) r)
+            (sym (line-path (k .below (linePlace i) (omega arith) ∙ stored-first (linePlace i) s) (k .below (linePlace i + 1) (omega arith) ∙ s .held 1 (lit< tt))
+            refl refl refl refl refl));
+        kept = kept-over (omega arith) (s .kept) k;
+      }

@@ -10,17 +10,17 @@ use Rattle.model.specs.Refusal.{numberOf, refusalOf}
 use Rattle.model.specs.Map.{Node, Line, MapAnswer, whole, refused, ended, readLine, decodeLines, decodeNodes, decode, clash, greatestNodeCount, greatestLineCount}
 use Rattle.depot_map.specs.Area.{Kept}
 use Rattle.depot_map.specs.Held.{linesFrom, codesFrom, codesTo, listed, heldNode, heldNodes, heldLines}
-use Rattle.depot_map.specs.Step.{goFrom, NodeRead, LineRead}
+use Rattle.depot_map.specs.Step.{goOn, NodeRead, LineRead}
 use Rattle.depot_map.specs.Stage.{answered, Stage}
 use Rattle.depot_map.specs.Answer.{MapIsRead}
-use Rattle.depot_map.specs.declared.field.Position.{Position}
+use Rattle.depot_map.specs.declared.field.Read.{Read}
 use Rattle.depot_map.specs.declared.MapRead.{MapRead}
 use Rattle.depot_map.proofs.Kept.{kept-none, kept-then, kept-within, kept-over}
 use Rattle.depot_map.proofs.Held.{listed-length, nodes-same, lines-same, nodes-more, lines-more}
-use Rattle.depot_map.proofs.Steps.{from-on, from-off}
+use Rattle.depot_map.proofs.Steps.{on, off}
 use Rattle.depot_map.proofs.Ended.{none-over}
 use Rattle.depot_map.proofs.Whole.{answers}
-use Rattle.depot_map.specs.declared.field.Position.the-variants as Position
+use Rattle.depot_map.specs.declared.field.Read.the-variants as Read
 use Rattle.depot_map.specs.declared.MapRead.the-variants as MapRead
 
 -- ---- any stage
@@ -65,11 +65,11 @@ lines-none bytes at nodes count w =
     record { within = omega arith; kept = kept-none; left = rw all }
 
 module _ {S : MapAnswer} {bytes : List ℕ} {at nodes count i : ℕ} {w v : List ℕ} (so-far : LinesRead S bytes at nodes count i w v) where
-  module _ {u : List ℕ} {r : Position} (more : i < count) (few : count ≤ greatestLineCount) (one : LineRead bytes at (nodes - 1) i v u r) where
+  module _ {u : List ℕ} {r : Read} (more : i < count) (few : count ≤ greatestLineCount) (one : LineRead bytes at (nodes - 1) i v u r) where
     line-kept : Kept linesFrom codesTo w u
     line-kept = kept-over (omega arith) (so-far .kept) (one .kept)
 
-    line-turn : S ≡ goFrom bytes (λ bs. decodeLines (count - (i + 1)) bs (heldNodes w nodes) (heldLines u (i + 1))) r
+    line-turn : S ≡ goOn bytes (λ x bs. decodeLines (count - (i + 1)) bs (heldNodes w nodes) (heldLines u (i + 1))) r
     unfolding decodeLines
     line-turn =
         let next : count - i ≡ suc (count - (i + 1)) = omega arith in
@@ -77,13 +77,13 @@ module _ {S : MapAnswer} {bytes : List ℕ} {at nodes count i : ℕ} {w v : List
         ∙ ap (λ (n : ℕ). readLine (n - 1) (drop at bytes) (λ line after. decodeLines (count - (i + 1)) after (heldNodes w nodes) (heldLines v i ++ line ∷ [])))
         (listed-length (heldNode w) nodes)
         ∙ one .goes _
-        ∙ ap (λ (l : List Line). goFrom bytes (λ bs. decodeLines (count - (i + 1)) bs (heldNodes w nodes) l) r) (sym (lines-more i (one .kept)))
+        ∙ ap (λ (l : List Line). goOn bytes (λ x bs. decodeLines (count - (i + 1)) bs (heldNodes w nodes) l) r) (sym (lines-more i (one .kept)))
 
-    pub lines-on : {next : ℕ} → r ≡ Position.At next → LinesRead S bytes next nodes count (i + 1) w u
-    lines-on e = record { within = omega arith; kept = line-kept; left = line-turn ∙ from-on bytes e _ }
+    pub lines-on : {x next : ℕ} → r ≡ Read.Got x next → LinesRead S bytes next nodes count (i + 1) w u
+    lines-on e = record { within = omega arith; kept = line-kept; left = line-turn ∙ on bytes e _ }
 
-    pub lines-off : {why : Refusal} → r ≡ Position.Refused why → Stage S linesFrom w u (MapRead.Refused why)
-    lines-off e = stage-refused (line-turn ∙ from-off bytes e _) line-kept
+    pub lines-off : {why : Refusal} → r ≡ Read.Refused why → Stage S linesFrom w u (MapRead.Refused why)
+    lines-off e = stage-refused (line-turn ∙ off bytes e _) line-kept
 
   pub lines-end : {u : List ℕ} {r : MapRead} → count ≤ i → nodes ≤ greatestNodeCount →
       Stage (ended (drop at bytes) (heldNodes v nodes) (heldLines v count)) codesFrom v u r → Stage S linesFrom w u r
@@ -109,22 +109,22 @@ nodes-none bytes at count w =
     record { within = omega arith; kept = kept-none; left = rw all }
 
 module _ {S : MapAnswer} {bytes : List ℕ} {at count i : ℕ} {w v : List ℕ} (so-far : NodesRead S bytes at count i w v) where
-  module _ {u : List ℕ} {r : Position} (more : i < count) (few : count ≤ greatestNodeCount) (one : NodeRead bytes at i v u r) where
+  module _ {u : List ℕ} {r : Read} (more : i < count) (few : count ≤ greatestNodeCount) (one : NodeRead bytes at i v u r) where
     node-kept : Kept 0 codesTo w u
     node-kept = kept-over (omega arith) (so-far .kept) (one .kept)
 
-    node-turn : S ≡ goFrom bytes (λ bs. decodeNodes (count - (i + 1)) bs (heldNodes u (i + 1))) r
+    node-turn : S ≡ goOn bytes (λ x bs. decodeNodes (count - (i + 1)) bs (heldNodes u (i + 1))) r
     unfolding decodeNodes
     node-turn =
         let next : count - i ≡ suc (count - (i + 1)) = omega arith in
         rw next at (so-far .left) ∙ one .goes _
-        ∙ ap (λ (l : List Node). goFrom bytes (λ bs. decodeNodes (count - (i + 1)) bs l) r) (sym (nodes-more i (one .kept)))
+        ∙ ap (λ (l : List Node). goOn bytes (λ x bs. decodeNodes (count - (i + 1)) bs l) r) (sym (nodes-more i (one .kept)))
 
-    pub nodes-on : {next : ℕ} → r ≡ Position.At next → NodesRead S bytes next count (i + 1) w u
-    nodes-on e = record { within = omega arith; kept = node-kept; left = node-turn ∙ from-on bytes e _ }
+    pub nodes-on : {x next : ℕ} → r ≡ Read.Got x next → NodesRead S bytes next count (i + 1) w u
+    nodes-on e = record { within = omega arith; kept = node-kept; left = node-turn ∙ on bytes e _ }
 
-    pub nodes-off : {why : Refusal} → r ≡ Position.Refused why → Stage S 0 w u (MapRead.Refused why)
-    nodes-off e = stage-refused (node-turn ∙ from-off bytes e _) node-kept
+    pub nodes-off : {why : Refusal} → r ≡ Read.Refused why → Stage S 0 w u (MapRead.Refused why)
+    nodes-off e = stage-refused (node-turn ∙ off bytes e _) node-kept
 
   pub nodes-end : {u : List ℕ} {r : MapRead} → count ≤ i →
       Stage (decodeNodes 0 (drop at bytes) (heldNodes v count)) linesFrom v u r → Stage S 0 w u r

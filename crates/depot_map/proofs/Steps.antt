@@ -1,21 +1,18 @@
 -- How reading the map goes on after a number: by cases of the number, and by cases of the code's answer.
 use Prim.Native.Nat.{ℕ, _≤_, _<_}
 use mathlib.Core.Path.{_≡_, refl, sym, ap, _∙_}
-use mathlib.Core.List.{List, [], _∷_}
-use native.Mathlib.Omega.{arith}
-use lib.ListN.{length, getD, drop, set}
+use mathlib.Core.List.{List}
+use lib.ListN.{drop}
 use borrow.Author.Tests.{le-leb, lt-leb}
 use Rattle.model.specs.declared.Refusal.{Refusal}
 use Rattle.model.specs.Refusal.{numberOf, refusalOf}
 use Rattle.model.specs.Number.{got, faulty, number}
 use Rattle.model.specs.Map.{MapAnswer, refused, field}
-use Rattle.depot_map.specs.Step.{goOn, goFrom, FieldRead, FieldStored}
+use Rattle.depot_map.specs.Step.{goOn, FieldRead, StepRead}
 use Rattle.depot_map.specs.declared.field.Read.{Read}
-use Rattle.depot_map.specs.declared.field.Position.{Position}
 use Rattle.depot_map.proofs.Kept.{kept-none}
-use Rattle.depot_map.proofs.Stored.{stored, stored-first}
+use Rattle.depot_map.specs.Area.{Kept}
 use Rattle.depot_map.specs.declared.field.Read.the-variants as Read
-use Rattle.depot_map.specs.declared.field.Position.the-variants as Position
 
 module _ (bs : List ℕ) (low high n : ℕ) (rest : ℕ → List ℕ → MapAnswer) where
   pub field-faulty : number bs ≡ faulty → field bs low high n rest ≡ refused 2
@@ -46,16 +43,6 @@ pub off : (bytes : List ℕ) {r : Read} {why : Refusal} → r ≡ Read.Refused w
 unfolding goOn
 off bytes e rest = ap (goOn bytes rest) e
 
-pub from-on : (bytes : List ℕ) {r : Position} {next : ℕ} → r ≡ Position.At next → (rest : List ℕ → MapAnswer) →
-    goFrom bytes rest r ≡ rest (drop next bytes)
-unfolding goFrom
-from-on bytes e rest = ap (goFrom bytes rest) e
-
-pub from-off : (bytes : List ℕ) {r : Position} {why : Refusal} → r ≡ Position.Refused why → (rest : List ℕ → MapAnswer) →
-    goFrom bytes rest r ≡ refused (numberOf (refusalOf why))
-unfolding goFrom
-from-off bytes e rest = ap (goFrom bytes rest) e
-
 -- The answer of the code's `field`, taken apart.
 module _ {bytes : List ℕ} {from low high : ℕ} {why : Refusal} {r : Read} (f : FieldRead bytes from low high why r) where
   pub field-on : {x next : ℕ} → r ≡ Read.Got x next → (rest : ℕ → List ℕ → MapAnswer) →
@@ -69,24 +56,13 @@ module _ {bytes : List ℕ} {from low high : ℕ} {why : Refusal} {r : Read} (f 
   pub field-range : {x next : ℕ} → r ≡ Read.Got x next → (low ≤ x) × (x ≤ high)
   field-range e = rw e at (f .within)
 
--- The number that was read, put in its place; a refusal handed on.
-module _ {bytes : List ℕ} {from low high : ℕ} {why : Refusal} {r : Read} {place : Position} (at : ℕ) (w : List ℕ) (p : place ≡ Position.At from)
-    (f : FieldRead bytes from low high why r) where
-  pub put-field : {x next : ℕ} → at < length w → r ≡ Read.Got x next →
-      FieldStored bytes place low high why at w (set w at x) (Position.At next)
-  put-field {x} {next} fits e =
-      let s = stored {v = set w at x} (x ∷ []) w at (omega arith) refl in
-      record {
-        goes = λ rest.
-            from-on bytes p _ ∙ field-on f e rest
-            ∙ sym (from-on bytes refl (rest (getD (set w at x) at 0)) ∙ ap (λ (n : ℕ). rest n (drop next bytes)) (stored-first at s));
-        kept = s .kept;
-      }
+-- A refused number is handed on; after the last number the step is done.
+module _ {A : Type 0} {step : (A → List ℕ → MapAnswer) → MapAnswer} {held : A} {low high : ℕ} {w : List ℕ} (bytes : List ℕ) where
+  pub step-refused : {r : Read} {why : Refusal} → r ≡ Read.Refused why →
+      ((rest : A → List ℕ → MapAnswer) → step rest ≡ refused (numberOf (refusalOf why))) → StepRead step bytes held low high w w r
+  step-refused e goes = record { goes = λ rest. goes rest ∙ sym (off bytes e _); kept = kept-none }
 
-  pub refuse-field : {other : Refusal} → r ≡ Read.Refused other → FieldStored bytes place low high why at w w (Position.Refused other)
-  refuse-field e =
-      record { goes = λ rest. from-on bytes p _ ∙ field-off f e rest ∙ sym (from-off bytes refl (rest (getD w at 0))); kept = kept-none }
-
-pub pass-field : {bytes : List ℕ} {low high : ℕ} {why other : Refusal} {place : Position} {at : ℕ} {w : List ℕ} → place ≡ Position.Refused other →
-    FieldStored bytes place low high why at w w place
-pass-field {bytes} e = record { goes = λ rest. from-off bytes e _ ∙ sym (from-off bytes e _); kept = kept-none }
+  pub step-read : {v : List ℕ} {x next : ℕ} (thing : A) → ((rest : A → List ℕ → MapAnswer) → step rest ≡ rest thing (drop next bytes)) →
+      held ≡ thing → Kept low high w v → StepRead step bytes held low high w v (Read.Got x next)
+  step-read {next = next} thing goes there kept =
+      record { goes = λ rest. goes rest ∙ sym (on bytes refl _ ∙ ap (λ (a : A). rest a (drop next bytes)) there); kept = kept }

@@ -3,7 +3,6 @@
 use crate::area::GREATEST_LINE_COUNT;
 use crate::area::GREATEST_NODE_COUNT;
 use crate::codes::equal_codes;
-use crate::field::Position;
 use crate::field::Read;
 use crate::field::field;
 use crate::line::read_line;
@@ -55,8 +54,8 @@ fn read_lines(map: &[u8], from: usize, work: &mut [u32], nodes: u32, count: u32)
     let mut i: usize = 0;
     while i < n {
         match read_line(map, at, work, i, nodes) {
-            Position::At(next) => at = next,
-            Position::Refused(why) => return MapRead::Refused(why),
+            Read::Got(_, next) => at = next,
+            Read::Refused(why) => return MapRead::Refused(why),
         }
         i += 1;
     }
@@ -84,8 +83,8 @@ fn read_nodes(map: &[u8], from: usize, work: &mut [u32], count: u32) -> MapRead
     let mut i: usize = 0;
     while i < n {
         match read_node(map, at, work, i) {
-            Position::At(next) => at = next,
-            Position::Refused(why) => return MapRead::Refused(why),
+            Read::Got(_, next) => at = next,
+            Read::Refused(why) => return MapRead::Refused(why),
         }
         i += 1;
     }

@@ -1,8 +1,8 @@
 // A line of the map: its seven numbers, from the bytes into the work area.
 use crate::area::LINE_NUMBERS;
 use crate::area::LINES;
-use crate::field::Position;
-use crate::field::store_field;
+use crate::field::Read;
+use crate::field::field;
 use model::Refusal;
 ghost use Prim.Native.Nat.{_+_, _-_, _≤_, _<_};
 ghost use lib.ListN.{length};
@@ -23,34 +23,58 @@ const GREATEST_FOW: u32 = 7;
 const GREATEST_BEARING: u32 = 359;
 
 // What a line has besides its ends, for the line whose numbers start at `at`.
-fn read_attributes(map: &[u8], from: usize, work: &mut [u32], at: usize) -> Position
+fn read_attributes(map: &[u8], from: usize, work: &mut [u32], at: usize) -> Read
     requires { ⌜ at + 7 ≤ length (now work) ⌝ }
     ensures { λ r. ⌜ AttributesRead (now (map .entry)) from at (now (work .entry)) (now (work .exit)) r ⌝ }
 {
     let why = Refusal::MapLine;
-    let here = Position::At(from);
-    let len = store_field(map, here, 1, GREATEST_LENGTH, why, work, at + 2);
-    let frc = store_field(map, len, 0, GREATEST_FRC, why, work, at + 3);
-    let fow = store_field(map, frc, 0, GREATEST_FOW, why, work, at + 4);
-    let out = store_field(map, fow, 0, GREATEST_BEARING, why, work, at + 5);
-    store_field(map, out, 0, GREATEST_BEARING, why, work, at + 6)
+    let len = field(map, from, 1, GREATEST_LENGTH, why);
+    let Read::Got(decimetres, after_len) = len else {
+        return len;
+    };
+    let frc = field(map, after_len, 0, GREATEST_FRC, why);
+    let Read::Got(class, after_frc) = frc else {
+        return frc;
+    };
+    let fow = field(map, after_frc, 0, GREATEST_FOW, why);
+    let Read::Got(form, after_fow) = fow else {
+        return fow;
+    };
+    let out = field(map, after_fow, 0, GREATEST_BEARING, why);
+    let Read::Got(bearing_out, after_out) = out else {
+        return out;
+    };
+    let back = field(map, after_out, 0, GREATEST_BEARING, why);
+    let Read::Got(bearing_back, _) = back else {
+        return back;
+    };
+    work[at + 2] = decimetres;
+    work[at + 3] = class;
+    work[at + 4] = form;
+    work[at + 5] = bearing_out;
+    work[at + 6] = bearing_back;
+    back
 }
 
 // Line `i` of a map of so many nodes, from byte `from` on. Equal ends are a fault of the end node's number.
-pub fn read_line(map: &[u8], from: usize, work: &mut [u32], i: usize, nodes: u32) -> Position
+pub fn read_line(map: &[u8], from: usize, work: &mut [u32], i: usize, nodes: u32) -> Read
     requires { ⌜ (workLength ≤ length (now work)) × (i < greatestLineCount) × (1 ≤ nodes) ⌝ }
     ensures { λ r. ⌜ LineRead (now (map .entry)) from (nodes - 1) i (now (work .entry)) (now (work .exit)) r ⌝ }
 {
     let why = Refusal::MapLine;
-    let at = LINES + LINE_NUMBERS * i;
-    let here = Position::At(from);
-    let start = store_field(map, here, 0, nodes - 1, why, work, at);
-    let end = store_field(map, start, 0, nodes - 1, why, work, at + 1);
-    let Position::At(next) = end else {
+    let start = field(map, from, 0, nodes - 1, why);
+    let Read::Got(start_node, after_start) = start else {
+        return start;
+    };
+    let end = field(map, after_start, 0, nodes - 1, why);
+    let Read::Got(end_node, after_end) = end else {
         return end;
     };
-    if work[at] == work[at + 1] {
-        return Position::Refused(why);
+    if start_node == end_node {
+        return Read::Refused(why);
     }
-    read_attributes(map, next, work, at)
+    let at = LINES + LINE_NUMBERS * i;
+    work[at] = start_node;
+    work[at + 1] = end_node;
+    read_attributes(map, after_end, work, at)
 }

@@ -1,7 +1,7 @@
 // A node of the map: its two numbers, from the bytes into the work area.
 use crate::area::NODE_NUMBERS;
-use crate::field::Position;
-use crate::field::store_field;
+use crate::field::Read;
+use crate::field::field;
 use model::Refusal;
 ghost use Prim.Native.Nat.{_≤_, _<_};
 ghost use lib.ListN.{length};
@@ -16,13 +16,21 @@ const GREATEST_LONGITUDE: u32 = 35_999_998;
 const GREATEST_LATITUDE: u32 = 18_000_000;
 
 // Node `i`, from byte `from` on.
-pub fn read_node(map: &[u8], from: usize, work: &mut [u32], i: usize) -> Position
+pub fn read_node(map: &[u8], from: usize, work: &mut [u32], i: usize) -> Read
     requires { ⌜ (workLength ≤ length (now work)) × (i < greatestNodeCount) ⌝ }
     ensures { λ r. ⌜ NodeRead (now (map .entry)) from i (now (work .entry)) (now (work .exit)) r ⌝ }
 {
     let why = Refusal::MapCoordinate;
+    let lon = field(map, from, 0, GREATEST_LONGITUDE, why);
+    let Read::Got(longitude, after_longitude) = lon else {
+        return lon;
+    };
+    let lat = field(map, after_longitude, 0, GREATEST_LATITUDE, why);
+    let Read::Got(latitude, _) = lat else {
+        return lat;
+    };
     let at = NODE_NUMBERS * i;
-    let here = Position::At(from);
-    let lon = store_field(map, here, 0, GREATEST_LONGITUDE, why, work, at);
-    store_field(map, lon, 0, GREATEST_LATITUDE, why, work, at + 1)
+    work[at] = longitude;
+    work[at + 1] = latitude;
+    lat
 }

@@ -2,9 +2,14 @@
 use depot_map::MapRead;
 use depot_map::area::WORK_LENGTH;
 use depot_map::read_map;
+use fields::leg::GREATEST_LEG_LENGTH;
 use model::number_of;
+use search::chains::link;
+use search::search;
 ghost use mathlib.Core.Path.{_≡_};
 ghost use lib.ListN.{length};
+ghost use Rattle.model.specs.Map.{Map};
+ghost use Rattle.depot_map.specs.Area.{Holds};
 ghost use Rattle.measured.specs.Refusal.{mapRefusal};
 
 // Reads a map into the work area: the number of the refusal, or 0.
@@ -17,6 +22,48 @@ pub extern "C" fn measured_read_map(map: &[u8], work: &mut [u32]) -> u32
     }
     match read_map(map, work) {
         MapRead::Whole(_, _) => 0,
+        MapRead::Refused(why) => number_of(why),
+    }
+}
+
+// Searches `times` times from the same line, on the map that the work area holds.
+fn search_again(work: &mut [u32], lines: u32, first: u32, class: u32, limit: u32, times: u32)
+    requires { ⌜ ((m : Map) × Holds (now work) (length (m .nodes)) lines m) ⌝ }
+{
+    link(work, lines as usize);
+    if lines <= first {
+        return;
+    }
+    if GREATEST_LEG_LENGTH < limit {
+        return;
+    }
+    let mut i: u32 = 0;
+    while i < times {
+        search(work, lines as usize, first as usize, class, limit);
+        i += 1;
+    }
+}
+
+// Reads a map, makes its chains and searches `times` times: the number of the refusal, or 0. The time of a search is the difference that `times` makes.
+#[no_mangle]
+pub extern "C" fn measured_search(
+    map: &[u8],
+    work: &mut [u32],
+    first: u32,
+    class: u32,
+    limit: u32,
+    times: u32,
+) -> u32
+    ensures { λ r. ⌜ r ≡ mapRefusal (length (now (work .entry))) (now (map .entry)) ⌝ }
+{
+    if work.len() < WORK_LENGTH {
+        return 1;
+    }
+    match read_map(map, work) {
+        MapRead::Whole(_, lines) => {
+            search_again(work, lines, first, class, limit, times);
+            0
+        }
         MapRead::Refused(why) => number_of(why),
     }
 }

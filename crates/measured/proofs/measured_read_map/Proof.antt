@@ -1,24 +1,11 @@
 -- `measured_read_map` meets its contract: what `read_map` answers, by its number.
 use borrow.Author.Needs.{needs}
-use Prim.Native.Nat.{ℕ, _≤_, _<_}
-use mathlib.Core.Path.{_≡_, _∙_}
-use mathlib.Core.List.{List}
-use borrow.Author.Tests.{lt-ltb, le-ltb}
-use Rattle.model.specs.Map.{MapAnswer, decode}
-use Rattle.model.specs.Outcome.{workLength}
+use mathlib.Core.Path.{_∙_}
 use Rattle.depot_map.proofs.Whole.{read-whole, read-refused}
-use Rattle.measured.specs.Refusal.{refusedBy, mapRefusal}
+use Rattle.measured.specs.Refusal.{refusedBy}
+use Rattle.measured.proofs.Refused.{short, full}
 use Rattle.measured.proofs.measured_read_map.Statement.{statement}
 use Rattle.measured.proofs.measured_read_map.Tie as tie
-
-module _ (work : ℕ) (bytes : List ℕ) where
-  short : work < workLength → 1 ≡ mapRefusal work bytes
-  unfolding mapRefusal
-  short h = simp (lt-ltb work workLength h)
-
-  full : workLength ≤ work → {a : MapAnswer} → decode bytes ≡ a → refusedBy a ≡ mapRefusal work bytes
-  unfolding mapRefusal
-  full h e = simp (le-ltb work workLength h, e)
 
 returns : tie.Need-returns
 returns c = short _ _ (c .if1 .taken)

@@ -1,0 +1,144 @@
+-- What the ways of least length from a first line to an end say of the readings of a leg.
+use Prim.Native.Nat.{ℕ, zero, suc, _-_, _≤_, _<_}
+use mathlib.Core.Path.{_≡_, refl, sym, _∙_, ap}
+use mathlib.Core.Bool.{Bool, true, false, cond}
+use mathlib.Core.List.{List, [], _∷_}
+use native.Mathlib.Nat.{le-antisymm}
+use native.Mathlib.Omega.{arith}
+use lib.ListN.{length, length-append}
+use lib.Dec.{eqb}
+use borrow.Author.Tests.{eqb-true, eqb-false}
+use Rattle.model.specs.Map.{Map}
+use Rattle.model.specs.Field.{distance}
+use Rattle.model.specs.Lines.{lineAt, total, firstOf, lastOf, leaving}
+use Rattle.model.specs.Reading.{Leg, Arrives, Allowed, SameEnds, Reading, greatestLegLength}
+use Rattle.fields.specs.Leg.{LongestLeg}
+use Rattle.search.specs.Ways.{Target, Ends, Way, Least, Only, Two, Beyond}
+use Rattle.model.proofs.Skipping.{last-append}
+use Rattle.search.specs.Area.{lineBefore, linesTo}
+use Rattle.search.specs.Promises.{Told}
+use Rattle.search.specs.declared.ways.Ways.{Ways}
+use Rattle.search.specs.declared.ways.Ways.the-variants.{Nothing, Several, One}
+use Rattle.legs.specs.Verdict.{ReadingTo, FirstOf, TwoLists, Says, unread, one, several, judgeOf}
+use Rattle.legs.specs.declared.ends.Verdict.the-variants as verdict
+
+-- An end of a leg: the lists that end there end as the leg says, and those that the leg allows with the same ends end there too.
+pub record EndOf (m : Map) (leg : Leg) (to : Target) : Type 0 where
+  pub arrives : (ls : List ℕ) → Ends m to ls → Arrives m (leg .arrival) ls
+  pub ends : (ls : List ℕ) → Ends m to ls → lineAt m (lastOf ls) .end ≡ leg .to
+  pub same : (a b : List ℕ) → firstOf a ≡ firstOf b → Ends m to a → Ends m to b → SameEnds (leg .arrival) a b
+  pub there : (a b : List ℕ) → Ends m to a → SameEnds (leg .arrival) a b → Allowed m leg b → Ends m to b
+  pub first : (a b : List ℕ) → SameEnds (leg .arrival) a b → firstOf a ≡ firstOf b
+
+module _ {m : Map} {leg : Leg} {first limit : ℕ} {to : Target} (longest : LongestLeg (leg .distance) limit) (end : EndOf m leg to)
+    (start : FirstOf m leg first) where
+  allowed : {ls : List ℕ} → Way m (leg .lowest) first to ls → total m ls ≤ greatestLegLength → Allowed m leg ls
+  allowed {ls} w short =
+      record {
+        connected = w .connected;
+        starts = ap (λ (l : ℕ). lineAt m l .start) (w .starts) ∙ start .from;
+        leaves = ap (leaving m) (w .starts) ∙ start .leaves;
+        ends = end .ends ls (w .ends);
+        arrives = end .arrives ls (w .ends);
+        classes = w .classes;
+        within = short;
+      }
+
+  way : {ls : List ℕ} → Allowed m leg ls → firstOf ls ≡ first → Ends m to ls → Way m (leg .lowest) first to ls
+  way a starts ends = record { connected = a .connected; starts = starts; ends = ends; classes = a .classes }
+
+  -- A reading is within the limit.
+  within : {ls : List ℕ} → Reading m leg ls → total m ls ≤ limit
+  within r = longest .holds _ (r .allowed .within) (omega (arith, r .distanced))
+
+  pub none : Beyond m (leg .lowest) first to limit → (ls : List ℕ) → ReadingTo m leg first to ls → ⊥
+  none beyond ls r = omega (arith, beyond ls (way (r .reading .allowed) (r .starts) (r .ends)), within (r .reading))
+
+  module _ {d : ℕ} (near : d ≤ limit) (least : Least m (leg .lowest) first to d) where
+    -- A reading has the least length, which gives D.
+    length-is : {ls : List ℕ} → ReadingTo m leg first to ls → total m ls ≡ d
+    length-is {ls} r =
+        let w = way (r .reading .allowed) (r .starts) (r .ends) in
+        let s = least .some in
+        let short : total m (s .list) ≤ greatestLegLength = omega (arith, s .sum, longest .within) in
+        let same = end .same ls (s .list) (r .starts ∙ sym (s .way .starts)) (r .ends) (s .way .ends) in
+        le-antisymm (omega (arith, r .reading .least (s .list) (allowed (s .way) short) same, s .sum)) (least .least ls w)
+
+    gives : {ls : List ℕ} → ReadingTo m leg first to ls → distance d ≡ leg .distance
+    gives r = ap distance (sym (length-is r)) ∙ r .reading .distanced
+
+    -- A way of that length is a reading, where it gives D.
+    reading : {ls : List ℕ} → distance d ≡ leg .distance → Way m (leg .lowest) first to ls → total m ls ≡ d → ReadingTo m leg first to ls
+    reading {ls} e w sum =
+        record {
+          reading = record {
+            allowed = allowed w (omega (arith, sum, longest .within));
+            distanced = ap distance sum ∙ e;
+            least = λ other a same.
+                let starts : firstOf other ≡ first = sym (end .first ls other same) ∙ w .starts in
+                omega (arith, sum, least .least other (way a starts (end .there ls other (w .ends) same a)));
+          };
+          starts = w .starts;
+          ends = w .ends;
+        }
+
+    pub other-length : (distance d ≡ leg .distance → ⊥) → (ls : List ℕ) → ReadingTo m leg first to ls → ⊥
+    other-length differs ls r = differs (gives r)
+
+    pub two : distance d ≡ leg .distance → Two m (leg .lowest) first to d → TwoLists (ReadingTo m leg first to)
+    two e t =
+        record {
+          one = t .one .list;
+          other = t .other .list;
+          first = reading e (t .one .way) (t .one .sum);
+          second = reading e (t .other .way) (t .other .sum);
+          differ = t .differ;
+        }
+
+    pub one-reading : {list : List ℕ} → distance d ≡ leg .distance → Only m (leg .lowest) first to d list →
+        ReadingTo m leg first to list × ((other : List ℕ) → ReadingTo m leg first to other → other ≡ list)
+    one-reading {list} e o = (
+      reading e (o .way) (o .sum),
+      λ other r. o .only other (way (r .reading .allowed) (r .starts) (r .ends)) (length-is r),
+    )
+
+-- The lines up to a last one, as they stand in a work area.
+last-is : (w : List ℕ) (last count : ℕ) → 0 < count → lastOf (linesTo w last count) ≡ last
+unfolding lastOf
+last-is w last zero some = absurd (omega arith)
+last-is w last (suc count) some = last-append (linesTo w (lineBefore w last - 1) count) (last ∷ []) (omega arith)
+
+count-is : (w : List ℕ) (last count : ℕ) → length (linesTo w last count) ≡ count
+count-is w last zero = refl
+count-is w last (suc count) =
+    length-append (linesTo w (lineBefore w last - 1) count) (last ∷ []) ∙ (let h = count-is w (lineBefore w last - 1) count in omega arith)
+
+-- The verdict on the ways that were found.
+module _ {m : Map} {leg : Leg} {first limit : ℕ} {to : Target} (longest : LongestLeg (leg .distance) limit) (end : EndOf m leg to)
+    (start : FirstOf m leg first) (lines : ℕ) (w : List ℕ) where
+  pub judged : (ways : Ways) → Told m lines (leg .lowest) first limit to w ways →
+      Says m (ReadingTo m leg first to) (judgeOf ways first (leg .distance))
+  unfolding judgeOf
+  judged Nothing beyond = unread (none longest end start beyond)
+  judged (Several length) t = go (eqb (distance length) (leg .distance)) refl
+    where
+      go : (b : Bool) → eqb (distance length) (leg .distance) ≡ b → Says m (ReadingTo m leg first to) (cond b verdict.Several verdict.Unread)
+      go true e = several (two longest end start (t .within) (t .least) (eqb-true _ _ e) (t .two))
+      go false e = unread (other-length longest end start (t .within) (t .least) (eqb-false _ _ e))
+  judged (One last length count) (o, inside, some, few) = go (eqb (distance length) (leg .distance)) refl
+    where
+      go : (b : Bool) → eqb (distance length) (leg .distance) ≡ b →
+          Says m (ReadingTo m leg first to)
+          (cond b (verdict.One (record { first = first; last = last; length = length; count = count })) verdict.Unread)
+      go true e =
+          let k = one-reading longest end start (o .within) (o .least) (eqb-true _ _ e) (o .only) in
+          one {ls = linesTo w last count}
+          (record {
+            holds = k .0;
+            only = k .1;
+            first = k .0 .starts;
+            last = last-is w last count some;
+            sum = o .only .sum;
+            count = count-is w last count;
+          })
+      go false e = unread (other-length longest end start (o .within) (o .least) (eqb-false _ _ e))

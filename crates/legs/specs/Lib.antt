@@ -1,0 +1,2 @@
+-- What the verdicts on a leg say.
+pub mod Verdict

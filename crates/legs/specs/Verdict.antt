@@ -1,0 +1,137 @@
+-- What a verdict says of line lists, and which leg of the definitions a leg of the code is.
+use Prim.Native.Nat.{ℕ, _+_, _*_, _≤_, _<_}
+use mathlib.Core.Path.{_≡_}
+use mathlib.Core.Bool.{cond}
+use mathlib.Core.List.{List}
+use lib.ListN.{length, getD}
+use lib.Dec.{eqb}
+use Rattle.model.specs.Map.{Map}
+use Rattle.model.specs.Field.{sector, distance}
+use Rattle.model.specs.Lines.{LineAttributes, lineAt, total, firstOf, lastOf, leaving}
+use Rattle.fields.specs.Leg.{LongestLeg}
+use Rattle.depot_map.specs.Area.{Kept}
+use Rattle.search.specs.Ways.{Target, Ends}
+use Rattle.search.specs.Area.{Held, Chained, Searched}
+use Rattle.search.specs.declared.ways.Ways.{Ways}
+use Rattle.legs.specs.declared.ends.Attributes.{Attributes}
+use Rattle.legs.specs.declared.ends.Arrival.{Arrival}
+use Rattle.legs.specs.declared.ends.Arrival.the-variants.{Any, Matching}
+use Rattle.legs.specs.declared.ends.Leg.{Leg}
+use Rattle.legs.specs.declared.ends.Reading.{Reading}
+use Rattle.legs.specs.declared.ends.Verdict.{Verdict}
+use Rattle.legs.specs.declared.ends.Verdict.the-variants.{Unread, One, Several}
+use Rattle.model.specs.Reading as definitions
+use Rattle.search.specs.declared.ways.Ways.the-variants as found
+
+-- The attributes, the arrival and the leg of the definitions.
+unfoldable pub attributesIn : Attributes → LineAttributes
+attributesIn a = record { frc = a .frc; fow = a .fow; sector = a .sector }
+
+-- The attributes of line `l` in a work area, by its number `bearing`.
+unfoldable pub attributesAt : List ℕ → ℕ → ℕ → LineAttributes
+attributesAt w l bearing =
+    record {
+      frc = getD w (1_024 + 7 * l + 3) 0;
+      fow = getD w (1_024 + 7 * l + 4) 0;
+      sector = sector (getD w (1_024 + 7 * l + bearing) 0);
+    }
+
+unfoldable pub arrivalIn : Arrival → definitions.Arrival
+arrivalIn Any = definitions.any
+arrivalIn (Matching a) = definitions.matching (attributesIn a)
+
+unfoldable pub legIn : Leg → definitions.Leg
+legIn leg =
+    record {
+      from = leg .from;
+      to = leg .to;
+      leaves = attributesIn (leg .leaves);
+      lowest = leg .lowest;
+      distance = leg .distance;
+      arrival = arrivalIn (leg .arrival);
+    }
+
+-- Exactly one list has the property `P`: `ls`, of this first and last line, length and count.
+pub record OneList (m : Map) (P : List ℕ → Type 0) (r : Reading) (ls : List ℕ) : Type 0 where
+  pub holds : P ls
+  pub only : (other : List ℕ) → P other → other ≡ ls
+  pub first : firstOf ls ≡ r .first
+  pub last : lastOf ls ≡ r .last
+  pub sum : total m ls ≡ r .length
+  pub count : length ls ≡ r .count
+
+-- Two different lists have it.
+pub record TwoLists (P : List ℕ → Type 0) : Type 0 where
+  pub one : List ℕ
+  pub other : List ℕ
+  pub first : P one
+  pub second : P other
+  pub differ : one ≡ other → ⊥
+
+-- What a verdict says of the lists that have a property.
+pub data Says (m : Map) (P : List ℕ → Type 0) : Verdict → Type 0 where
+  unread : ((ls : List ℕ) → P ls → ⊥) → Says m P Unread
+  one : {r : Reading} {ls : List ℕ} → OneList m P r ls → Says m P (One r)
+  several : TwoLists P → Says m P Several
+
+-- The verdict on a whole leg: "a leg's reading is a line list such that ..".
+abbrev pub OnLeg : Map → Leg → Verdict → Type 0
+OnLeg m leg v = Says m (definitions.Reading m (legIn leg)) v
+
+-- The readings of a leg with the first line `first`; those with a first line from `at` on; those with the first line `first` and a last
+-- line below `i`.
+pub record FromLine (m : Map) (leg : definitions.Leg) (first : ℕ) (ls : List ℕ) : Type 0 where
+  pub reading : definitions.Reading m leg ls
+  pub starts : firstOf ls ≡ first
+
+pub record FromLines (m : Map) (leg : definitions.Leg) (at : ℕ) (ls : List ℕ) : Type 0 where
+  pub reading : definitions.Reading m leg ls
+  pub starts : at ≤ firstOf ls
+
+pub record ToLinesBelow (m : Map) (leg : definitions.Leg) (first i : ℕ) (ls : List ℕ) : Type 0 where
+  pub reading : definitions.Reading m leg ls
+  pub starts : firstOf ls ≡ first
+  pub ends : lastOf ls < i
+
+-- Those with the first line `first` that lead to a target.
+pub record ReadingTo (m : Map) (leg : definitions.Leg) (first : ℕ) (to : Target) (ls : List ℕ) : Type 0 where
+  pub reading : definitions.Reading m leg ls
+  pub starts : firstOf ls ≡ first
+  pub ends : Ends m to ls
+
+-- A first line of a leg: it starts at the leg's node with the leg's attributes.
+pub record FirstOf (m : Map) (leg : definitions.Leg) (first : ℕ) : Type 0 where
+  pub from : lineAt m first .start ≡ leg .from
+  pub leaves : leaving m first ≡ leg .leaves
+
+-- The search for a leg from a first line is done: under the leg's lowest class, up to the greatest length that gives D.
+pub record Ready (m : Map) (lines : ℕ) (leg : Leg) (first limit : ℕ) (w : List ℕ) : Type 0 where
+  pub searched : Searched m lines (leg .lowest) first limit w
+  pub longest : LongestLeg (leg .distance) limit
+  pub start : FirstOf m (legIn leg) first
+
+-- The work area is ready for searches: it holds the map, and the chains of the lines that leave each node are made.
+pub record Set (m : Map) (lines : ℕ) (w : List ℕ) : Type 0 where
+  pub held : Held w lines m
+  pub chained : Chained w lines m
+
+-- A verdict on readings, with what it leaves of the work area.
+pub record Judged (m : Map) (lines : ℕ) (P : List ℕ → Type 0) (w v : List ℕ) (r : Verdict) : Type 0 where
+  pub says : Says m P r
+  pub set : Set m lines v
+  pub kept : Kept 8_192 12_288 w v
+
+-- The verdict on ways from line `first`: readings where their length gives D.
+unfoldable pub judgeOf : Ways → ℕ → ℕ → Verdict
+judgeOf found.Nothing first d = Unread
+judgeOf (found.Several length) first d = cond (eqb (distance length) d) Several Unread
+judgeOf (found.One last length count) first d =
+    cond (eqb (distance length) d) (One (record { first = first; last = last; length = length; count = count })) Unread
+
+-- The verdict on lists of two kinds, by the verdicts on each.
+unfoldable pub bothOf : Verdict → Verdict → Verdict
+bothOf Unread b = b
+bothOf (One r) Unread = One r
+bothOf (One r) (One q) = Several
+bothOf (One r) Several = Several
+bothOf Several b = Several

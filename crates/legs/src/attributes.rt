@@ -1,0 +1,56 @@
+// Whether a line has the attributes that a point gives: FRC, FOW and the sector of its bearing there.
+use crate::ends::Attributes;
+use fields::leg::sector;
+use search::area::field;
+ghost use mathlib.Core.Path.{_≡_};
+ghost use Prim.Native.Nat.{_≤_, _<_};
+ghost use lib.ListN.{length};
+ghost use Rattle.model.specs.Map.{Map};
+ghost use Rattle.model.specs.Lines.{leaving, arriving};
+ghost use Rattle.search.specs.Area.{Held};
+ghost use Rattle.search.specs.Steps.{Decides};
+ghost use Rattle.legs.specs.Verdict.{attributesIn, attributesAt};
+
+// Which number of a line is which.
+const FRC: usize = 3;
+
+const FOW: usize = 4;
+
+const BEARING_OUT: usize = 5;
+
+const BEARING_BACK: usize = 6;
+
+// Whether line `l` has these attributes, by its number `bearing`.
+fn has_attributes(work: &[u32], l: usize, bearing: usize, a: Attributes) -> bool
+    requires { ⌜ (l < 1_024) × (bearing < 7) × (12_288 ≤ length (now work)) ⌝ }
+    ensures { λ r. ⌜ Decides (attributesAt (now (work .entry)) l bearing ≡ attributesIn a) r ⌝ }
+{
+    if field(work, l, FRC) != a.frc {
+        return false;
+    }
+    if field(work, l, FOW) != a.fow {
+        return false;
+    }
+    if sector(field(work, l, bearing)) != a.sector {
+        return false;
+    }
+    true
+}
+
+// Whether line `l` has these attributes as seen from its start node.
+pub fn leaves_as(work: &[u32], lines: usize, l: usize, a: Attributes) -> bool
+    requires { ⌜ l < lines ⌝ }
+    requires { ⌜ ((m : Map) × Held (now work) lines m) ⌝ }
+    ensures { λ r. ⌜ ((m : Map) → Held (now (work .entry)) lines m → Decides (leaving m l ≡ attributesIn a) r) ⌝ }
+{
+    has_attributes(work, l, BEARING_OUT, a)
+}
+
+// Whether line `l` has these attributes as seen from its end node.
+pub fn arrives_as(work: &[u32], lines: usize, l: usize, a: Attributes) -> bool
+    requires { ⌜ l < lines ⌝ }
+    requires { ⌜ ((m : Map) × Held (now work) lines m) ⌝ }
+    ensures { λ r. ⌜ ((m : Map) → Held (now (work .entry)) lines m → Decides (arriving m l ≡ attributesIn a) r) ⌝ }
+{
+    has_attributes(work, l, BEARING_BACK, a)
+}

@@ -1,0 +1,159 @@
+// What a finished search says of the end of a leg.
+use crate::attributes::arrives_as;
+use fields::leg::distance;
+use search::area::END;
+use search::area::field;
+use search::area::wide;
+use search::ways::Ways;
+use search::ways::to_line;
+use search::ways::to_node;
+ghost use mathlib.Core.Path.{_≡_};
+ghost use Prim.Native.Nat.{_<_};
+ghost use lib.ListN.{length};
+ghost use Rattle.model.specs.Map.{Map};
+ghost use Rattle.model.specs.Reading.{any, matching};
+ghost use Rattle.search.specs.Ways.{line};
+ghost use Rattle.search.specs.Area.{Reaching};
+ghost use Rattle.legs.specs.Verdict.{attributesIn, arrivalIn, legIn, judgeOf, bothOf, Ready, Says, FromLine, ReadingTo};
+
+// What a reference says of a line at a point: FRC, FOW and the sector of its bearing there.
+pub struct Attributes {
+    pub frc: u32,
+    pub fow: u32,
+    pub sector: u32,
+}
+
+// How a leg must end: with any line, or, on the last leg, with a line of these attributes.
+pub enum Arrival {
+    Any,
+    Matching(Attributes),
+}
+
+// A leg between two nodes, as the bytes give it.
+pub struct Leg {
+    pub from: usize,
+    pub to: usize,
+    pub leaves: Attributes,
+    pub lowest: u32,
+    pub distance: u32,
+    pub arrival: Arrival,
+}
+
+// A reading by its first and last line, its length and its count of lines.
+pub struct Reading {
+    pub first: usize,
+    pub last: usize,
+    pub length: u32,
+    pub count: usize,
+}
+
+// The readings of a leg.
+pub enum Verdict {
+    Unread,
+    One(Reading),
+    Several,
+}
+
+// The verdict on the ways from line `first` to an end: they are readings where their length gives byte D, `d`.
+fn judge(ways: Ways, first: usize, d: u32) -> Verdict
+    ensures { λ r. ⌜ r ≡ judgeOf ways first d ⌝ }
+{
+    match ways {
+        Ways::Nothing => Verdict::Unread,
+        Ways::Several(length) => {
+            if distance(length) == d {
+                Verdict::Several
+            } else {
+                Verdict::Unread
+            }
+        }
+        Ways::One(last, length, count) => {
+            if distance(length) == d {
+                Verdict::One(Reading {
+                    first,
+                    last,
+                    length,
+                    count,
+                })
+            } else {
+                Verdict::Unread
+            }
+        }
+    }
+}
+
+// The verdict on readings of two kinds, by the verdicts on each.
+pub fn both(a: Verdict, b: Verdict) -> Verdict
+    ensures { λ r. ⌜ r ≡ bothOf a b ⌝ }
+{
+    match a {
+        Verdict::Unread => b,
+        Verdict::One(reading) => match b {
+            Verdict::Unread => Verdict::One(reading),
+            Verdict::One(_) => Verdict::Several,
+            Verdict::Several => Verdict::Several,
+        },
+        Verdict::Several => Verdict::Several,
+    }
+}
+
+// The verdict on the readings from line `first` to the leg's end node, whatever their last line.
+// After a search from that line and `nearest_lines`.
+pub fn at_node(work: &[u32], lines: usize, first: usize, leg: Leg, limit: u32) -> Verdict
+    requires { ⌜ ((m : Map) × Ready m lines leg first limit (now work) × Reaching m lines limit (now work) × (leg .to < length (m .nodes))) ⌝ }
+    ensures { λ r. ⌜ ((m : Map) → Ready m lines leg first limit (now (work .entry)) → Reaching m lines limit (now (work .entry))
+        → leg .to < length (m .nodes) → arrivalIn (leg .arrival) ≡ any → Says m (FromLine m (legIn leg) first) r) ⌝ }
+{
+    let to = leg.to;
+    judge(to_node(work, lines, first, to, limit), first, leg.distance)
+}
+
+// The verdict on the readings from line `first` to line `last`, which must arrive at the leg's end node with the attributes `a`.
+fn at_line(
+    work: &[u32],
+    lines: usize,
+    first: usize,
+    last: usize,
+    leg: Leg,
+    a: Attributes,
+    limit: u32,
+) -> Verdict
+    requires { ⌜ last < lines ⌝ }
+    requires { ⌜ ((m : Map) × Ready m lines leg first limit (now work)) ⌝ }
+    ensures { λ r. ⌜ ((m : Map) → Ready m lines leg first limit (now (work .entry)) → arrivalIn (leg .arrival) ≡ matching (attributesIn a)
+        → Says m (ReadingTo m (legIn leg) first (line last)) r) ⌝ }
+{
+    if wide(field(work, last, END)) != leg.to {
+        return Verdict::Unread;
+    }
+    if !arrives_as(work, lines, last, a) {
+        return Verdict::Unread;
+    }
+    judge(
+        to_line(work, lines, first, last, limit),
+        first,
+        leg.distance,
+    )
+}
+
+// The verdict on the readings from line `first` on the last leg, whose last line has the attributes `a`: each last line by itself.
+pub fn at_last_lines(
+    work: &[u32],
+    lines: usize,
+    first: usize,
+    leg: Leg,
+    a: Attributes,
+    limit: u32,
+) -> Verdict
+    requires { ⌜ ((m : Map) × Ready m lines leg first limit (now work)) ⌝ }
+    ensures { λ r. ⌜ ((m : Map) → Ready m lines leg first limit (now (work .entry)) → arrivalIn (leg .arrival) ≡ matching (attributesIn a)
+        → Says m (FromLine m (legIn leg) first) r) ⌝ }
+{
+    let mut found = Verdict::Unread;
+    let mut last: usize = 0;
+    while last < lines {
+        found = both(found, at_line(work, lines, first, last, leg, a, limit));
+        last += 1;
+    }
+    found
+}

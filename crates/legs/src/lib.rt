@@ -1,0 +1,64 @@
+// A leg's reading: none, exactly one, or several (paper 01, "What counts as a reading").
+// `verdict` answers for a whole leg, `from_line` for one first line. A caller that asks for many ends of one search uses `ends`.
+use attributes::leaves_as;
+use ends::Arrival;
+use ends::Leg;
+use ends::Verdict;
+use ends::at_last_lines;
+use ends::at_node;
+use ends::both;
+use fields::leg::longest_leg;
+use search::chains::first_leaving;
+use search::chains::next_leaving;
+use search::nodes::nearest_lines;
+use search::search;
+ghost use mathlib.Core.Path.{_≡_};
+ghost use Prim.Native.Nat.{_<_};
+ghost use lib.ListN.{length};
+ghost use Rattle.model.specs.Map.{Map};
+ghost use Rattle.model.specs.Lines.{lineAt};
+ghost use Rattle.model.specs.Reading.{Reading};
+ghost use Rattle.legs.specs.Verdict.{legIn, FromLine, Set, Judged};
+
+pub mod attributes;
+pub mod ends;
+
+// The verdict on the readings whose first line is `first`, a line that starts at the leg's first node.
+pub fn from_line(work: &mut [u32], lines: usize, first: usize, leg: Leg) -> Verdict
+    requires { ⌜ first < lines ⌝ }
+    requires { ⌜ ((m : Map) × Set m lines (now work) × (leg .to < length (m .nodes)) × (lineAt m first .start ≡ leg .from)) ⌝ }
+    ensures { λ r. ⌜ ((m : Map) → Set m lines (now (work .entry)) → leg .to < length (m .nodes) → lineAt m first .start ≡ leg .from
+        → Judged m lines (FromLine m (legIn leg) first) (now (work .entry)) (now (work .exit)) r) ⌝ }
+{
+    let leaves = leg.leaves;
+    if !leaves_as(work, lines, first, leaves) {
+        return Verdict::Unread;
+    }
+    let limit = longest_leg(leg.distance);
+    search(work, lines, first, leg.lowest, limit);
+    let arrival = leg.arrival;
+    match arrival {
+        Arrival::Any => {
+            nearest_lines(work, lines, limit);
+            at_node(work, lines, first, leg, limit)
+        }
+        Arrival::Matching(a) => at_last_lines(work, lines, first, leg, a, limit),
+    }
+}
+
+// The verdict on a leg: that on each line that leaves its first node, one after another.
+pub fn verdict(work: &mut [u32], lines: usize, leg: Leg) -> Verdict
+    requires { ⌜ ((m : Map) × Set m lines (now work) × (leg .from < length (m .nodes)) × (leg .to < length (m .nodes))) ⌝ }
+    ensures { λ r. ⌜ ((m : Map) → Set m lines (now (work .entry)) → leg .from < length (m .nodes) → leg .to < length (m .nodes)
+        → Judged m lines (Reading m (legIn leg)) (now (work .entry)) (now (work .exit)) r) ⌝ }
+{
+    let from = leg.from;
+    let mut found = Verdict::Unread;
+    let mut at = first_leaving(work, lines, from);
+    while 0 < at {
+        let more = from_line(work, lines, at - 1, leg);
+        found = both(found, more);
+        at = next_leaving(work, lines, at);
+    }
+    found
+}

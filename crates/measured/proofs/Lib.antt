@@ -1,0 +1,2 @@
+-- Laws that the measured functions share.
+pub mod Refused

@@ -1,0 +1,100 @@
+-- The chains of the lines that leave a node: how they are made, and that a walk along one meets every such line.
+use Prim.Native.Nat.{ℕ, zero, suc, _+_, _-_, _*_, _≤_, _<_}
+use mathlib.Core.Path.{_≡_, sym, _∙_, ap, subst}
+use mathlib.Core.Bool.{cond}
+use mathlib.Core.List.{List}
+use mathlib.Core.Logic.{⊎-elim}
+use native.Mathlib.Nat.{eq-or-lt-of-le}
+use native.Mathlib.Omega.{arith}
+use native.Mathlib.Numerals.{add-one}
+use borrow.Author.Tests.{eq-eqb, ne-eqb, eqb-true, eqb-false}
+use lib.Dec.{eqb}
+use lib.ListN.{length, getD, set, length-set}
+use lib.Seq.{getD-set-other}
+use Rattle.model.specs.Map.{Map}
+use Rattle.model.specs.Lines.{lineAt}
+use Rattle.search.specs.Area.{Held, latest}
+use Rattle.search.specs.Steps.{Filled}
+use Rattle.search.specs.Promises.{Linked}
+use Rattle.search.proofs.Frame.{picked, at-set, kept-none, kept-then, kept-set, held-kept, line-ok, few}
+
+latest-same : (m : Map) (v i : ℕ) → lineAt m i .start ≡ v → latest m v (i + 1) ≡ i + 1
+latest-same m v i e = rw (add-one i) (ap (λ t. cond t (suc i) (latest m v i)) (eq-eqb _ v e))
+
+latest-other : (m : Map) (v i : ℕ) → (lineAt m i .start ≡ v → ⊥) → latest m v (i + 1) ≡ latest m v i
+latest-other m v i d = rw (add-one i) (ap (λ t. cond t (suc i) (latest m v i)) (ne-eqb _ v d))
+
+pub link-none : {w v : List ℕ} {n : ℕ} {m : Map} → Held v n m → Filled 10240 512 0 w v → Linked v 0 m v
+link-none h f =
+    let k = h .formed in
+    record {
+      chained = record { heads = λ a a<. f .filled a (omega arith); nexts = λ l l<. absurd (omega arith) };
+      kept = kept-none;
+    }
+
+module _ {u w : List ℕ} {n i : ℕ} {m : Map} (h : Held u n m) (i< : i < n) (k : Linked u i m w) where
+  pub start-at : getD w (1024 + 7 * i + 0) 0 ≡ lineAt m i .start
+  start-at = held-kept (omega arith) (k .kept) h .line-held i 0 i< (omega arith)
+
+  pub start-small : getD w (1024 + 7 * i + 0) 0 < 512
+  start-small = let f = h .formed in omega (arith, start-at, line-ok h i< .start)
+
+  pub link-step : {v : ℕ} → v ≡ getD w (1024 + 7 * i + 0) 0 → Linked u (i + 1) m (set (set w (10752 + i) (getD w (10240 + v) 0)) (10240 + v) (i + 1))
+  link-step {v} at =
+      let x = getD w (10240 + v) 0 in
+      let z = start-small in
+      let n≤ = few h in
+      let s = k .kept .same in
+      let from : v ≡ lineAt m i .start = at ∙ start-at in
+      let e : x ≡ latest m (lineAt m i .start) i = rw from (k .chained .heads _ (line-ok h i< .start)) in
+      record {
+        chained = record {
+          heads = at-set (λ a y. a < length (m .nodes) → y ≡ latest m a (i + 1)) (set w (10752 + i) x) 10240 v (i + 1)
+              (simp length-set (omega arith))
+              (λ a<. sym (latest-same m v i (sym from)))
+              (λ a d a<. getD-set-other w (10752 + i) (10240 + a) x 0 (let f = h .formed in omega arith) ∙ k .chained .heads a a<
+              ∙ sym (latest-other m a i (λ y. d (sym (from ∙ y)))));
+          nexts = λ l l<. getD-set-other (set w (10752 + i) x) (10240 + v) (10752 + l) (i + 1) 0 (omega arith)
+              ∙ at-set (λ a y. a < i + 1 → y ≡ latest m (lineAt m a .start) a) w 10752 i x (omega arith) (λ a<. e)
+              (λ a d a<. k .chained .nexts a (omega arith)) l l<;
+        };
+        kept = kept-then (k .kept)
+            (kept-then (kept-set (10752 + i) x (omega arith) (omega arith)) (kept-set (10240 + v) (i + 1) (omega arith) (omega arith)));
+      }
+
+if-equal : (P : ℕ → Type 0) (m n a b : ℕ) → (m ≡ n → P a) → ((m ≡ n → ⊥) → P b) → P (cond (eqb m n) a b)
+if-equal P m n a b same other = picked P (eqb m n) a b (λ e. same (eqb-true m n e)) (λ e. other (eqb-false m n e))
+
+pub latest-le : (m : Map) (v i : ℕ) → latest m v i ≤ i
+latest-le m v zero = omega arith
+latest-le m v (suc i) =
+    let ih = latest-le m v i in if-equal (λ x. x ≤ suc i) _ v _ _ (λ e. omega arith) (λ d. omega arith)
+
+pub latest-hit : (m : Map) (v i : ℕ) → 0 < latest m v i → lineAt m (latest m v i - 1) .start ≡ v
+latest-hit m v zero h = absurd (omega arith)
+latest-hit m v (suc i) h =
+    if-equal (λ x. 0 < x → lineAt m (x - 1) .start ≡ v) _ v _ _
+    (λ e k. let z : suc i - 1 ≡ i = omega arith in rw z e)
+    (λ d k. latest-hit m v i k)
+    h
+
+pub latest-all : (m : Map) (v i j : ℕ) → j < i → lineAt m j .start ≡ v → j < latest m v i
+latest-all m v zero j j< e = absurd (omega arith)
+latest-all m v (suc i) j j< e =
+    if-equal (λ x. j < x) _ v _ _
+    (λ e. omega arith)
+    (λ d.
+    latest-all m v i j
+    (⊎-elim
+    (λ z. absurd (d (subst (λ (k : ℕ). lineAt m k .start ≡ v) z e)))
+    (λ l. l)
+    (eq-or-lt-of-le {n = j} {m = i} (omega arith)))
+    e)
+
+-- The node where line `l` ends.
+module _ {w : List ℕ} {n l v : ℕ} {m : Map} (h : Held w n m) (l< : l < n) (at : v ≡ getD w (1024 + 7 * l + 1) 0) where
+  pub end-is : v ≡ lineAt m l .end
+  end-is = at ∙ h .line-held l 1 l< (omega arith)
+
+  pub end-in : v < length (m .nodes)
+  end-in = omega (arith, end-is, line-ok h l< .end)

@@ -1,0 +1,12 @@
+-- Laws that the proofs of the functions cite.
+pub mod Plain
+pub mod Follows
+pub mod Frame
+pub mod Leaving
+pub mod Lengths
+pub mod Ties
+pub mod Back
+pub mod Arriving
+pub mod Written
+pub mod Verdicts
+pub mod Carried

@@ -1,0 +1,136 @@
+-- `link` meets its contract: after `i` turns the chains of the lines below `i` are made.
+use Rattle.search.proofs.Leaving.{link-none, link-step, start-small}
+use Rattle.search.proofs.Frame.{held-kept, kept-then, kept-wider, few}
+use Rattle.search.specs.Promises.{Linked}
+use Rattle.search.specs.Area.{Held}
+use Rattle.model.specs.Map.{Map}
+use lib.ListN.{length, getD, length-set}
+use Prim.Native.Nat.{ℕ, _+_, _*_, _≤_, _<_, _-_}
+use mathlib.Core.Path.{_≡_, refl, _∙_}
+use native.Mathlib.Omega.{arith}
+use borrow.Author.Needs.{needs}
+use Rattle.search.proofs.chains.link.Statement.{statement}
+use Rattle.search.proofs.chains.link.Tie as tie
+
+abbrev Inv-loop : tie.InvT-loop
+Inv-loop work₀ lines i₀ work i =
+    (i ≤ lines) × (length work ≡ length work₀) × ((m : Map) → Held work₀ lines m → Linked work₀ i m work)
+
+abbrev μ-loop : tie.MeasureT-loop
+μ-loop work₀ lines i₀ work i = lines - i
+
+-- What is known at the start of each turn, and once the node is read.
+known : (c : tie.In-loop Inv-loop μ-loop) →
+    let k = c .before .loop in
+    (12288 ≤ length (k .work)) × (k .i < 1024) × (getD (k .work) (1024 + 7 * k .i + 0) 0 < 512)
+known c =
+    let p = c .before .before .before .before .before .before .before .pre in
+    let h = held-kept (omega arith) (c .before .before .before .before .fill .ensures .kept) (p .1) in
+    let l = c .before .loop .inv in
+    let t = c .loop-test .taken in
+    (let z = l .1 in omega arith, omega (arith, few h), start-small h t (l .2 (p .0) h))
+
+turn : (c : tie.After-wide Inv-loop μ-loop) →
+    let k = c .before .before .before .before .loop in
+    (12288 ≤ length (k .work)) × (k .i < 1024) × (c .wide .result < 512)
+turn c =
+    let k = known (c .before .before .before) in
+    let e = c .wide .ensures in
+    let f = c .before .field .ensures in
+    (k .0, k .1, omega arith)
+
+fill-requires : tie.Need-fill-requires Inv-loop μ-loop
+fill-requires c κs = search needs
+
+loop-holds : tie.Need-loop-holds Inv-loop μ-loop
+loop-holds c = (search needs, refl, λ m h. link-none h (c .before .before .fill .ensures))
+
+field-requires : tie.Need-field-requires Inv-loop μ-loop
+field-requires c κs = let k = known (c .before) in (omega arith, search needs, k .0)
+
+wide-requires : tie.Need-wide-requires Inv-loop μ-loop
+wide-requires c κs = search needs
+
+add-work : tie.Need-add-work Inv-loop μ-loop
+add-work c = let k = turn c in omega arith
+
+mul-work : tie.Need-mul-work Inv-loop μ-loop
+mul-work c = let k = turn c in omega arith
+
+slice-read-work : tie.Need-slice-read-work Inv-loop μ-loop
+slice-read-work c = let k = turn (c .before) in omega arith
+
+add-work-2 : tie.Need-add-work-2 Inv-loop μ-loop
+add-work-2 c = let k = turn (c .before) in omega arith
+
+mul-work-2 : tie.Need-mul-work-2 Inv-loop μ-loop
+mul-work-2 c = let k = turn (c .before) in omega arith
+
+slice-write-work : tie.Need-slice-write-work Inv-loop μ-loop
+slice-write-work c = let k = turn (c .before) in omega arith
+
+add-work-3 : tie.Need-add-work-3 Inv-loop μ-loop
+add-work-3 c = let k = turn (c .before) in omega arith
+
+cast-work : tie.Need-cast-work Inv-loop μ-loop
+cast-work c = let k = turn (c .before) in omega arith
+
+add-work-4 : tie.Need-add-work-4 Inv-loop μ-loop
+add-work-4 c = let k = turn (c .before) in omega arith
+
+mul-work-3 : tie.Need-mul-work-3 Inv-loop μ-loop
+mul-work-3 c = let k = turn (c .before) in omega arith
+
+slice-write-work-2 : tie.Need-slice-write-work-2 Inv-loop μ-loop
+slice-write-work-2 c = let k = turn (c .before) in simp length-set (omega arith)
+
+add-i : tie.Need-add-i Inv-loop μ-loop
+add-i c = let k = turn (c .before) in omega arith
+
+loop-less : tie.Need-loop-less Inv-loop μ-loop
+loop-less c = search needs
+
+loop-again : tie.Need-loop-again Inv-loop μ-loop
+loop-again c = (
+  search needs,
+  simp length-set (c .before .before .before .before .before .loop .inv .1),
+  λ m h. link-step h (c .before .before .before .before .loop-test .taken) (c .before .before .before .before .before .loop .inv .2 m h) (c .before .wide .ensures .0 ∙ c .before .before .field .ensures),
+)
+
+same-length : tie.Need-same-length Inv-loop μ-loop
+same-length c = c .before .loop .inv .1 ∙ c .before .before .before .before .fill .ensures .kept .same
+
+returns : tie.Need-returns Inv-loop μ-loop
+returns c =
+    λ m h.
+    let k = c .before .before .before .before .fill .ensures .kept in
+    let e : _≡_ {A = ℕ} (c .before .loop .i) (c .before .before .before .before .before .before .before .args .lines) = omega arith in
+    let s = rw e at (c .before .loop .inv .2 m (held-kept (omega arith) k h)) in
+    record { chained = s .chained; kept = kept-then (kept-wider (omega arith) (omega arith) k) (s .kept) }
+
+pub link-spec : {M : Type 1} → statement M
+link-spec =
+    tie.close
+    (tie.spec
+    Inv-loop
+    μ-loop
+    fill-requires
+    loop-holds
+    field-requires
+    wide-requires
+    add-work
+    mul-work
+    slice-read-work
+    add-work-2
+    mul-work-2
+    slice-write-work
+    add-work-3
+    cast-work
+    add-work-4
+    mul-work-3
+    slice-write-work-2
+    add-i
+    loop-less
+    loop-again
+    same-length
+    returns)

@@ -1,0 +1,97 @@
+-- What stands in the work area besides the map: the chains of the lines that leave a node, and what a search has found.
+use Prim.Native.Nat.{ℕ, zero, suc, _+_, _-_, _%_, _≤_, _<_}
+use mathlib.Core.Path.{_≡_}
+use mathlib.Core.Bool.{cond}
+use mathlib.Core.List.{List, [], _∷_, _++_}
+use lib.ListN.{length, getD}
+use lib.Dec.{eqb}
+use Rattle.model.specs.Map.{Map}
+use Rattle.model.specs.Lines.{lineAt, Follows}
+use Rattle.model.specs.Reading.{greatestLegLength}
+use Rattle.depot_map.specs.Area.{Holds}
+use Rattle.search.specs.Ways.{line, Distance}
+
+-- The work area holds the map `m`, which has so many lines.
+abbrev pub Held : List ℕ → ℕ → Map → Type 0
+Held w lines m = Holds w (length (m .nodes)) lines m
+
+-- The cells. For each line: the length found to it (past the limit of the search where no way is within it), and the line before it.
+abbrev pub lengthTo : List ℕ → ℕ → ℕ
+lengthTo w l = getD w (8_192 + l) 0
+
+abbrev pub lineBefore : List ℕ → ℕ → ℕ
+lineBefore w l = getD w (9_216 + l) 0
+
+-- For each node the first line of its chain, for each line the next, and for each node the nearest line that ends there.
+abbrev pub firstLeaving : List ℕ → ℕ → ℕ
+firstLeaving w v = getD w (10_240 + v) 0
+
+abbrev pub nextLeaving : List ℕ → ℕ → ℕ
+nextLeaving w l = getD w (10_752 + l) 0
+
+abbrev pub nearestLine : List ℕ → ℕ → ℕ
+nearestLine w v = getD w (11_776 + v) 0
+
+-- What a cell says instead of 1 + a line: that there are several.
+abbrev pub several : ℕ
+several = 2_000
+
+-- 1 + the greatest line below `i` that starts at node `v`, or 0.
+abbrev pub latest : Map → ℕ → ℕ → ℕ
+latest m v zero = 0
+latest m v (suc i) = cond (eqb (lineAt m i .start) v) (suc i) (latest m v i)
+
+-- The chains of the lines that leave each node: its last line, and from each line to the line before it from the same node.
+pub record Chained (w : List ℕ) (lines : ℕ) (m : Map) : Type 0 where
+  pub heads : (v : ℕ) → v < length (m .nodes) → firstLeaving w v ≡ latest m v lines
+  pub nexts : (l : ℕ) → l < lines → nextLeaving w l ≡ latest m (lineAt m l .start) l
+
+-- Line `l` stands before line `j` on a way that is as long as the length found to `j`.
+pub record Tie (m : Map) (w : List ℕ) (l j : ℕ) : Type 0 where
+  pub known : l < length (m .lines)
+  pub follows : Follows m l j
+  pub equal : lengthTo w l + lineAt m j .length ≡ lengthTo w j
+
+-- What `x` says of the lines below `i` that tie with line `j`: 0 for none, 1 + the only one, or several.
+pub record Before (m : Map) (w : List ℕ) (i j x : ℕ) : Type 0 where
+  pub none : x ≡ 0 → (l : ℕ) → l < i → Tie m w l j → ⊥
+  pub tie : 0 < x → x < several → Tie m w (x - 1) j
+  pub one : 0 < x → x < several → (l : ℕ) → l < i → Tie m w l j → l ≡ x - 1
+  pub below : x < several → x ≤ i
+  pub many : several ≤ x → (a : ℕ) × (b : ℕ) × Tie m w a j × Tie m w b j × (a ≡ b → ⊥)
+
+-- That stands in the area for every line.
+abbrev pub Tied : Map → ℕ → List ℕ → Type 0
+Tied m lines w = (j : ℕ) → j < lines → Before m w lines j (lineBefore w j)
+
+-- The `count` lines up to line `last`, by the line before each that stands in the area.
+abbrev pub linesTo : List ℕ → ℕ → ℕ → List ℕ
+linesTo w last zero = []
+linesTo w last (suc count) = linesTo w (lineBefore w last - 1) count ++ last ∷ []
+
+-- A search from line `first` is done: the length to every line, and the line before it.
+pub record Searched (m : Map) (lines class first limit : ℕ) (w : List ℕ) : Type 0 where
+  pub held : Held w lines m
+  pub inside : first < lines
+  pub small : limit ≤ greatestLegLength
+  pub capped : (l : ℕ) → l < lines → lengthTo w l ≤ limit + 1
+  pub found : (l : ℕ) → l < lines → Distance m class first limit (line l) (lengthTo w l)
+  pub tied : Tied m lines w
+
+-- The line that the cell of a node names: the cell is 1 + the line where it alone is nearest, and 2,000 more where another is as near.
+abbrev pub named : ℕ → ℕ
+named x = (x - 1) % several
+
+-- What `x` says of the lines below `i` that end at node `v`: 0 where none is within the limit, or which of them is nearest, and whether it alone is.
+pub record Nearest (m : Map) (limit : ℕ) (w : List ℕ) (i v x : ℕ) : Type 0 where
+  pub none : x ≡ 0 → (l : ℕ) → l < i → lineAt m l .end ≡ v → limit < lengthTo w l
+  pub below : 0 < x → named x < i
+  pub ends : 0 < x → lineAt m (named x) .end ≡ v
+  pub near : 0 < x → lengthTo w (named x) ≤ limit
+  pub least : 0 < x → (l : ℕ) → l < i → lineAt m l .end ≡ v → lengthTo w (named x) ≤ lengthTo w l
+  pub one : 0 < x → x < several → (l : ℕ) → l < i → lineAt m l .end ≡ v → lengthTo w l ≡ lengthTo w (named x) → l ≡ named x
+  pub many : several ≤ x → (l : ℕ) × (l < i) × (lineAt m l .end ≡ v) × (lengthTo w l ≡ lengthTo w (named x)) × (l ≡ named x → ⊥)
+
+-- That stands in the area for every node.
+abbrev pub Reaching : Map → ℕ → ℕ → List ℕ → Type 0
+Reaching m lines limit w = (v : ℕ) → v < length (m .nodes) → Nearest m limit w lines v (nearestLine w v)

@@ -1,0 +1,63 @@
+// The chains of the lines that leave each node, and which line can follow which.
+use crate::area::END;
+use crate::area::HEADS;
+use crate::area::NEXT;
+use crate::area::NODES;
+use crate::area::START;
+use crate::area::field;
+use crate::area::fill;
+use crate::area::wide;
+ghost use mathlib.Core.Path.{_≡_};
+ghost use Prim.Native.Nat.{_-_, _≤_, _<_};
+ghost use lib.ListN.{length};
+ghost use Rattle.model.specs.Map.{Map};
+ghost use Rattle.model.specs.Lines.{lineAt, Follows};
+ghost use Rattle.search.specs.Area.{Held, Chained, latest};
+ghost use Rattle.search.specs.Steps.{Decides};
+ghost use Rattle.search.specs.Promises.{Linked};
+
+// Makes the chains. Called once a map.
+pub fn link(work: &mut [u32], lines: usize)
+    requires { ⌜ ((m : Map) × Held (now work) lines m) ⌝ }
+    ensures { λ _. ⌜ ((m : Map) → Held (now (work .entry)) lines m → Linked (now (work .entry)) lines m (now (work .exit))) ⌝ }
+{
+    fill(work, HEADS, NODES, 0);
+    let mut i = 0;
+    while i < lines {
+        let v = wide(field(work, i, START));
+        work[NEXT + i] = work[HEADS + v];
+        work[HEADS + v] = (i + 1) as u32;
+        i += 1;
+    }
+}
+
+// The chain of the lines that leave node `v`: 1 + its first line, or 0 where there is none.
+pub fn first_leaving(work: &[u32], lines: usize, v: usize) -> usize
+    requires { ⌜ ((m : Map) × Held (now work) lines m × Chained (now work) lines m × (v < length (m .nodes))) ⌝ }
+    ensures { λ r. ⌜ ((m : Map) → Held (now (work .entry)) lines m → Chained (now (work .entry)) lines m → v < length (m .nodes)
+        → r ≡ latest m v lines) ⌝ }
+{
+    wide(work[HEADS + v])
+}
+
+// 1 + the line that comes in its chain after the one that `at` is 1 + of, or 0.
+pub fn next_leaving(work: &[u32], lines: usize, at: usize) -> usize
+    requires { ⌜ (0 < at) × (at ≤ lines) ⌝ }
+    requires { ⌜ ((m : Map) × Held (now work) lines m × Chained (now work) lines m) ⌝ }
+    ensures { λ r. ⌜ ((m : Map) → Held (now (work .entry)) lines m → Chained (now (work .entry)) lines m
+        → r ≡ latest m (lineAt m (at - 1) .start) (at - 1)) ⌝ }
+{
+    wide(work[NEXT + (at - 1)])
+}
+
+// Whether line `j` can stand straight after line `l`. Nothing else decides that.
+pub fn follows(work: &[u32], lines: usize, l: usize, j: usize) -> bool
+    requires { ⌜ (l < lines) × (j < lines) ⌝ }
+    requires { ⌜ ((m : Map) × Held (now work) lines m) ⌝ }
+    ensures { λ r. ⌜ ((m : Map) → Held (now (work .entry)) lines m → Decides (Follows m l j) r) ⌝ }
+{
+    if field(work, l, END) != field(work, j, START) {
+        return false;
+    }
+    true
+}
