@@ -10,7 +10,8 @@ use Rattle.fields.specs.Leg.{LongestLeg}
 use Rattle.depot_map.specs.Area.{Kept}
 use Rattle.search.specs.Area.{latest}
 use Rattle.search.specs.Promises.{Found, Ended}
-use Rattle.search.proofs.Frame.{kept-none, kept-then, kept-wider, held-kept, chained-kept}
+use Rattle.depot_map.proofs.Kept.{kept-none, kept-then, kept-within}
+use Rattle.search.proofs.Frame.{held-kept, chained-kept}
 use Rattle.search.proofs.Carried.{searched-kept, chained-above}
 use Rattle.search.proofs.Leaving.{latest-le, latest-hit}
 use Rattle.legs.specs.declared.ends.Leg.{Leg}
@@ -34,7 +35,7 @@ module _ {m : Map} {lines : ℕ} {leg : Leg} {first limit : ℕ} {w : List ℕ} 
       record {
         ready = record { searched = f .searched; longest = longest; start = record { from = from; leaves = leaves } };
         set = record { held = held-kept (omega arith) (f .kept) (set .held); chained = chained-kept (omega arith) (f .kept) (set .chained) };
-        kept = kept-wider (omega arith) (omega arith) (f .kept);
+        kept = kept-within (omega arith) (omega arith) (f .kept);
       }
 
   pub nodes-filled : {v u : List ℕ} → Done m lines leg first limit w v → Ended m lines limit v u → Done m lines leg first limit w u
@@ -49,7 +50,7 @@ module _ {m : Map} {lines : ℕ} {leg : Leg} {first limit : ℕ} {w : List ℕ} 
           held = held-kept (omega arith) (e .kept) (d .set .held);
           chained = chained-above (omega arith) (e .kept) (d .set .held) (d .set .chained);
         };
-        kept = kept-then (d .kept) (kept-wider (omega arith) (omega arith) (e .kept));
+        kept = kept-then (d .kept) (kept-within (omega arith) (omega arith) (e .kept));
       }
 
   pub judged-by : {v : List ℕ} {r : Verdict} → Done m lines leg first limit w v → Says m (FromLine m (legIn leg) first) r →

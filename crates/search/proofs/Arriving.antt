@@ -13,7 +13,8 @@ use Rattle.search.specs.Area.{Held, lengthTo, named, Nearest}
 use Rattle.search.specs.Steps.{Filled}
 use Rattle.search.specs.Promises.{Ended}
 use Rattle.search.proofs.Leaving.{end-is, end-in}
-use Rattle.search.proofs.Frame.{le-or-lt, at-set, kept-none, kept-then, kept-set, held-kept, few}
+use Rattle.depot_map.proofs.Kept.{kept-none, kept-then}
+use Rattle.search.proofs.Frame.{le-or-lt, at-set, kept-set, held-kept, few}
 
 nearest-start : {m : Map} {limit v : ℕ} {w : List ℕ} → Nearest m limit w 0 v 0
 nearest-start =

@@ -1,5 +1,5 @@
 -- What a store leaves as it was.
-use Prim.Native.Nat.{ℕ, _+_, _*_, _≤_, _<_}
+use Prim.Native.Nat.{ℕ, _+_, _≤_, _<_}
 use mathlib.Core.Path.{_≡_, refl, sym, _∙_, subst}
 use mathlib.Core.Bool.{Bool, true, false, cond}
 use mathlib.Core.List.{List}
@@ -14,6 +14,8 @@ use Rattle.model.specs.WellFormed.{LineOk}
 use Rattle.depot_map.specs.Area.{Holds, Kept}
 use Rattle.search.specs.Area.{Held, Chained}
 use Rattle.search.specs.Steps.{Filled}
+use Rattle.depot_map.proofs.Kept.{kept-then, kept-within}
+use Rattle.depot_map.proofs.Holding.{holds-kept}
 
 pub le-or-lt : (a b : ℕ) → (a ≤ b) ⊎ (b < a)
 le-or-lt a b = go (decLe a b)
@@ -37,17 +39,6 @@ at-set P w b j x fits here other l = go (ℕ-discrete l j)
     go (no d) = subst (P l) (sym (getD-set-other w (b + j) (b + l) x 0 (λ e. d (omega arith)))) (other l d)
 
 module _ {lo hi : ℕ} where
-  pub kept-none : {w : List ℕ} → Kept lo hi w w
-  kept-none = record { same = refl; below = λ a h. refl; above = λ a h. refl }
-
-  pub kept-then : {u w v : List ℕ} → Kept lo hi u w → Kept lo hi w v → Kept lo hi u v
-  kept-then a b =
-      record {
-        same = b .same ∙ a .same;
-        below = λ x h. b .below x h ∙ a .below x h;
-        above = λ x h. b .above x h ∙ a .above x h;
-      }
-
   pub kept-sym : {w v : List ℕ} → Kept lo hi w v → Kept lo hi v w
   kept-sym a = record { same = sym (a .same); below = λ x h. sym (a .below x h); above = λ x h. sym (a .above x h) }
 
@@ -61,16 +52,7 @@ module _ {lo hi : ℕ} where
 
   -- Past the map's part, a change leaves the map; past the lengths and the lines before, it leaves the chains.
   pub held-kept : {w v : List ℕ} {n : ℕ} {m : Map} → 8192 ≤ lo → Kept lo hi w v → Held w n m → Held v n m
-  held-kept high k h =
-      let f = h .formed in
-      record {
-        full = let e = k .same in omega arith;
-        formed = f;
-        node-count = h .node-count;
-        line-count = h .line-count;
-        node-held = λ i j i< j<. k .below (2 * i + j) (omega arith) ∙ h .node-held i j i< j<;
-        line-held = λ i j i< j<. k .below (1024 + 7 * i + j) (omega arith) ∙ h .line-held i j i< j<;
-      }
+  held-kept high k h = holds-kept h k high
 
   pub chained-kept : {w v : List ℕ} {n : ℕ} {m : Map} → hi ≤ 10240 → Kept lo hi w v → Chained w n m → Chained v n m
   chained-kept low k h =
@@ -78,9 +60,6 @@ module _ {lo hi : ℕ} where
         heads = λ v v<. k .above (10240 + v) (omega arith) ∙ h .heads v v<;
         nexts = λ l l<. k .above (10752 + l) (omega arith) ∙ h .nexts l l<;
       }
-
-pub kept-wider : {lo hi lo′ hi′ : ℕ} {w v : List ℕ} → lo ≤ lo′ → hi′ ≤ hi → Kept lo′ hi′ w v → Kept lo hi w v
-kept-wider low high k = record { same = k .same; below = λ a h. k .below a (omega arith); above = λ a h. k .above a (omega arith) }
 
 -- The node count that a caller holds is the map's.
 pub held : {w : List ℕ} {nodes lines : ℕ} {m : Map} → Holds w nodes lines m → Held w lines m
@@ -97,5 +76,5 @@ pub fill-step : {base n x : ℕ} {w v : List ℕ} → base + n < length v → Fi
 fill-step {base} {n} {x} {w} {v} fits f =
     record {
       filled = at-set (λ k d. k < n + 1 → d ≡ x) v base n x fits (λ z. refl) (λ k d z. f .filled k (omega arith));
-      kept = kept-then (kept-wider (omega arith) (omega arith) (f .kept)) (kept-set (base + n) x (omega arith) (omega arith));
+      kept = kept-then (kept-within (omega arith) (omega arith) (f .kept)) (kept-set (base + n) x (omega arith) (omega arith));
     }

@@ -16,7 +16,8 @@ use Rattle.model.specs.Lines.{lineAt}
 use Rattle.search.specs.Area.{Held, latest}
 use Rattle.search.specs.Steps.{Filled}
 use Rattle.search.specs.Promises.{Linked}
-use Rattle.search.proofs.Frame.{picked, at-set, kept-none, kept-then, kept-set, held-kept, line-ok, few}
+use Rattle.depot_map.proofs.Kept.{kept-none, kept-then}
+use Rattle.search.proofs.Frame.{picked, at-set, kept-set, held-kept, line-ok, few}
 
 latest-same : (m : Map) (v i : ℕ) → lineAt m i .start ≡ v → latest m v (i + 1) ≡ i + 1
 latest-same m v i e = rw (add-one i) (ap (λ t. cond t (suc i) (latest m v i)) (eq-eqb _ v e))

@@ -15,7 +15,8 @@ use Rattle.search.specs.Area.{Held, Chained, lengthTo, Tied}
 use Rattle.search.specs.Steps.{Task, Underway, Settled, Filled, Begun, Hinted, sum, Passed, Swept}
 use Rattle.search.proofs.Plain.{Grown, one, more, total-more, total-one, way-one, way-more, grown-of}
 use Rattle.search.proofs.Follows.{known}
-use Rattle.search.proofs.Frame.{le-or-lt, at-set, kept-then, kept-set, kept-wider, held-kept, chained-kept, few}
+use Rattle.depot_map.proofs.Kept.{kept-then, kept-within}
+use Rattle.search.proofs.Frame.{le-or-lt, at-set, kept-set, held-kept, chained-kept, few}
 
 -- The sum after a store to a length.
 sum-above : (w : List ℕ) (n j x : ℕ) → n ≤ j → sum (set w (8192 + j) x) n ≡ sum w n
@@ -96,7 +97,7 @@ pub noted : {q : Task} {n c : ℕ} {w v : List ℕ} {P : Type 0} → Kept 9216 1
 noted {n = n} k p g =
     record {
       underway = underway-kept k g;
-      kept = kept-wider (omega arith) (omega arith) k;
+      kept = kept-within (omega arith) (omega arith) k;
       fell = omega (arith, sum-kept n (few (g .held)) k);
       still = λ e. p;
     }
@@ -120,7 +121,7 @@ pub after : {q : Task} {n c : ℕ} {u w v : List ℕ} {r : ℕ} {P Q : Type 0} �
 after {n = n} k g f a =
     record {
       underway = a .underway;
-      kept = kept-then (kept-wider (omega arith) (omega arith) k) (a .kept);
+      kept = kept-then (kept-within (omega arith) (omega arith) k) (a .kept);
       fell = omega (arith, a .fell, sum-kept n (few (g .held)) k);
       still = λ z. f (a .still z);
     }
@@ -133,7 +134,7 @@ module _ {q : Task} {n c : ℕ} {w v : List ℕ} where
   hint-then a b = record { underway = b .underway; kept = kept-then (a .kept) (b .kept) }
 
   pub hint-kept : Underway q n c w → Kept 9216 10240 w v → Hinted q n c w v
-  hint-kept g k = record { underway = underway-kept k g; kept = kept-wider (omega arith) (omega arith) k }
+  hint-kept g k = record { underway = underway-kept k g; kept = kept-within (omega arith) (omega arith) k }
 
 -- By way of line `l` to line `j`, which can follow it.
 module _ {q : Task} {n c : ℕ} {w : List ℕ} {l j : ℕ} (g : Underway q n c w) (l< : l < n) (j< : j < n) where
@@ -160,7 +161,7 @@ module _ {q : Task} {n c : ℕ} {w : List ℕ} {l j : ℕ} (g : Underway q n c w
 module _ {m : Map} {n f limit : ℕ} {w v : List ℕ} (h : Held w n m) (ch : Chained w n m) (f< : f < n) (s : limit ≤ 150000)
     (fill : Filled 8192 n (limit + 1) w v) where
   kept : Kept 8192 9216 w v
-  kept = kept-wider (omega arith) (omega (arith, few h)) (fill .kept)
+  kept = kept-within (omega arith) (omega (arith, few h)) (fill .kept)
 
   class-of : getD v (1024 + 7 * f + 3) 0 ≡ lineAt m f .frc
   class-of = held-kept (omega arith) kept h .line-held f 3 f< (omega arith)

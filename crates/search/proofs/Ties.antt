@@ -14,7 +14,8 @@ use Rattle.depot_map.specs.Area.{Kept}
 use Rattle.search.specs.Area.{Held, latest, lengthTo, Tie, Before, lineBefore}
 use Rattle.search.specs.Steps.{Filled, Task, Underway, Passed, Tight, Settled, Noted, Marked, MarkedAll, Swept}
 use Rattle.search.proofs.Follows.{known, meets}
-use Rattle.search.proofs.Frame.{le-or-lt, kept-none, kept-then, kept-sym, kept-set, kept-wider, few, line-ok}
+use Rattle.depot_map.proofs.Kept.{kept-none, kept-then, kept-within}
+use Rattle.search.proofs.Frame.{le-or-lt, kept-sym, kept-set, few, line-ok}
 use Rattle.search.proofs.Leaving.{latest-le, latest-hit, latest-all}
 use Rattle.search.proofs.Lengths.{settled-kept, noted, weaken, then, length-at, class-at}
 
@@ -184,7 +185,7 @@ module _ {m : Map} {n c l : ℕ} {u : List ℕ} (h : Held u n m) where
               (λ a<j. rw (s .kept .above (9216 + j) (omega arith)) (k .done j j< (omega arith) x))
               (eq-or-lt-of-le {n = a} {m = j} a≤);
           rest = λ j j<. s .kept .below (9216 + j) (omega arith) ∙ k .rest j (omega arith);
-          kept = kept-then (k .kept) (kept-wider (omega arith) (omega arith) (s .kept));
+          kept = kept-then (k .kept) (kept-within (omega arith) (omega arith) (s .kept));
           tight = λ j a≤ f ok.
               let to = known f in
               let x = k .kept .below (8192 + l) (omega arith) in

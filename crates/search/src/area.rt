@@ -1,15 +1,13 @@
 // The regions of the work area that the search reads and writes, and how their numbers are read.
+use depot_map::area::LINE_NUMBERS;
+use depot_map::area::LINES;
 ghost use mathlib.Core.Path.{_≡_};
 ghost use Prim.Native.Nat.{_+_, _*_, _≤_, _<_};
 ghost use lib.ListN.{length, getD};
 ghost use Rattle.model.specs.Outcome.{workLength};
 ghost use Rattle.search.specs.Steps.{Filled};
 
-// The lines of the map, 7 numbers each, and which of them is which.
-const LINES: usize = 1_024;
-
-const LINE_SIZE: usize = 7;
-
+// Which number of a line is which.
 pub const START: usize = 0;
 
 pub const END: usize = 1;
@@ -42,7 +40,7 @@ pub fn field(work: &[u32], l: usize, k: usize) -> u32
     requires { ⌜ (l < 1_024) × (k < 7) × (workLength ≤ length (now work)) ⌝ }
     ensures { λ r. ⌜ r ≡ getD (now (work .entry)) (1_024 + 7 * l + k) 0 ⌝ }
 {
-    work[LINES + LINE_SIZE * l + k]
+    work[LINES + LINE_NUMBERS * l + k]
 }
 
 // `x` in 64 bits.

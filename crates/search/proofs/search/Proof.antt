@@ -1,6 +1,6 @@
 -- `search` meets its contract: the sweeps go on until one finds nothing to bring down, and each that does brings the sum of the lengths down.
 use Rattle.search.proofs.Lengths.{settled, Sweeps, sweeps-step, hint-then, hint-kept}
-use Rattle.search.proofs.Frame.{kept-none, kept-then, kept-wider}
+use Rattle.depot_map.proofs.Kept.{kept-none, kept-then, kept-within}
 use Rattle.model.specs.Map.{Map}
 use Rattle.search.specs.Area.{Held, Chained}
 use Rattle.search.specs.Steps.{Task, Underway, Hinted, sum, task}
@@ -26,7 +26,7 @@ hinted : (c : tie.After-relax-in-order Inv-loop μ-loop) (m : Map) →
 hinted c m h ch =
     let b = c .before .before .before .before .begin .ensures m h ch in
     let a = c .relax-in-order .ensures (task m _ _) (b .underway) in
-    record { underway = a .underway; kept = kept-then (kept-wider (omega arith) (omega arith) (b .kept)) (a .kept) }
+    record { underway = a .underway; kept = kept-then (kept-within (omega arith) (omega arith) (b .kept)) (a .kept) }
 
 begin-requires : tie.Need-begin-requires Inv-loop μ-loop
 begin-requires c κs = search needs

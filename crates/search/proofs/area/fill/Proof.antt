@@ -1,6 +1,7 @@
 -- `fill` meets its contract: after `i` turns the first `i` numbers are filled.
 use mathlib.Core.Path.{_≡_}
-use Rattle.search.proofs.Frame.{kept-none, fill-step}
+use Rattle.depot_map.proofs.Kept.{kept-none}
+use Rattle.search.proofs.Frame.{fill-step}
 use Rattle.search.specs.Steps.{Filled}
 use Prim.Native.Nat.{ℕ, _≤_, _-_}
 use native.Mathlib.Omega.{arith}

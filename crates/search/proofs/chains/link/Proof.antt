@@ -1,6 +1,7 @@
 -- `link` meets its contract: after `i` turns the chains of the lines below `i` are made.
 use Rattle.search.proofs.Leaving.{link-none, link-step, start-small}
-use Rattle.search.proofs.Frame.{held-kept, kept-then, kept-wider, few}
+use Rattle.depot_map.proofs.Kept.{kept-then, kept-within}
+use Rattle.search.proofs.Frame.{held-kept, few}
 use Rattle.search.specs.Promises.{Linked}
 use Rattle.search.specs.Area.{Held}
 use Rattle.model.specs.Map.{Map}
@@ -106,7 +107,7 @@ returns c =
     let k = c .before .before .before .before .fill .ensures .kept in
     let e : _≡_ {A = ℕ} (c .before .loop .i) (c .before .before .before .before .before .before .before .args .lines) = omega arith in
     let s = rw e at (c .before .loop .inv .2 m (held-kept (omega arith) k h)) in
-    record { chained = s .chained; kept = kept-then (kept-wider (omega arith) (omega arith) k) (s .kept) }
+    record { chained = s .chained; kept = kept-then (kept-within (omega arith) (omega arith) k) (s .kept) }
 
 pub link-spec : {M : Type 1} → statement M
 link-spec =

@@ -1,6 +1,7 @@
 -- `nearest_lines` meets its contract: after `l` turns the cells say which of the lines below `l` is nearest.
 use Rattle.search.proofs.Arriving.{ended-start, ended-step, ends-there, there}
-use Rattle.search.proofs.Frame.{held-kept, kept-then, few}
+use Rattle.depot_map.proofs.Kept.{kept-then}
+use Rattle.search.proofs.Frame.{held-kept, few}
 use Rattle.search.specs.Promises.{Ended}
 use Rattle.search.specs.Area.{Held}
 use Rattle.model.specs.Map.{Map}

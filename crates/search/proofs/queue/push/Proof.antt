@@ -1,5 +1,6 @@
 -- `push` meets its contract: only cells of the queue change.
-use Rattle.search.proofs.Frame.{kept-then, kept-set}
+use Rattle.depot_map.proofs.Kept.{kept-then}
+use Rattle.search.proofs.Frame.{kept-set}
 use lib.ListN.{length-set}
 use native.Mathlib.Omega.{arith}
 use borrow.Author.Needs.{needs}

@@ -1,6 +1,7 @@
 -- `relax_all` meets its contract: each turn keeps what a relaxation keeps, and goes on to a line that is less.
 use Rattle.search.proofs.Lengths.{hint-then, hint-kept}
-use Rattle.search.proofs.Frame.{kept-none, few}
+use Rattle.depot_map.proofs.Kept.{kept-none}
+use Rattle.search.proofs.Frame.{few}
 use Rattle.search.proofs.Leaving.{latest-le, end-in}
 use Rattle.search.specs.Steps.{Task, Underway, Hinted}
 use lib.ListN.{length}

@@ -1,6 +1,7 @@
 -- `relax_in_order` meets its contract: each turn keeps what a relaxation keeps, and takes one of the steps.
 use Rattle.search.proofs.Lengths.{hint-then, hint-kept}
-use Rattle.search.proofs.Frame.{kept-none, kept-then, kept-wider, few}
+use Rattle.depot_map.proofs.Kept.{kept-none, kept-then, kept-within}
+use Rattle.search.proofs.Frame.{few}
 use Rattle.search.specs.Steps.{Task, Underway, Hinted}
 use lib.ListN.{length}
 use Prim.Native.Nat.{_<_}
@@ -22,7 +23,7 @@ start : (c : tie.After-push Inv-loop μ-loop) (q : Task) →
     let a = c .before .before .before .before .before .before .before .args in
     Underway q (a .lines) (a .class) (a .work .now) → Hinted q (a .lines) (a .class) (a .work .now) (c .push .last .0)
 start c q g =
-    hint-kept g (kept-then (kept-wider (omega arith) (omega (arith, few (g .held))) (c .before .before .before .before .fill .ensures .kept)) (c .push .ensures .kept))
+    hint-kept g (kept-then (kept-within (omega arith) (omega (arith, few (g .held))) (c .before .before .before .before .fill .ensures .kept)) (c .push .ensures .kept))
 
 fill-requires : tie.Need-fill-requires Inv-loop μ-loop
 fill-requires c κs = let p = c .before .before .pre in let h = p .1 .held in (few h, omega (arith, few h), h .full)

@@ -1,6 +1,7 @@
 -- `sweep` meets its contract: after `l` turns the lines below `l` are noted at every line.
 use Rattle.search.proofs.Lengths.{underway-kept, noted, after, then, sum-small}
-use Rattle.search.proofs.Frame.{kept-none, kept-wider, few}
+use Rattle.depot_map.proofs.Kept.{kept-none, kept-within}
+use Rattle.search.proofs.Frame.{few}
 use Rattle.search.proofs.Ties.{Sweeping, sweeping-start, sweeping-step, sweeping-end}
 use Rattle.depot_map.specs.Area.{Kept}
 use Rattle.search.specs.Steps.{Task, Underway, Passed}
@@ -22,7 +23,7 @@ abbrev μ-loop : tie.MeasureT-loop
 
 -- What the filling changes.
 cleared : (c : tie.After-fill Inv-loop μ-loop) → Kept 9216 10240 (c .before .before .before .args .work .now) (c .fill .last .0)
-cleared c = kept-wider (omega arith) (omega (arith, few (c .before .before .before .pre .1 .held))) (c .fill .ensures .kept)
+cleared c = kept-within (omega arith) (omega (arith, few (c .before .before .before .pre .1 .held))) (c .fill .ensures .kept)
 
 fill-requires : tie.Need-fill-requires Inv-loop μ-loop
 fill-requires c κs = let p = c .before .before .pre in let h = p .1 .held in (few h, omega (arith, few h), h .full)
