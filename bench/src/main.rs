@@ -7,7 +7,10 @@ use std::hint::black_box;
 use std::time::{Duration, Instant};
 
 use plain::depot_map::DepotMap;
-use plain::maps::{chain, grid, random_graph, random_walk, reference_with_legs, Lengths, Xorshift};
+use plain::maps::{
+    chain, grid, hub, random_graph, random_walk, reference_with_legs, steep, Lengths, MapPlan,
+    Xorshift,
+};
 use plain::outcome::WORK_AREA;
 use plain::reader::read;
 use plain::search::{Bounds, Method, Search};
@@ -17,6 +20,8 @@ use proved::{functions, ProvedFunctions};
 /// The best of many short rounds: a round that something else disturbs does not count.
 const ROUNDS: usize = 400;
 const ROUND_TIME: Duration = Duration::from_micros(60);
+/// No further round starts after this time on one input.
+const INPUT_TIME: Duration = Duration::from_millis(100);
 
 /// Different inputs in one row, so that it does not hang on one of them.
 const INPUTS: usize = 8;
@@ -61,7 +66,11 @@ fn time_in_turn<const COUNT: usize>(
             .each_mut()
             .map(|call| repeats_for_a_round(call, input));
         let mut best = [f64::INFINITY; COUNT];
-        for _ in 0..ROUNDS {
+        let start = Instant::now();
+        for round in 0..ROUNDS {
+            if round > 0 && start.elapsed() > INPUT_TIME {
+                break;
+            }
             for (number, call) in calls.iter_mut().enumerate() {
                 let time = time_of(call, input, repeats[number]).as_secs_f64() * 1e6;
                 best[number] = best[number].min(time / f64::from(repeats[number]));
@@ -104,12 +113,20 @@ fn samples() -> Vec<Sample> {
         ("random", random_graph(3, Lengths::SlightlyDifferent)),
         ("chain", chain(4, Lengths::SlightlyDifferent)),
     ];
-    let sample = |(name, plan): (&'static str, plain::maps::MapPlan)| {
-        let bytes = plan.shuffled(5).encode();
-        let map = DepotMap::decode(&bytes).expect("a maker makes maps");
-        Sample { name, bytes, map }
-    };
-    plans.into_iter().map(sample).collect()
+    plans
+        .map(|(name, plan)| sample(name, plan.shuffled(5)))
+        .into()
+}
+
+/// Maps made against the search.
+fn hostile_samples() -> Vec<Sample> {
+    vec![sample("hub", hub()), sample("steep", steep())]
+}
+
+fn sample(name: &'static str, plan: MapPlan) -> Sample {
+    let bytes = plan.encode();
+    let map = DepotMap::decode(&bytes).expect("a maker makes maps");
+    Sample { name, bytes, map }
 }
 
 fn main() {
@@ -120,6 +137,9 @@ fn main() {
         search_rows(&proved, sample);
         reading_rows(&proved, sample);
         writing_rows(&proved, sample);
+    }
+    for sample in &hostile_samples() {
+        search_rows(&proved, sample);
     }
 }
 
@@ -143,6 +163,8 @@ fn proved_decoding<'a>(proved: &ProvedFunctions, sample: &'a Sample) -> Option<C
     }))
 }
 
+const LIMITS: [u32; 3] = [5_000, 15_000, 150_000];
+
 const METHODS: [(Method, &str); 3] = [
     (Method::Queue, "queue"),
     (Method::Heap, "heap of nodes"),
@@ -151,7 +173,7 @@ const METHODS: [(Method, &str); 3] = [
 
 fn search_rows(proved: &ProvedFunctions, sample: &Sample) {
     for (method, method_name) in METHODS {
-        for limit in [5_000, 15_000, 150_000] {
+        for limit in LIMITS {
             let bounds = first_lines(sample).map(|first| Bounds {
                 first,
                 class: 7,

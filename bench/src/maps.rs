@@ -256,6 +256,44 @@ pub fn chain(seed: u64, lengths: Lengths) -> MapPlan {
     plan
 }
 
+/// Some nodes in a row, so far apart that their codes differ.
+fn row_of_nodes(count: u32) -> MapPlan {
+    let nodes = (0..count as i32).map(|node| Node {
+        longitude: 50 * node,
+        latitude: 0,
+    });
+    MapPlan {
+        nodes: nodes.collect(),
+        lines: Vec::new(),
+    }
+}
+
+/// The most lines that can follow each line: two nodes, and half of the lines each way.
+pub fn hub() -> MapPlan {
+    let mut plan = row_of_nodes(2);
+    for number in 0..FULL_LINES as u32 {
+        let ends = if number % 2 == 0 { (0, 1) } else { (1, 0) };
+        plan.lines
+            .push(line_between(&plan, ends, 100 + number % 97, 0, 2));
+    }
+    plan
+}
+
+/// The worst order for a queue: from every node a line to every later one, and the more lines a way
+/// has the shorter it is, so that lengths come down again and again.
+pub fn steep() -> MapPlan {
+    const NODES: u32 = 45;
+    let mut plan = row_of_nodes(NODES);
+    for start in 0..NODES {
+        for end in (start + 1..NODES).rev() {
+            let length = (end - start) * (end - start) * 50;
+            plan.lines
+                .push(line_between(&plan, (start, end), length, 0, 2));
+        }
+    }
+    plan
+}
+
 /// A small map full of ties: few lengths, few marks, lines beside each other.
 pub fn small_map(seed: u64) -> MapPlan {
     let rng = &mut Xorshift::new(seed);
