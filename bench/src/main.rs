@@ -165,8 +165,9 @@ fn proved_decoding<'a>(proved: &ProvedFunctions, sample: &'a Sample) -> Option<C
 
 const LIMITS: [u32; 3] = [5_000, 15_000, 150_000];
 
-const METHODS: [(Method, &str); 3] = [
-    (Method::Queue, "queue"),
+const METHODS: [(Method, &str); 4] = [
+    (Method::Queue, "queue by nodes"),
+    (Method::LineQueue, "queue of lines"),
     (Method::Heap, "heap of nodes"),
     (Method::LineHeap, "heap of lines"),
 ];

@@ -3,7 +3,7 @@
 //! A way is a list of lines, each ending where the next starts; its length counts all of them,
 //! the first and the last too. For each line that some way within the limit ends with, the search
 //! gives the least length of such a way, and the line before the last one if that way is the only
-//! one of least length. Two methods give the same answers.
+//! one of least length. All methods give the same answers.
 
 use std::cmp::Reverse;
 use std::collections::{BinaryHeap, VecDeque};
@@ -14,12 +14,15 @@ const NOT_REACHED: u32 = u32::MAX;
 
 #[derive(Clone, Copy, Debug, PartialEq, Eq)]
 pub enum Method {
-    /// First in, first out; a line's length may be corrected. Ties are counted afterwards.
+    /// First in, first out; a line's length may be corrected. Ties are counted afterwards. Only the
+    /// lines with the least length to their end node go on.
     Queue,
+    /// The same, where every line goes on: it does not use that every line that leaves a node can
+    /// follow every line that arrives there.
+    LineQueue,
     /// Dijkstra's over nodes, with ties on the way.
     Heap,
-    /// Dijkstra's over lines, with ties on the way: it does not use that every line that leaves a
-    /// node can follow every line that arrives there.
+    /// Dijkstra's over lines, with ties on the way: it does not use that either.
     LineHeap,
 }
 
@@ -84,7 +87,7 @@ impl Search {
         self.least[bounds.first as usize] = first.length;
         self.before[bounds.first as usize] = Before::First;
         match self.method {
-            Method::Queue => self.run_queue(map, bounds),
+            Method::Queue | Method::LineQueue => self.run_queue(map, bounds),
             Method::Heap => self.run_heap(map, bounds),
             Method::LineHeap => self.run_line_heap(map, bounds),
         }
@@ -116,7 +119,7 @@ impl Search {
     }
 
     /// Only a line that arrives at its end node with less than any line before it can shorten the
-    /// ways that go on from there, so that no other waits.
+    /// ways that go on from there, so that by nodes no other waits.
     fn run_queue(&mut self, map: &DepotMap, bounds: Bounds) {
         let first = map.line(bounds.first);
         self.reached.clear();
@@ -125,7 +128,7 @@ impl Search {
         self.queue.push_back(bounds.first);
         while let Some(line) = self.queue.pop_front() {
             self.waiting[line as usize] = false;
-            if self.is_least_to_its_end(map, line) {
+            if self.goes_on(map, line) {
                 self.shorten_next(map, bounds, line);
             }
         }
@@ -133,8 +136,9 @@ impl Search {
     }
 
     #[inline]
-    fn is_least_to_its_end(&self, map: &DepotMap, line: u32) -> bool {
-        self.least[line as usize] == self.least_to_node[map.line(line).end as usize]
+    fn goes_on(&self, map: &DepotMap, line: u32) -> bool {
+        self.method == Method::LineQueue
+            || self.least[line as usize] == self.least_to_node[map.line(line).end as usize]
     }
 
     #[inline]
@@ -153,7 +157,7 @@ impl Search {
             }
             *least = total;
             let least_to_node = &mut self.least_to_node[next_line.end as usize];
-            if total < *least_to_node {
+            if total < *least_to_node || self.method == Method::LineQueue {
                 *least_to_node = total;
                 if !std::mem::replace(&mut self.waiting[next as usize], true) {
                     self.queue.push_back(next);
@@ -167,7 +171,7 @@ impl Search {
     fn count_ties(&mut self, map: &DepotMap) {
         self.several.clear();
         for &line in &self.reached {
-            if !self.is_least_to_its_end(map, line) {
+            if !self.goes_on(map, line) {
                 continue;
             }
             let length = self.least[line as usize];

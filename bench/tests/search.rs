@@ -56,7 +56,12 @@ fn searches_find_the_least_ways() {
         let map = DepotMap::decode(&small_map(seed).encode()).unwrap();
         let shortest = map.lines.iter().map(|line| line.length).min().unwrap();
         let rng = &mut Xorshift::new(seed);
-        for method in [Method::Queue, Method::Heap] {
+        for method in [
+            Method::Queue,
+            Method::LineQueue,
+            Method::Heap,
+            Method::LineHeap,
+        ] {
             let mut search = Search::new(&map, method);
             for _ in 0..4 {
                 let bounds = Bounds {

@@ -82,7 +82,12 @@ fn compare_on_map(seed: u64, turn: u64, counts: &mut Counts) -> Result<(), Strin
 }
 
 fn compare_searches(rng: &mut Xorshift, map: &DepotMap, counts: &mut Counts) -> Result<(), String> {
-    let methods = [Method::Queue, Method::Heap, Method::LineHeap];
+    let methods = [
+        Method::Queue,
+        Method::LineQueue,
+        Method::Heap,
+        Method::LineHeap,
+    ];
     let mut searches = methods.map(|method| Search::new(map, method));
     for _ in 0..20 {
         let first = rng.below(map.lines.len() as u32);
