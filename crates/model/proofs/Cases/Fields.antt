@@ -47,6 +47,8 @@ pub record FieldCases : Type 0 where
   pub node-codes : lonCode (node 100_000 2) ∷ latCode (node 2 100_000) ∷ [] ≡ 46_603 ∷ 46_603 ∷ []
   pub sectors : map sector (0 ∷ 44 ∷ 45 ∷ 90 ∷ 180 ∷ 270 ∷ []) ≡ 0 ∷ 3 ∷ 4 ∷ 8 ∷ 16 ∷ 24 ∷ []
   pub offset-bytes : map (offsetByte 1_000) (3 ∷ 4 ∷ 500 ∷ 999 ∷ []) ≡ 0 ∷ 1 ∷ 128 ∷ 255 ∷ []
+  -- On a leg of 257 an offset of 1 is just below 1 of 256 parts.
+  pub offset-just-below : map (offsetByte 257) (1 ∷ 2 ∷ 256 ∷ []) ≡ 0 ∷ 1 ∷ 255 ∷ []
   -- Differences of 16 bits, signed: 1000 and -1000, and the ends -32,768 and 32,767.
   pub sixteen-bits : difference 0 1_000 ∷ difference 1_000 0 ∷ difference 32_768 0 ∷ difference 0 32_767 ∷ [] ≡ 0x03E8 ∷ 0xFC18 ∷ 0x8000 ∷ 0x7FFF ∷ []
   pub reached : moved 0 0x03E8 1_000 ∷ moved 1_000 0xFC18 0 ∷ moved 32_768 0x8000 0 ∷ moved 0 0x7FFF 32_767 ∷ [] ≡ replicate 4 true
@@ -94,6 +96,7 @@ field-cases =
       node-codes = refl;
       sectors = refl;
       offset-bytes = refl;
+      offset-just-below = refl;
       sixteen-bits = refl;
       reached = refl;
       not-reached = refl;
