@@ -1,4 +1,4 @@
-// Functions of the inner crates as C functions, for the benchmark alone. The product's entry points are in the crate `openlr`.
+// Functions of the inner crates as C functions, for the benchmark alone. They are no entry points of the product.
 use depot_map::MapRead;
 use depot_map::area::WORK_LENGTH;
 use depot_map::read_map;
