@@ -5,7 +5,6 @@ use mathlib.Core.List.{List}
 use native.Mathlib.Omega.{arith}
 use Rattle.model.specs.Map.{Map}
 use Rattle.model.specs.Lines.{lineAt, leaving}
-use Rattle.model.specs.Reading.{Reading}
 use Rattle.fields.specs.Leg.{LongestLeg}
 use Rattle.depot_map.specs.Area.{Kept}
 use Rattle.search.specs.Area.{latest}
@@ -15,10 +14,12 @@ use Rattle.search.proofs.Frame.{held-kept, chained-kept}
 use Rattle.search.proofs.Carried.{searched-kept, chained-above}
 use Rattle.search.proofs.Leaving.{latest-le, latest-hit}
 use Rattle.legs.specs.declared.ends.Leg.{Leg}
+use Rattle.legs.specs.declared.ends.Reading.{Reading}
 use Rattle.legs.specs.declared.ends.Verdict.{Verdict}
-use Rattle.legs.specs.Verdict.{attributesIn, legIn, bothOf, Ready, Set, Judged, Says, unread, FromLine, FromLines}
-use Rattle.legs.proofs.Joining.{says-same, says-both}
+use Rattle.legs.specs.Verdict.{attributesIn, legIn, bothOf, Ready, Set, Judged, OneList, Says, StandsIn, Anywhere, unread, FromLine, FromLines}
+use Rattle.legs.proofs.Joining.{says-same, says-then, says-both}
 use Rattle.legs.proofs.Lines.{none-yet, one-more, no-other, apart, not-leaving}
+use Rattle.model.specs.Reading as definitions
 use Rattle.legs.specs.declared.ends.Verdict.the-variants as verdict
 
 -- The search from a first line is done, and the work area is still ready for another.
@@ -53,24 +54,33 @@ module _ {m : Map} {lines : ℕ} {leg : Leg} {first limit : ℕ} {w : List ℕ} 
         kept = kept-then (d .kept) (kept-within (omega arith) (omega arith) (e .kept));
       }
 
-  pub judged-by : {v : List ℕ} {r : Verdict} → Done m lines leg first limit w v → Says m (FromLine m (legIn leg) first) r →
-      Judged m lines (FromLine m (legIn leg) first) w v r
+  pub judged-by : {v : List ℕ} {r : Verdict} → Done m lines leg first limit w v → Says m (FromLine m (legIn leg) first) (StandsIn v) r →
+      Judged m lines (FromLine m (legIn leg) first) (StandsIn v) w v r
   judged-by d s = record { says = s; set = d .set; kept = d .kept }
 
 -- A first line of other attributes.
 pub not-first : {m : Map} {lines : ℕ} (leg : Leg) (first : ℕ) {w : List ℕ} → Set m lines w → (leaving m first ≡ attributesIn (leg .leaves) → ⊥) →
-    Judged m lines (FromLine m (legIn leg) first) w w verdict.Unread
+    Judged m lines (FromLine m (legIn leg) first) (StandsIn w) w w verdict.Unread
 unfolding legIn
 not-first leg first set differs = record { says = unread (not-leaving first differs); set = set; kept = kept-none }
 
+-- What is said of the one list, changed.
+pub judged-then : {m : Map} {lines : ℕ} {P : List ℕ → Type 0} {N N′ : Reading → List ℕ → Type 0} {w v : List ℕ} {r : Verdict} →
+    ((q : Reading) (ls : List ℕ) → r ≡ verdict.One q → OneList m P q ls → N q ls → N′ q ls) → Judged m lines P N w v r → Judged m lines P N′ w v r
+judged-then f j = record { says = says-then f (j .says); set = j .set; kept = j .kept }
+
+pub anywhere : {m : Map} {lines : ℕ} {P : List ℕ → Type 0} {N : Reading → List ℕ → Type 0} {w v : List ℕ} {r : Verdict} → Judged m lines P N w v r →
+    Judged m lines P Anywhere w v r
+anywhere j = judged-then (λ q ls e o n. tt) j
+
 -- The first lines from `at` on have been judged, and `at - 1` is the next of the chain.
-pub record Walked (m : Map) (lines : ℕ) (leg : Leg) (w v : List ℕ) (at : ℕ) (found : Verdict) : Type 0 where
-  pub judged : Judged m lines (FromLines m (legIn leg) at) w v found
+pub record Walked (m : Map) (lines : ℕ) (leg : Leg) (N : Reading → List ℕ → Type 0) (w v : List ℕ) (at : ℕ) (found : Verdict) : Type 0 where
+  pub judged : Judged m lines (FromLines m (legIn leg) at) N w v found
   pub inside : at ≤ lines
   pub next : 0 < at → lineAt m (at - 1) .start ≡ leg .from
 
-module _ {m : Map} {lines : ℕ} {leg : Leg} {w : List ℕ} where
-  pub walk-start : (at : ℕ) → Set m lines w → at ≡ latest m (leg .from) lines → Walked m lines leg w w at verdict.Unread
+module _ {m : Map} {lines : ℕ} {leg : Leg} {N : Reading → List ℕ → Type 0} {w : List ℕ} where
+  pub walk-start : (at : ℕ) → Set m lines w → at ≡ latest m (leg .from) lines → Walked m lines leg N w w at verdict.Unread
   unfolding legIn
   walk-start at set e =
       let all = set .held .line-count in
@@ -80,9 +90,9 @@ module _ {m : Map} {lines : ℕ} {leg : Leg} {w : List ℕ} where
         next = rw e (latest-hit m (leg .from) lines);
       }
 
-  pub walk-on : {v u : List ℕ} {at next : ℕ} {found more : Verdict} → Walked m lines leg w v at found → 0 < at →
-      Judged m lines (FromLine m (legIn leg) (at - 1)) v u more → next ≡ latest m (lineAt m (at - 1) .start) (at - 1) →
-      Walked m lines leg w u next (bothOf found more)
+  pub walk-on : {v u : List ℕ} {at next : ℕ} {found more : Verdict} → Walked m lines leg N w v at found → 0 < at →
+      Judged m lines (FromLine m (legIn leg) (at - 1)) N v u more → next ≡ latest m (lineAt m (at - 1) .start) (at - 1) →
+      Walked m lines leg N w u next (bothOf found more)
   unfolding legIn
   walk-on {at = at} {next = next} k some j e =
       let from = k .next some in
@@ -100,7 +110,8 @@ module _ {m : Map} {lines : ℕ} {leg : Leg} {w : List ℕ} where
             hit ∙ from;
       }
 
-  pub walk-end : {v : List ℕ} {at : ℕ} {found : Verdict} → Walked m lines leg w v at found → at ≡ 0 → Judged m lines (Reading m (legIn leg)) w v found
+  pub walk-end : {v : List ℕ} {at : ℕ} {found : Verdict} → Walked m lines leg N w v at found → at ≡ 0 →
+      Judged m lines (definitions.Reading m (legIn leg)) N w v found
   walk-end k e =
       record {
         says = says-same (λ ls r. r .reading) (λ ls r. record { reading = r; starts = omega arith }) (k .judged .says);

@@ -19,7 +19,7 @@ use Rattle.search.specs.Area.{lineBefore, linesTo}
 use Rattle.search.specs.Promises.{Told}
 use Rattle.search.specs.declared.ways.Ways.{Ways}
 use Rattle.search.specs.declared.ways.Ways.the-variants.{Nothing, Several, One}
-use Rattle.legs.specs.Verdict.{ReadingTo, FirstOf, TwoLists, Says, unread, one, several, judgeOf}
+use Rattle.legs.specs.Verdict.{ReadingTo, FirstOf, TwoLists, Says, StandsIn, unread, one, several, judgeOf}
 use Rattle.legs.specs.declared.ends.Verdict.the-variants as verdict
 
 -- An end of a leg: the lists that end there end as the leg says, and those that the leg allows with the same ends end there too.
@@ -117,18 +117,18 @@ count-is w last (suc count) =
 module _ {m : Map} {leg : Leg} {first limit : ℕ} {to : Target} (longest : LongestLeg (leg .distance) limit) (end : EndOf m leg to)
     (start : FirstOf m leg first) (lines : ℕ) (w : List ℕ) where
   pub judged : (ways : Ways) → Told m lines (leg .lowest) first limit to w ways →
-      Says m (ReadingTo m leg first to) (judgeOf ways first (leg .distance))
+      Says m (ReadingTo m leg first to) (StandsIn w) (judgeOf ways first (leg .distance))
   unfolding judgeOf
   judged Nothing beyond = unread (none longest end start beyond)
   judged (Several length) t = go (eqb (distance length) (leg .distance)) refl
     where
-      go : (b : Bool) → eqb (distance length) (leg .distance) ≡ b → Says m (ReadingTo m leg first to) (cond b verdict.Several verdict.Unread)
+      go : (b : Bool) → eqb (distance length) (leg .distance) ≡ b → Says m (ReadingTo m leg first to) (StandsIn w) (cond b verdict.Several verdict.Unread)
       go true e = several (two longest end start (t .within) (t .least) (eqb-true _ _ e) (t .two))
       go false e = unread (other-length longest end start (t .within) (t .least) (eqb-false _ _ e))
   judged (One last length count) (o, inside, some, few) = go (eqb (distance length) (leg .distance)) refl
     where
       go : (b : Bool) → eqb (distance length) (leg .distance) ≡ b →
-          Says m (ReadingTo m leg first to)
+          Says m (ReadingTo m leg first to) (StandsIn w)
           (cond b (verdict.One (record { first = first; last = last; length = length; count = count })) verdict.Unread)
       go true e =
           let k = one-reading longest end start (o .within) (o .least) (eqb-true _ _ e) (o .only) in
@@ -141,4 +141,5 @@ module _ {m : Map} {leg : Leg} {first limit : ℕ} {to : Target} (longest : Long
             sum = o .only .sum;
             count = count-is w last count;
           })
+          refl
       go false e = unread (other-length longest end start (o .within) (o .least) (eqb-false _ _ e))

@@ -11,7 +11,7 @@ use Rattle.model.specs.Lines.{LineAttributes, lineAt, total, firstOf, lastOf, l
 use Rattle.fields.specs.Leg.{LongestLeg}
 use Rattle.depot_map.specs.Area.{Kept}
 use Rattle.search.specs.Ways.{Target, Ends}
-use Rattle.search.specs.Area.{Held, Chained, Searched}
+use Rattle.search.specs.Area.{Held, Chained, Searched, linesTo}
 use Rattle.search.specs.declared.ways.Ways.{Ways}
 use Rattle.legs.specs.declared.ends.Attributes.{Attributes}
 use Rattle.legs.specs.declared.ends.Arrival.{Arrival}
@@ -68,15 +68,18 @@ pub record TwoLists (P : List ℕ → Type 0) : Type 0 where
   pub second : P other
   pub differ : one ≡ other → ⊥
 
--- What a verdict says of the lists that have a property.
-pub data Says (m : Map) (P : List ℕ → Type 0) : Verdict → Type 0 where
-  unread : ((ls : List ℕ) → P ls → ⊥) → Says m P Unread
-  one : {r : Reading} {ls : List ℕ} → OneList m P r ls → Says m P (One r)
-  several : TwoLists P → Says m P Several
+-- What a verdict says of the lists that have the property `P`; and where it is one, what `Q` says of that.
+pub data Says (m : Map) (P : List ℕ → Type 0) (Q : Reading → List ℕ → Type 0) : Verdict → Type 0 where
+  unread : ((ls : List ℕ) → P ls → ⊥) → Says m P Q Unread
+  one : {r : Reading} {ls : List ℕ} → OneList m P r ls → Q r ls → Says m P Q (One r)
+  several : TwoLists P → Says m P Q Several
 
--- The verdict on a whole leg: "a leg's reading is a line list such that ..".
-abbrev pub OnLeg : Map → Leg → Verdict → Type 0
-OnLeg m leg v = Says m (definitions.Reading m (legIn leg)) v
+-- The lines of a reading stand in the work area, up to its last line; or nothing is said of them.
+abbrev pub StandsIn : List ℕ → Reading → List ℕ → Type 0
+StandsIn w r ls = ls ≡ linesTo w (r .last) (r .count)
+
+abbrev pub Anywhere : Reading → List ℕ → Type 0
+Anywhere r ls = Unit {0}
 
 -- The readings of a leg with the first line `first`; those with a first line from `at` on; those with the first line `first` and a last
 -- line below `i`.
@@ -116,8 +119,8 @@ pub record Set (m : Map) (lines : ℕ) (w : List ℕ) : Type 0 where
   pub chained : Chained w lines m
 
 -- A verdict on readings, with what it leaves of the work area.
-pub record Judged (m : Map) (lines : ℕ) (P : List ℕ → Type 0) (w v : List ℕ) (r : Verdict) : Type 0 where
-  pub says : Says m P r
+pub record Judged (m : Map) (lines : ℕ) (P : List ℕ → Type 0) (Q : Reading → List ℕ → Type 0) (w v : List ℕ) (r : Verdict) : Type 0 where
+  pub says : Says m P Q r
   pub set : Set m lines v
   pub kept : Kept 8_192 12_288 w v
 

@@ -14,7 +14,7 @@ ghost use Rattle.model.specs.Map.{Map};
 ghost use Rattle.model.specs.Reading.{any, matching};
 ghost use Rattle.search.specs.Ways.{line};
 ghost use Rattle.search.specs.Area.{Reaching};
-ghost use Rattle.legs.specs.Verdict.{attributesIn, arrivalIn, legIn, judgeOf, bothOf, Ready, Says, FromLine, ReadingTo};
+ghost use Rattle.legs.specs.Verdict.{attributesIn, arrivalIn, legIn, judgeOf, bothOf, Ready, Says, StandsIn, FromLine, ReadingTo};
 
 // What a reference says of a line at a point: FRC, FOW and the sector of its bearing there.
 pub struct Attributes {
@@ -102,7 +102,7 @@ pub fn both(a: Verdict, b: Verdict) -> Verdict
 pub fn at_node(work: &[u32], lines: usize, first: usize, leg: Leg, limit: u32) -> Verdict
     requires { ⌜ ((m : Map) × Ready m lines leg first limit (now work) × Reaching m lines limit (now work) × (leg .to < length (m .nodes))) ⌝ }
     ensures { λ r. ⌜ ((m : Map) → Ready m lines leg first limit (now (work .entry)) → Reaching m lines limit (now (work .entry))
-        → leg .to < length (m .nodes) → arrivalIn (leg .arrival) ≡ any → Says m (FromLine m (legIn leg) first) r) ⌝ }
+        → leg .to < length (m .nodes) → arrivalIn (leg .arrival) ≡ any → Says m (FromLine m (legIn leg) first) (StandsIn (now (work .entry))) r) ⌝ }
 {
     let to = leg.to;
     judge(to_node(work, lines, first, to, limit), first, leg.distance)
@@ -121,7 +121,7 @@ fn at_line(
     requires { ⌜ last < lines ⌝ }
     requires { ⌜ ((m : Map) × Ready m lines leg first limit (now work)) ⌝ }
     ensures { λ r. ⌜ ((m : Map) → Ready m lines leg first limit (now (work .entry)) → arrivalIn (leg .arrival) ≡ matching (attributesIn a)
-        → Says m (ReadingTo m (legIn leg) first (line last)) r) ⌝ }
+        → Says m (ReadingTo m (legIn leg) first (line last)) (StandsIn (now (work .entry))) r) ⌝ }
 {
     if wide(field(work, last, END)) != leg.to {
         return Verdict::Unread;
@@ -147,7 +147,7 @@ pub fn at_last_lines(
 ) -> Verdict
     requires { ⌜ ((m : Map) × Ready m lines leg first limit (now work)) ⌝ }
     ensures { λ r. ⌜ ((m : Map) → Ready m lines leg first limit (now (work .entry)) → arrivalIn (leg .arrival) ≡ matching (attributesIn a)
-        → Says m (FromLine m (legIn leg) first) r) ⌝ }
+        → Says m (FromLine m (legIn leg) first) (StandsIn (now (work .entry))) r) ⌝ }
 {
     let mut found = Verdict::Unread;
     let mut last: usize = 0;

@@ -18,17 +18,17 @@ ghost use lib.ListN.{length};
 ghost use Rattle.model.specs.Map.{Map};
 ghost use Rattle.model.specs.Lines.{lineAt};
 ghost use Rattle.model.specs.Reading.{Reading};
-ghost use Rattle.legs.specs.Verdict.{legIn, FromLine, Set, Judged};
+ghost use Rattle.legs.specs.Verdict.{legIn, FromLine, StandsIn, Anywhere, Set, Judged};
 
 pub mod attributes;
 pub mod ends;
 
-// The verdict on the readings whose first line is `first`, a line that starts at the leg's first node.
+// The verdict on the readings whose first line is `first`, a line that starts at the leg's first node. Where it is one, its lines stand in the work area.
 pub fn from_line(work: &mut [u32], lines: usize, first: usize, leg: Leg) -> Verdict
     requires { ⌜ first < lines ⌝ }
     requires { ⌜ ((m : Map) × Set m lines (now work) × (leg .to < length (m .nodes)) × (lineAt m first .start ≡ leg .from)) ⌝ }
     ensures { λ r. ⌜ ((m : Map) → Set m lines (now (work .entry)) → leg .to < length (m .nodes) → lineAt m first .start ≡ leg .from
-        → Judged m lines (FromLine m (legIn leg) first) (now (work .entry)) (now (work .exit)) r) ⌝ }
+        → Judged m lines (FromLine m (legIn leg) first) (StandsIn (now (work .exit))) (now (work .entry)) (now (work .exit)) r) ⌝ }
 {
     let leaves = leg.leaves;
     if !leaves_as(work, lines, first, leaves) {
@@ -50,7 +50,7 @@ pub fn from_line(work: &mut [u32], lines: usize, first: usize, leg: Leg) -> Verd
 pub fn verdict(work: &mut [u32], lines: usize, leg: Leg) -> Verdict
     requires { ⌜ ((m : Map) × Set m lines (now work) × (leg .from < length (m .nodes)) × (leg .to < length (m .nodes))) ⌝ }
     ensures { λ r. ⌜ ((m : Map) → Set m lines (now (work .entry)) → leg .from < length (m .nodes) → leg .to < length (m .nodes)
-        → Judged m lines (Reading m (legIn leg)) (now (work .entry)) (now (work .exit)) r) ⌝ }
+        → Judged m lines (Reading m (legIn leg)) Anywhere (now (work .entry)) (now (work .exit)) r) ⌝ }
 {
     let from = leg.from;
     let mut found = Verdict::Unread;

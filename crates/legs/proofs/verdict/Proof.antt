@@ -7,15 +7,15 @@ use lib.ListN.{length}
 use Rattle.model.specs.Map.{Map}
 use Rattle.model.specs.Lines.{lineAt}
 use Rattle.search.proofs.Leaving.{latest-le}
-use Rattle.legs.specs.Verdict.{Set}
-use Rattle.legs.proofs.FirstLines.{Walked, walk-start, walk-on, walk-end}
+use Rattle.legs.specs.Verdict.{Anywhere, Set}
+use Rattle.legs.proofs.FirstLines.{Walked, anywhere, walk-start, walk-on, walk-end}
 use Rattle.legs.proofs.verdict.Statement.{statement}
 use Rattle.legs.proofs.verdict.Tie as tie
 
 abbrev Inv-loop : tie.InvT-loop
 Inv-loop work₀ lines leg from found₀ at₀ work found at =
     (length work ≡ length work₀) ×
-    ((m : Map) → Set m lines work₀ → leg .from < length (m .nodes) → leg .to < length (m .nodes) → Walked m lines leg work₀ work at found)
+    ((m : Map) → Set m lines work₀ → leg .from < length (m .nodes) → leg .to < length (m .nodes) → Walked m lines leg Anywhere work₀ work at found)
 
 abbrev μ-loop : tie.MeasureT-loop
 μ-loop work₀ lines leg from found₀ at₀ work found at = at
@@ -60,7 +60,7 @@ loop-again c = (
       let k = c .before .before .before .before .before .before .before .before .loop .inv .1 m set from to in
       let some = c .before .before .before .before .before .before .before .loop-test .taken in
       let j = c .before .before .before .before .before .from-line .ensures m (k .judged .set) to (k .next some) in
-      rw (c .before .before .both .ensures) (walk-on k some j (c .next-leaving .ensures m (j .set .held) (j .set .chained))),
+      rw (c .before .before .both .ensures) (walk-on k some (anywhere j) (c .next-leaving .ensures m (j .set .held) (j .set .chained))),
 )
 
 same-length : tie.Need-same-length Inv-loop μ-loop

@@ -6,7 +6,7 @@ use mathlib.Core.Path.{_≡_}
 use lib.ListN.{length}
 use Rattle.model.specs.Map.{Map}
 use Rattle.model.specs.Reading.{matching}
-use Rattle.legs.specs.Verdict.{attributesIn, arrivalIn, legIn, Ready, Says, ToLinesBelow}
+use Rattle.legs.specs.Verdict.{attributesIn, arrivalIn, legIn, Ready, Says, StandsIn, ToLinesBelow}
 use Rattle.legs.proofs.Verdicts.{lines-none, lines-more, lines-all}
 use Rattle.legs.proofs.ends.at_last_lines.Statement.{statement}
 use Rattle.legs.proofs.ends.at_last_lines.Tie as tie
@@ -15,7 +15,7 @@ abbrev Inv-loop : tie.InvT-loop
 Inv-loop work lines first leg a limit found₀ last₀ found last =
     (last ≤ lines) ×
     ((m : Map) → Ready m lines leg first limit work → arrivalIn (leg .arrival) ≡ matching (attributesIn a) →
-    Says m (ToLinesBelow m (legIn leg) first last) found)
+    Says m (ToLinesBelow m (legIn leg) first last) (StandsIn work) found)
 
 abbrev μ-loop : tie.MeasureT-loop
 μ-loop work lines first leg a limit found₀ last₀ found last = lines - last
