@@ -16,8 +16,8 @@ use Rattle.search.proofs.Leaving.{latest-le, latest-hit}
 use Rattle.legs.specs.declared.ends.Leg.{Leg}
 use Rattle.legs.specs.declared.ends.Reading.{Reading}
 use Rattle.legs.specs.declared.ends.Verdict.{Verdict}
-use Rattle.legs.specs.Verdict.{attributesIn, legIn, bothOf, Ready, Set, Judged, OneList, Says, StandsIn, Anywhere, unread, FromLine, FromLines}
-use Rattle.legs.proofs.Joining.{says-same, says-then, says-both}
+use Rattle.legs.specs.Verdict.{attributesIn, legIn, bothOf, Ready, Set, Judged, OneList, Says, StandsIn, unread, FromLine, FromLines}
+use Rattle.legs.proofs.Joining.{says-same, says-both}
 use Rattle.legs.proofs.Lines.{none-yet, one-more, no-other, apart, not-leaving}
 use Rattle.model.specs.Reading as definitions
 use Rattle.legs.specs.declared.ends.Verdict.the-variants as verdict
@@ -64,15 +64,6 @@ pub not-first : {m : Map} {lines : ℕ} (leg : Leg) (first : ℕ) {w : List ℕ}
 unfolding legIn
 not-first leg first set differs = record { says = unread (not-leaving first differs); set = set; kept = kept-none }
 
--- What is said of the one list, changed.
-pub judged-then : {m : Map} {lines : ℕ} {P : List ℕ → Type 0} {N N′ : Reading → List ℕ → Type 0} {w v : List ℕ} {r : Verdict} →
-    ((q : Reading) (ls : List ℕ) → r ≡ verdict.One q → OneList m P q ls → N q ls → N′ q ls) → Judged m lines P N w v r → Judged m lines P N′ w v r
-judged-then f j = record { says = says-then f (j .says); set = j .set; kept = j .kept }
-
-pub anywhere : {m : Map} {lines : ℕ} {P : List ℕ → Type 0} {N : Reading → List ℕ → Type 0} {w v : List ℕ} {r : Verdict} → Judged m lines P N w v r →
-    Judged m lines P Anywhere w v r
-anywhere j = judged-then (λ q ls e o n. tt) j
-
 -- The first lines from `at` on have been judged, and `at - 1` is the next of the chain.
 pub record Walked (m : Map) (lines : ℕ) (leg : Leg) (N : Reading → List ℕ → Type 0) (w v : List ℕ) (at : ℕ) (found : Verdict) : Type 0 where
   pub judged : Judged m lines (FromLines m (legIn leg) at) N w v found
@@ -90,16 +81,28 @@ module _ {m : Map} {lines : ℕ} {leg : Leg} {N : Reading → List ℕ → Type 
         next = rw e (latest-hit m (leg .from) lines);
       }
 
-  pub walk-on : {v u : List ℕ} {at next : ℕ} {found more : Verdict} → Walked m lines leg N w v at found → 0 < at →
-      Judged m lines (FromLine m (legIn leg) (at - 1)) N v u more → next ≡ latest m (lineAt m (at - 1) .start) (at - 1) →
-      Walked m lines leg N w u next (bothOf found more)
+  pub walk-end : {v : List ℕ} {at : ℕ} {found : Verdict} → Walked m lines leg N w v at found → at ≡ 0 →
+      Judged m lines (definitions.Reading m (legIn leg)) N w v found
+  walk-end k e =
+      record {
+        says = says-same (λ ls r. r .reading) (λ ls r. record { reading = r; starts = omega arith }) (k .judged .says);
+        set = k .judged .set;
+        kept = k .judged .kept;
+      }
+
+-- One first line more. What is said of the one list before and of the one from this line becomes what is said of it after.
+module _ {m : Map} {lines : ℕ} {leg : Leg} {N A B : Reading → List ℕ → Type 0} {w v u : List ℕ} {at next : ℕ} {found more : Verdict}
+    (from-first : (r : Reading) (ls : List ℕ) → more ≡ verdict.Unread → A r ls → N r ls)
+    (from-second : (r : Reading) (ls : List ℕ) → found ≡ verdict.Unread → more ≡ verdict.One r → OneList m (FromLine m (legIn leg) (at - 1)) r ls → B r ls → N r ls) where
+  pub walk-on : Walked m lines leg A w v at found → 0 < at → Judged m lines (FromLine m (legIn leg) (at - 1)) B v u more →
+      next ≡ latest m (lineAt m (at - 1) .start) (at - 1) → Walked m lines leg N w u next (bothOf found more)
   unfolding legIn
-  walk-on {at = at} {next = next} k some j e =
+  walk-on k some j e =
       let from = k .next some in
       record {
         judged = record {
           says = says-same (one-more at next some from e) (no-other at next some from e)
-              (says-both (apart at next some from e) (k .judged .says) (j .says));
+              (says-both (apart at next some from e) from-first from-second (k .judged .says) (j .says));
           set = j .set;
           kept = kept-then (k .judged .kept) (j .kept);
         };
@@ -108,13 +111,4 @@ module _ {m : Map} {lines : ℕ} {leg : Leg} {N : Reading → List ℕ → Type 
             let hit : lineAt m (next - 1) .start ≡ lineAt m (at - 1) .start =
             rw e (latest-hit m (lineAt m (at - 1) .start) (at - 1) (omega arith)) in
             hit ∙ from;
-      }
-
-  pub walk-end : {v : List ℕ} {at : ℕ} {found : Verdict} → Walked m lines leg N w v at found → at ≡ 0 →
-      Judged m lines (definitions.Reading m (legIn leg)) N w v found
-  walk-end k e =
-      record {
-        says = says-same (λ ls r. r .reading) (λ ls r. record { reading = r; starts = omega arith }) (k .judged .says);
-        set = k .judged .set;
-        kept = k .judged .kept;
       }

@@ -50,7 +50,7 @@ module _ {m : Map} {leg : definitions.Leg} {first : ℕ} {N : Reading → List �
 
   pub lines-more : {i : ℕ} {a b : Verdict} → Says m (ToLinesBelow m leg first i) N a → Says m (ReadingTo m leg first (line i)) N b →
       Says m (ToLinesBelow m leg first (i + 1)) N (bothOf a b)
-  lines-more {i} s t = says-same (below-one i) (below-other i) (says-both (below-apart i) s t)
+  lines-more {i} s t = says-same (below-one i) (below-other i) (says-both (below-apart i) (λ r ls e n. n) (λ r ls e q o n. n) s t)
 
   pub lines-all : {v : Verdict} → Says m (ToLinesBelow m leg first (length (m .lines))) N v → Says m (FromLine m leg first) N v
   lines-all s = says-same (λ ls r. below-all ls r) (λ ls r. all-below ls r) s

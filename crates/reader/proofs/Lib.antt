@@ -3,3 +3,6 @@ pub mod Form
 pub mod Seeking
 pub mod Located
 pub mod Tracked
+pub mod Gathering
+pub mod NotOne
+pub mod Candidates

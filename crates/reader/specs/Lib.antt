@@ -2,3 +2,4 @@
 pub mod Form
 pub mod Node
 pub mod Legs
+pub mod Every

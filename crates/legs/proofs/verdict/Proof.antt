@@ -8,7 +8,7 @@ use Rattle.model.specs.Map.{Map}
 use Rattle.model.specs.Lines.{lineAt}
 use Rattle.search.proofs.Leaving.{latest-le}
 use Rattle.legs.specs.Verdict.{Anywhere, Set}
-use Rattle.legs.proofs.FirstLines.{Walked, anywhere, walk-start, walk-on, walk-end}
+use Rattle.legs.proofs.FirstLines.{Walked, walk-start, walk-on, walk-end}
 use Rattle.legs.proofs.verdict.Statement.{statement}
 use Rattle.legs.proofs.verdict.Tie as tie
 
@@ -60,7 +60,7 @@ loop-again c = (
       let k = c .before .before .before .before .before .before .before .before .loop .inv .1 m set from to in
       let some = c .before .before .before .before .before .before .before .loop-test .taken in
       let j = c .before .before .before .before .before .from-line .ensures m (k .judged .set) to (k .next some) in
-      rw (c .before .before .both .ensures) (walk-on k some (anywhere j) (c .next-leaving .ensures m (j .set .held) (j .set .chained))),
+      rw (c .before .before .both .ensures) (walk-on (λ r ls e n. tt) (λ r ls e q o n. tt) k some j (c .next-leaving .ensures m (j .set .held) (j .set .chained))),
 )
 
 same-length : tie.Need-same-length Inv-loop μ-loop
