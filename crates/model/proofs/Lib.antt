@@ -14,6 +14,7 @@ pub mod Parsed
 pub mod Points
 pub mod Composed
 pub mod Outcomes
+pub mod Rows
 pub mod Once
 pub mod Demand3
 pub mod Cases

@@ -1,6 +1,6 @@
 -- The form of a reference's bytes: its refusals one after another, the spare bits one point at a time, and the place of the offsets.
 use Prim.Native.Nat.{ℕ, suc, _+_, _*_, _-_, _/_, _%_, _≤_, _<_}
-use mathlib.Core.Path.{_≡_, _∙_}
+use mathlib.Core.Path.{_≡_, subst, _∙_}
 use mathlib.Core.Bool.{cond, _||_}
 use mathlib.Core.List.{List}
 use native.Mathlib.Omega.{arith}
@@ -8,6 +8,12 @@ use lib.ListN.{length, getD}
 use lib.Dec.{leb, eqb}
 use borrow.Author.Tests.{lt-ltb, le-ltb, eq-eqb}
 use Rattle.model.specs.Reference.{statusByte, shortestReference, longestReference, pointCount, referenceAt, spareBits, flags, parsed, refused, ParseAnswer, parse}
+use Rattle.model.specs.Refusal.{numberOf, refusalOf}
+use Rattle.model.specs.declared.Refusal.{Refusal}
+use Rattle.reader.specs.declared.reference.Reference.{Reference}
+use Rattle.reader.specs.declared.reference.Form.{Form}
+use Rattle.reader.specs.declared.reference.Form.the-variants.{Sound, Refused}
+use Rattle.reader.specs.Form.{SoundBytes, FormOf}
 use Rattle.reader.specs.Legs.{placeP}
 
 -- ---- refusal 14: the spare bits from point `k` on
@@ -69,3 +75,11 @@ module _ (bs : List ℕ) (long : shortestReference ≤ length bs) (short : lengt
   after-status e =
       let counted : (length bs - 9) / 7 ≡ (length bs - shortestReference) / 7 + 1 = omega arith in
       after-length ∙ rw (eq-eqb _ _ e, counted)
+
+-- What is known of the bytes once their form is known.
+module _ (bytes : List ℕ) (r : Form) (form : FormOf bytes r) where
+  pub sound-form : {q : Reference} → r ≡ Sound q → SoundBytes bytes (q .points)
+  sound-form e = subst (λ (f : Form). FormOf bytes f) e form
+
+  pub refused-form : {why : Refusal} → r ≡ Refused why → parse bytes ≡ refused (numberOf (refusalOf why))
+  refused-form e = subst (λ (f : Form). FormOf bytes f) e form

@@ -6,3 +6,5 @@ pub mod Tracked
 pub mod Gathering
 pub mod NotOne
 pub mod Candidates
+pub mod Ends
+pub mod Answers

@@ -1,6 +1,6 @@
 -- The table of the points' nodes, one point at a time: what it holds after k points, and what that comes to.
 use Prim.Native.Nat.{ℕ, _+_, _≤_, _<_}
-use mathlib.Core.Path.{_≡_, sym, ap, _∙_}
+use mathlib.Core.Path.{_≡_, sym, ap, subst, _∙_}
 use mathlib.Core.List.{List}
 use native.Mathlib.Omega.{arith}
 use lib.ListN.{length, getD, set, length-set}
@@ -15,8 +15,10 @@ use Rattle.depot_map.proofs.Holding.{lon-at, lat-at}
 use Rattle.depot_map.proofs.Held.{node-path}
 use Rattle.reader.specs.declared.node.Sought.{Sought}
 use Rattle.reader.specs.declared.node.Sought.the-variants.{Codes}
+use Rattle.reader.specs.declared.points.Places.{Places}
+use Rattle.reader.specs.declared.points.Places.the-variants.{Found, NoNode}
 use Rattle.reader.specs.Node.{passes}
-use Rattle.reader.specs.Legs.{placeP, soughtAfter, AllFound}
+use Rattle.reader.specs.Legs.{placeP, soughtAfter, AllFound, PlacesOf, PlacesPut}
 use Rattle.depot_map.proofs.Kept.{kept-then}
 use Rattle.reader.proofs.Located.{nextNode, PointsFound, Step, located-all, located-up-to}
 
@@ -86,3 +88,11 @@ module _ (bytes work : List ℕ) (nodes : ℕ) where
         seek (passes (soughtAfter bytes work k (getD places k 0))) 0 (m .nodes) ≡ missing → locate m (referenceAt bytes points) ≡ no-node (k + 1)
     tracked-no-more inside t m lines h gone =
         located-up-to m bytes points places k inside (t .path m lines h) (sym (seeks-next h k (getD places k 0) (t .below k (omega arith))) ∙ gone)
+
+-- What is known of the points once the answer on them is known.
+module _ {bytes work before after : List ℕ} {points nodes : ℕ} {r : Places} (put : PlacesPut bytes points work nodes before after r) where
+  pub all-found : r ≡ Found → AllFound bytes points work nodes after
+  all-found e = subst (λ (q : Places). PlacesOf bytes points work nodes after q) e (put .answers)
+
+  pub none-found : {k : ℕ} → r ≡ NoNode k → (m : Map) (lines : ℕ) → Holds work nodes lines m → locate m (referenceAt bytes points) ≡ no-node k
+  none-found e = subst (λ (q : Places). PlacesOf bytes points work nodes after q) e (put .answers)

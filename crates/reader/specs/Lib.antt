@@ -3,3 +3,4 @@ pub mod Form
 pub mod Node
 pub mod Legs
 pub mod Every
+pub mod Ending

@@ -1,6 +1,169 @@
-// The reader of references: their bytes taken apart, their points found on the map, and their legs.
-pub mod every_leg;
+// The reader of references (paper 01): `read`, and its parts in the order in which they are asked.
+use depot_map::MapRead;
+use depot_map::area::WORK_LENGTH;
+use depot_map::area::clear;
+use depot_map::read_map;
+use ending::answer;
+use every_leg::Legs;
+use every_leg::read_legs;
+use model::ReadAnswer;
+use model::Refusal;
+use points::Places;
+use points::locate;
+use reference::Form;
+use reference::Reference;
+use search::chains::link;
+ghost use mathlib.Core.Path.{_≡_};
+ghost use Prim.Native.Nat.{ℕ, _≤_, _<_};
+ghost use mathlib.Core.List.{List};
+ghost use lib.ListN.{length, take};
+ghost use Rattle.model.specs.Map.{Map, decode};
+ghost use Rattle.model.specs.Reference.{referenceAt, parse};
+ghost use Rattle.model.specs.Reading.{joined};
+ghost use Rattle.model.specs.Outcome.{LegsRead, every, located, ReadOn, ReadParsed, ReadMap, workLength};
+ghost use Rattle.model.specs.Call.{placed, ReadCall};
+ghost use Rattle.depot_map.specs.Area.{Holds};
+ghost use Rattle.legs.specs.Verdict.{Set};
+ghost use Rattle.reader.specs.Form.{SoundBytes};
+ghost use Rattle.reader.specs.Legs.{legsAt};
+ghost use Rattle.reader.specs.Every.{PlacesIn};
+ghost use Rattle.reader.specs.Ending.{Answered};
+ghost use Rattle.model.specs.Outcome as definitions;
+
+mod ending;
+mod every_leg;
 pub mod leg;
 pub mod node;
 pub mod points;
 pub mod reference;
+
+// How many lines are kept until all is asked. The lines of a longer reading are found a second time.
+const KEPT_LINES: usize = 1_024;
+
+// Writes `kept` into `lines`, from its start on.
+fn copy_lines(kept: &[u32], lines: &mut [u32])
+    requires { ⌜ length (now kept) ≤ length (now lines) ⌝ }
+    ensures { λ _. ⌜ now (lines .exit) ≡ placed (now (kept .entry)) (now (lines .entry)) ⌝ }
+{
+    let n = kept.len();
+    let mut i: usize = 0;
+    while i < n {
+        lines[i] = kept[i];
+        i += 1;
+    }
+}
+
+// Writes the `count` lines of a reference that is accepted.
+fn put_lines(
+    bytes: &[u8],
+    points: usize,
+    places: &[u32],
+    work: &mut [u32],
+    lines: usize,
+    kept: &[u32],
+    count: usize,
+    out: &mut [u32],
+)
+    requires { ⌜ SoundBytes (now bytes) points × (points < length (now places)) × (count ≤ length (now out)) ⌝ }
+    requires { ⌜ ((m : Map) × Set m lines (now work) × PlacesIn m points (now places)) ⌝ }
+    ensures { λ _. ⌜ ((m : Map) → Set m lines (now (work .entry)) → PlacesIn m points (now (places .entry)) → (lists : List (List ℕ))
+        → LegsRead m 0 (legsAt (now (bytes .entry)) points (now (places .entry))) (every lists) → length (joined lists) ≡ count
+        → (count ≤ length (now (kept .entry)) → take count (now (kept .entry)) ≡ joined lists)
+        → now (out .exit) ≡ placed (joined lists) (now (out .entry))) ⌝ }
+{
+    if count <= kept.len() {
+        copy_lines(&kept[..count], out);
+        return;
+    }
+    read_legs(bytes, points, places, work, lines, out);
+}
+
+// The answer for a reference whose points' nodes are known.
+fn on_places(
+    bytes: &[u8],
+    points: usize,
+    places: &[u32],
+    work: &mut [u32],
+    lines: usize,
+    out: &mut [u32],
+) -> ReadAnswer
+    requires { ⌜ SoundBytes (now bytes) points × (points < length (now places)) ⌝ }
+    requires { ⌜ ((m : Map) × Set m lines (now work) × PlacesIn m points (now places)) ⌝ }
+    ensures { λ r. ⌜ ((m : Map) → Set m lines (now (work .entry)) → PlacesIn m points (now (places .entry))
+        → definitions.locate m (referenceAt (now (bytes .entry)) points) ≡ located (legsAt (now (bytes .entry)) points (now (places .entry)))
+        → Answered (ReadOn m (referenceAt (now (bytes .entry)) points) (length (now (out .entry)))) (now (out .entry)) (now (out .exit)) r) ⌝ }
+{
+    let mut kept = [0; KEPT_LINES];
+    match read_legs(bytes, points, places, work, lines, &mut kept) {
+        Legs::Every(sums) => {
+            let given = answer(bytes, points, sums, out.len());
+            if let ReadAnswer::Read(count, _, _) = given {
+                put_lines(bytes, points, places, work, lines, &kept, count, out);
+            }
+            given
+        }
+        Legs::Unread(leg) => ReadAnswer::Refused(Refusal::NoReading(leg)),
+        Legs::Several(leg) => ReadAnswer::Refused(Refusal::SeveralReadings(leg)),
+    }
+}
+
+// The answer for bytes that are a reference.
+fn on_points(
+    bytes: &[u8],
+    points: usize,
+    work: &mut [u32],
+    nodes: u32,
+    lines: usize,
+    out: &mut [u32],
+) -> ReadAnswer
+    requires { ⌜ SoundBytes (now bytes) points ⌝ }
+    requires { ⌜ ((m : Map) × Set m lines (now work) × (length (m .nodes) ≡ nodes)) ⌝ }
+    ensures { λ r. ⌜ ((m : Map) → Set m lines (now (work .entry)) → length (m .nodes) ≡ nodes
+        → Answered (ReadOn m (referenceAt (now (bytes .entry)) points) (length (now (out .entry)))) (now (out .entry)) (now (out .exit)) r) ⌝ }
+{
+    let mut places = [0; Reference::MOST_POINTS];
+    match locate(bytes, points, work, nodes, &mut places) {
+        Places::Found => on_places(bytes, points, &places, work, lines, out),
+        Places::NoNode(point) => ReadAnswer::Refused(Refusal::NoNode(point)),
+    }
+}
+
+// The answer for a map that stands whole in the work area.
+fn on_map(reference: &[u8], work: &mut [u32], nodes: u32, lines: u32, out: &mut [u32]) -> ReadAnswer
+    requires { ⌜ ((m : Map) × Holds (now work) nodes lines m) ⌝ }
+    ensures { λ r. ⌜ ((m : Map) → Holds (now (work .entry)) nodes lines m
+        → Answered (ReadParsed m (parse (now (reference .entry))) (length (now (out .entry)))) (now (out .entry)) (now (out .exit)) r) ⌝ }
+{
+    match Reference::of(reference) {
+        Form::Sound(sound) => {
+            let count = lines as usize;
+            link(work, count);
+            on_points(reference, sound.points, work, nodes, count, out)
+        }
+        Form::Refused(why) => ReadAnswer::Refused(why),
+    }
+}
+
+// The answer where the work area is large enough.
+fn on_bytes(map: &[u8], reference: &[u8], work: &mut [u32], out: &mut [u32]) -> ReadAnswer
+    requires { ⌜ workLength ≤ length (now work) ⌝ }
+    ensures { λ r. ⌜ Answered (ReadMap (decode (now (map .entry))) (now (reference .entry)) (length (now (out .entry)))) (now (out .entry)) (now (out .exit)) r ⌝ }
+{
+    match read_map(map, work) {
+        MapRead::Whole(nodes, lines) => on_map(reference, work, nodes, lines, out),
+        MapRead::Refused(why) => ReadAnswer::Refused(why),
+    }
+}
+
+// Reads a reference on a map. An answer that it is read has the count of lines, which stand first in `lines`, and the spans of the two offsets.
+// The work area needs 12,288 numbers. They are 0 afterwards.
+pub fn read(map: &[u8], reference: &[u8], work: &mut [u32], lines: &mut [u32]) -> ReadAnswer
+    ensures { λ r. ⌜ ReadCall (now (map .entry)) (now (reference .entry)) (now (work .entry)) (now (lines .entry)) r (now (work .exit)) (now (lines .exit)) ⌝ }
+{
+    if work.len() < WORK_LENGTH {
+        return ReadAnswer::Refused(Refusal::WorkAreaShort);
+    }
+    let given = on_bytes(map, reference, &mut work[..WORK_LENGTH], lines);
+    clear(work);
+    given
+}

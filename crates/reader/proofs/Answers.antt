@@ -1,0 +1,186 @@
+-- Answers to the definitions' questions, put together from those of the parts.
+use Prim.Native.Nat.{ℕ, _≤_, _<_}
+use mathlib.Core.Path.{_≡_, refl, sym, ap, subst, _∙_}
+use mathlib.Core.Bool.{Bool, cond}
+use mathlib.Core.List.{List, _++_}
+use native.Mathlib.Omega.{arith}
+use lib.ListN.{length, take, drop, replicate, length-append}
+use lib.Seq.{take-at, drop-at, length-take-le}
+use lib.Dec.{ltb}
+use borrow.Author.Tests.{lt-ltb, le-ltb}
+use Rattle.model.specs.Map.{Map, MapAnswer, decode}
+use Rattle.model.specs.Refusal.{row, numberOf, refusalOf}
+use Rattle.model.specs.Reference.{Reference, ParseAnswer, parse}
+use Rattle.model.specs.Reading.{Leg, joined}
+use Rattle.model.specs.Outcome.{located, no-node, locate, LegsRead, every, failed, ReadOutcome, read, ReadEnd, ReadOn, no-point, no-leg, every-leg, ReadParsed, workLength, ReadMap}
+use Rattle.model.specs.Call.{cleared, placed, linesAfter, ReadCall, ReadAnswers, lines, refusal}
+use Rattle.model.specs.declared.Refusal.{Refusal}
+use Rattle.model.specs.declared.Span.{Span}
+use Rattle.model.specs.declared.ReadAnswer.{ReadAnswer}
+use Rattle.model.specs.declared.ReadAnswer.the-variants.{Read, Refused}
+use Rattle.model.proofs.Legs.{legs-same}
+use Rattle.model.proofs.Rows.{row-of, map-row, form-row}
+use Rattle.reader.specs.declared.every_leg.Sums.{Sums}
+use Rattle.reader.specs.declared.every_leg.Legs.{Legs}
+use Rattle.reader.specs.declared.every_leg.Legs.the-variants.{Every, Unread, Several}
+use Rattle.reader.specs.Every.{Laid, AllRead, LegsTell, LegsDone}
+use Rattle.reader.specs.Ending.{Ended, Answered}
+use Rattle.model.specs.Refusal as definitions
+use Rattle.model.specs.declared.Refusal.the-variants as why
+
+-- ---- the lines
+
+-- Lines that are kept from the start of a buffer.
+pub kept-lines : (ls before kept : List ℕ) (count : ℕ) → length ls ≡ count → count ≤ length before → Laid ls before kept → take count kept ≡ ls
+unfolding placed
+kept-lines ls before kept count e fits laid = rw (laid (omega arith)) (take-at ls (drop (length ls) before) count e)
+
+-- Legs that were read once are read the same way again.
+module _ {m : Map} {legs : List Leg} {lists : List (List ℕ)} (once : LegsRead m 0 legs (every lists)) where
+  not-failed : {n k : ℕ} → LegsRead m 0 legs (failed n k) → ⊥
+  not-failed f = let same = legs-same once f in let z : _≡_ {A = ℕ} 0 1 = cc in omega arith
+
+  pub again : (before after : List ℕ) (r : Legs) → LegsTell m legs before after r → length (joined lists) ≤ length before → after ≡ placed (joined lists) before
+  again before after (Every s) t fits =
+      let same = legs-same (t .read) once in
+      let lists-same : t .lists ≡ lists = cc in
+      rw lists-same at (t .laid) fits
+  again before after (Unread k) t fits = absurd (not-failed t)
+  again before after (Several k) t fits = absurd (not-failed t)
+
+-- What is known of the legs once the answer on them is known.
+module _ {m : Map} {line-count : ℕ} {legs : List Leg} {w before after : List ℕ} {r : Legs} (done : LegsDone m line-count legs w before after r) where
+  pub told-every : {s : Sums} → r ≡ Every s → AllRead m legs before after s
+  told-every e = subst (λ (q : Legs). LegsTell m legs before after q) e (done .tells)
+
+  pub told-unread : {k : ℕ} → r ≡ Unread k → LegsRead m 0 legs (failed 17 k)
+  told-unread e = subst (λ (q : Legs). LegsTell m legs before after q) e (done .tells)
+
+  pub told-several : {k : ℕ} → r ≡ Several k → LegsRead m 0 legs (failed 18 k)
+  told-several e = subst (λ (q : Legs). LegsTell m legs before after q) e (done .tells)
+
+-- ---- an answer says whether a reference is read or refused
+
+not-both : {a : ReadAnswer} {o : ReadOutcome} {q : definitions.Refused} {count : ℕ} {pos neg : Span} → ReadAnswers a o → a ≡ Read count pos neg →
+    o ≡ ReadOutcome.refused q → ⊥
+not-both lines e f = let z : _≡_ {A = ℕ} 0 1 = cc in omega arith
+not-both refusal e f = let z : _≡_ {A = ℕ} 0 1 = cc in omega arith
+
+not-neither : {a : ReadAnswer} {o : ReadOutcome} {r : Refusal} {ls : List ℕ} {pos neg : Span} → ReadAnswers a o → a ≡ Refused r → o ≡ read ls pos neg → ⊥
+not-neither lines e f = let z : _≡_ {A = ℕ} 0 1 = cc in omega arith
+not-neither refusal e f = let z : _≡_ {A = ℕ} 0 1 = cc in omega arith
+
+count-of : {a : ReadAnswer} {o : ReadOutcome} {count : ℕ} {ls : List ℕ} {p n pos neg : Span} → ReadAnswers a o → a ≡ Read count p n → o ≡ read ls pos neg →
+    length ls ≡ count
+count-of {count = count} {ls = ls} (lines {ls = ks}) e f = let same : ks ≡ ls = cc in let k : length ks ≡ count = cc in rw (sym same) k
+count-of refusal e f = absurd (let z : _≡_ {A = ℕ} 0 1 = cc in omega arith)
+
+-- ---- an answer of one part is the answer of the next
+
+pub answered-by : {R R′ : ReadOutcome → Type 0} {before after : List ℕ} {a : ReadAnswer} → ((o : ReadOutcome) → R o → R′ o) → Answered R before after a →
+    Answered R′ before after a
+answered-by f d = record { outcome = d .outcome; reads = f (d .outcome) (d .reads); answers = d .answers; lines-after = d .lines-after }
+
+pub refused-by : {R : ReadOutcome → Type 0} {lines : List ℕ} (r : Refusal) → R (ReadOutcome.refused (refusalOf r)) → Answered R lines lines (Refused r)
+unfolding linesAfter
+refused-by r h = record { outcome = ReadOutcome.refused (refusalOf r); reads = h; answers = refusal; lines-after = refl }
+
+module _ {m : Map} {r : Reference} {room : ℕ} where
+  pub no-point-read : {lines : List ℕ} (k : ℕ) → locate m r ≡ no-node k → Answered (ReadOn m r room) lines lines (Refused (why.NoNode k))
+  unfolding refusalOf
+  no-point-read k e = refused-by (why.NoNode k) (no-point e)
+
+  module _ {legs : List Leg} (found : locate m r ≡ located legs) where
+    pub no-reading : {lines : List ℕ} (k : ℕ) → LegsRead m 0 legs (failed 17 k) → Answered (ReadOn m r room) lines lines (Refused (why.NoReading k))
+    unfolding refusalOf
+    no-reading k f = refused-by (why.NoReading k) (no-leg found f)
+
+    pub several-readings : {lines : List ℕ} (k : ℕ) → LegsRead m 0 legs (failed 18 k) →
+        Answered (ReadOn m r room) lines lines (Refused (why.SeveralReadings k))
+    unfolding refusalOf
+    several-readings k f = refused-by (why.SeveralReadings k) (no-leg found f)
+
+    -- Every leg is read, and the lines are written; or the answer is a refusal.
+    module _ {lists : List (List ℕ)} (all : LegsRead m 0 legs (every lists)) {a : ReadAnswer} (ended : Ended m r room lists a) where
+      pub all-read : {before after : List ℕ} {count : ℕ} {pos neg : Span} → a ≡ Read count pos neg → after ≡ placed (joined lists) before →
+          Answered (ReadOn m r room) before after (Read count pos neg)
+      unfolding linesAfter
+      all-read {before} {after} e put = subst (λ (b : ReadAnswer). Answered (ReadOn m r room) before after b) e (go (ended .outcome) (ended .ends) (ended .answers))
+        where
+          go : (o : ReadOutcome) → ReadEnd m r room lists o → ReadAnswers a o → Answered (ReadOn m r room) before after a
+          go o (ReadEnd.no-pos x) h = absurd (not-both h e refl)
+          go o (ReadEnd.no-neg x) h = absurd (not-both h e refl)
+          go o (ReadEnd.too-far s x) h = absurd (not-both h e refl)
+          go o (ReadEnd.no-room s x y) h = absurd (not-both h e refl)
+          go o (ReadEnd.accepted s x y) h =
+              record { outcome = o; reads = every-leg found all (ReadEnd.accepted s x y); answers = h; lines-after = put }
+
+      pub none-read : {before : List ℕ} {r′ : Refusal} → a ≡ Refused r′ → Answered (ReadOn m r room) before before a
+      unfolding linesAfter
+      none-read {before} e = go (ended .outcome) (ended .ends) (ended .answers)
+        where
+          go : (o : ReadOutcome) → ReadEnd m r room lists o → ReadAnswers a o → Answered (ReadOn m r room) before before a
+          go o (ReadEnd.no-pos x) h = record { outcome = o; reads = every-leg found all (ReadEnd.no-pos x); answers = h; lines-after = refl }
+          go o (ReadEnd.no-neg x) h = record { outcome = o; reads = every-leg found all (ReadEnd.no-neg x); answers = h; lines-after = refl }
+          go o (ReadEnd.too-far s x) h = record { outcome = o; reads = every-leg found all (ReadEnd.too-far s x); answers = h; lines-after = refl }
+          go o (ReadEnd.no-room s x y) h = record { outcome = o; reads = every-leg found all (ReadEnd.no-room s x y); answers = h; lines-after = refl }
+          go o (ReadEnd.accepted s x y) h = absurd (not-neither h e refl)
+
+-- The count of lines of an accepted reference, and that there is room for them.
+pub counted : {m : Map} {r : Reference} {room : ℕ} {lists : List (List ℕ)} {a : ReadAnswer} {count : ℕ} {pos neg : Span} → Ended m r room lists a →
+    a ≡ Read count pos neg → (length (joined lists) ≡ count) × (count ≤ room)
+counted {m} {r} {room} {lists} {a} {count} ended e = go (ended .outcome) (ended .ends) (ended .answers)
+  where
+    go : (o : ReadOutcome) → ReadEnd m r room lists o → ReadAnswers a o → (length (joined lists) ≡ count) × (count ≤ room)
+    go o (ReadEnd.no-pos x) h = absurd (not-both h e refl)
+    go o (ReadEnd.no-neg x) h = absurd (not-both h e refl)
+    go o (ReadEnd.too-far s x) h = absurd (not-both h e refl)
+    go o (ReadEnd.no-room s x y) h = absurd (not-both h e refl)
+    go o (ReadEnd.accepted s x y) h = let k = count-of h e refl in (k, omega arith)
+
+-- ---- a map, or a reference's bytes, that are refused
+
+pub form-refused : (m : Map) (bytes : List ℕ) {lines : List ℕ} (room : ℕ) (r : Refusal) → parse bytes ≡ ParseAnswer.refused (numberOf (refusalOf r)) →
+    Answered (ReadParsed m (parse bytes) room) lines lines (Refused r)
+form-refused m bytes room r e = refused-by r (rw e (ap ReadOutcome.refused (row-of r (form-row bytes _ e))))
+
+pub map-refused : (map bytes : List ℕ) {lines : List ℕ} (room : ℕ) (r : Refusal) → decode map ≡ MapAnswer.refused (numberOf (refusalOf r)) →
+    Answered (ReadMap (decode map) bytes room) lines lines (Refused r)
+map-refused map bytes room r e = refused-by r (rw e (ap ReadOutcome.refused (row-of r (let h = map-row map _ e in omega arith))))
+
+-- ---- the whole call
+
+module _ (mb ref lines : List ℕ) where
+  pub area-short : (work : List ℕ) → length work < workLength → ReadCall mb ref work lines (Refused why.WorkAreaShort) work lines
+  unfolding cleared linesAfter refusalOf
+  area-short work h =
+      record {
+        outcome = ReadOutcome.refused (row 1);
+        reads = rw (lt-ltb (length work) workLength h) refl;
+        answers = refusal {why = why.WorkAreaShort};
+        work-after = sym (ap (λ (t : Bool). cond t work (replicate workLength 0 ++ drop workLength work)) (lt-ltb (length work) workLength h));
+        lines-after = refl;
+      }
+
+  pub called : {after work work′ : List ℕ} {a : ReadAnswer} → workLength ≤ length work → Answered (ReadMap (decode mb) ref (length lines)) lines after a →
+      work′ ≡ cleared work → ReadCall mb ref work lines a work′ after
+  called {work = work} h d e =
+      record {
+        outcome = d .outcome;
+        reads = rw (le-ltb (length work) workLength h) (d .reads);
+        answers = d .answers;
+        work-after = e;
+        lines-after = d .lines-after;
+      }
+
+-- A change within the first numbers does not matter to what is cleared. Over any length, so that the zeros are not written out.
+front-cleared : (n : ℕ) (w front : List ℕ) → n ≤ length w → length front ≡ n →
+    cond (ltb (length (front ++ drop n w)) n) (front ++ drop n w) (replicate n 0 ++ drop n (front ++ drop n w)) ≡
+    cond (ltb (length w) n) w (replicate n 0 ++ drop n w)
+front-cleared n w front h e =
+    let long : n ≤ length (front ++ drop n w) = omega (arith, length-append front (drop n w)) in
+    rw (le-ltb (length (front ++ drop n w)) n long, le-ltb (length w) n h, drop-at front (drop n w) n e)
+
+pub cleared-same : (w front : List ℕ) → workLength ≤ length w → length front ≡ length (take workLength w) → cleared (front ++ drop workLength w) ≡ cleared w
+unfolding cleared
+cleared-same w front h e = front-cleared workLength w front h (e ∙ length-take-le workLength w h)

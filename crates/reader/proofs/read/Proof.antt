@@ -1,0 +1,50 @@
+-- `read` meets its contract: the work area is too short, or the answer on the bytes, and then it is cleared.
+use native.Mathlib.Omega.{arith}
+use borrow.Author.Needs.{needs}
+use mathlib.Core.Path.{sym, _∙_}
+use lib.Seq.{length-take-le}
+use Rattle.model.specs.Outcome.{workLength}
+use Rattle.reader.proofs.Answers.{area-short, called, cleared-same}
+use Rattle.reader.proofs.read.Statement.{statement}
+use Rattle.reader.proofs.read.Tie as tie
+
+returns : tie.Need-returns
+returns c = let a = c .before .before .before .before .before .args in area-short (a .map .now) (a .reference .now) (a .lines .now) (a .work .now) (c .if1 .taken)
+
+slice-relend-prefix-on-bytes : tie.Need-slice-relend-prefix-on-bytes
+slice-relend-prefix-on-bytes c = search needs
+
+slice-aggregate-on-bytes : tie.Need-slice-aggregate-on-bytes
+slice-aggregate-on-bytes c = sym (length-take-le workLength (c .before .before .before .before .before .before .args .work .now) (omega (arith, c .before .if1 .left)))
+
+on-bytes-requires : tie.Need-on-bytes-requires
+on-bytes-requires c κs = omega (arith, length-take-le workLength (c .before .before .before .before .before .before .before .args .work .now) (omega (arith, c .before .before .if1 .left)))
+
+clear-requires : tie.Need-clear-requires
+clear-requires c κs = search needs
+
+same-length : tie.Need-same-length
+same-length c = search needs
+
+same-length-2 : tie.Need-same-length-2
+same-length-2 c = search needs
+
+returns-2 : tie.Need-returns-2
+returns-2 c =
+    let a = c .before .before .before .before .before .before .before .before .before .before .before .before .before .before .before .before .args in
+    let large = c .before .before .before .before .before .before .before .before .before .before .before .if1 .left in
+    called (a .map .now) (a .reference .now) (a .lines .now) (omega (arith, large)) (c .before .before .before .before .before .before .before .before .on-bytes .ensures)
+    (c .before .before .clear .ensures ∙ cleared-same (a .work .now) (c .before .before .before .before .before .before .before .before .on-bytes .last .1 .1 .0) (omega (arith, large)) (c .before .before .before .before .before .before .before .before .on-bytes .kept .1 .1 .0))
+
+pub read-spec : {M : Type 1} → statement M
+read-spec =
+    tie.close
+    (tie.spec
+    returns
+    slice-relend-prefix-on-bytes
+    slice-aggregate-on-bytes
+    on-bytes-requires
+    clear-requires
+    same-length
+    same-length-2
+    returns-2)
