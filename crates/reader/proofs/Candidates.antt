@@ -13,7 +13,7 @@ use Rattle.legs.specs.declared.ends.Verdict.{Verdict}
 use Rattle.legs.specs.declared.ends.Verdict.the-variants.{Unread, One, Several}
 use Rattle.legs.specs.Verdict.{legIn, bothOf, OneList, TwoLists, Says, StandsIn, FromLine, FromLines, Judged}
 use Rattle.legs.proofs.FirstLines.{Walked, walk-on}
-use Rattle.reader.specs.Legs.{legAt, legsOn}
+use Rattle.references.specs.Legs.{legAt, legsOn}
 use Rattle.reader.specs.Every.{Put, PutOne}
 use Rattle.reader.proofs.Gathering.{Inserted}
 use Rattle.model.specs.Reading as definitions

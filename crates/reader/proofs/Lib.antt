@@ -1,10 +1,6 @@
--- Laws of a reference's form, of the search for a node and of the nodes of the points.
-pub mod Form
-pub mod Seeking
-pub mod Located
-pub mod Tracked
-pub mod Gathering
+-- Laws of the legs that are read one after another, of the offsets' spans, and of the answers put together.
 pub mod NotOne
+pub mod Gathering
 pub mod Candidates
 pub mod Ends
 pub mod Answers

@@ -1,6 +1,3 @@
--- What the reader's functions promise: of a reference's bytes, of a search for a node, and of the points and legs.
-pub mod Form
-pub mod Node
-pub mod Legs
+-- What is promised of the legs that are read, and of the answer.
 pub mod Every
 pub mod Ending

@@ -1,18 +1,18 @@
 // What is asked once every leg is read: the offsets' spans, and whether the lines fit their buffer.
 use crate::every_leg::Sums;
-use crate::reference::Offset;
-use crate::reference::negative_offset;
-use crate::reference::positive_offset;
 use fields::offset::Offsets;
 use fields::offset::span_of;
 use model::ReadAnswer;
 use model::Refusal;
 use model::Span;
+use references::reference::Offset;
+use references::reference::negative_offset;
+use references::reference::positive_offset;
 ghost use Prim.Native.Nat.{ℕ};
 ghost use mathlib.Core.List.{List};
 ghost use Rattle.model.specs.Map.{Map};
 ghost use Rattle.model.specs.Reference.{referenceAt};
-ghost use Rattle.reader.specs.Form.{SoundBytes, offsetIn};
+ghost use Rattle.references.specs.Form.{SoundBytes, offsetIn};
 ghost use Rattle.reader.specs.Every.{SumsOf};
 ghost use Rattle.reader.specs.Ending.{SpansOf, Ended};
 

@@ -1,9 +1,9 @@
 // The legs of a reference read one after another, and their lines written in order.
-use crate::leg::leg_at;
 use legs::ends::Reading;
 use legs::ends::Verdict;
 use legs::ends::both;
 use legs::from_line;
+use references::leg::leg_at;
 use search::chains::first_leaving;
 use search::chains::next_leaving;
 use search::ways::write_lines;
@@ -15,8 +15,8 @@ ghost use Rattle.model.specs.Lines.{Connected};
 ghost use Rattle.model.specs.Reading.{greatestLegLength};
 ghost use Rattle.search.specs.Area.{Held, linesTo};
 ghost use Rattle.legs.specs.Verdict.{Set};
-ghost use Rattle.reader.specs.Form.{SoundBytes};
-ghost use Rattle.reader.specs.Legs.{legsAt};
+ghost use Rattle.references.specs.Form.{SoundBytes};
+ghost use Rattle.references.specs.Legs.{legsAt};
 ghost use Rattle.reader.specs.Every.{sumsWith, Put, PlacesIn, LegsDone};
 
 // Of the legs that are read: how many lines they have, how long they are together, and how long the first and the last of them are.

@@ -8,10 +8,10 @@ use every_leg::Legs;
 use every_leg::read_legs;
 use model::ReadAnswer;
 use model::Refusal;
-use points::Places;
-use points::locate;
-use reference::Form;
-use reference::Reference;
+use references::points::Places;
+use references::points::locate;
+use references::reference::Form;
+use references::reference::Reference;
 use search::chains::link;
 ghost use mathlib.Core.Path.{_≡_};
 ghost use Prim.Native.Nat.{ℕ, _≤_, _<_};
@@ -24,18 +24,14 @@ ghost use Rattle.model.specs.Outcome.{LegsRead, every, located, ReadOn, ReadPar
 ghost use Rattle.model.specs.Call.{placed, ReadCall};
 ghost use Rattle.depot_map.specs.Area.{Holds};
 ghost use Rattle.legs.specs.Verdict.{Set};
-ghost use Rattle.reader.specs.Form.{SoundBytes};
-ghost use Rattle.reader.specs.Legs.{legsAt};
+ghost use Rattle.references.specs.Form.{SoundBytes};
+ghost use Rattle.references.specs.Legs.{legsAt};
 ghost use Rattle.reader.specs.Every.{PlacesIn};
 ghost use Rattle.reader.specs.Ending.{Answered};
 ghost use Rattle.model.specs.Outcome as definitions;
 
 mod ending;
 mod every_leg;
-pub mod leg;
-pub mod node;
-pub mod points;
-pub mod reference;
 
 // How many lines are kept until all is asked. The lines of a longer reading are found a second time.
 const KEPT_LINES: usize = 1_024;

@@ -2,7 +2,7 @@
 use native.Mathlib.Omega.{arith}
 use borrow.Author.Needs.{needs}
 use Rattle.search.proofs.Frame.{held, held-kept}
-use Rattle.reader.proofs.Form.{sound-form, refused-form}
+use Rattle.references.proofs.Form.{sound-form, refused-form}
 use Rattle.reader.proofs.Answers.{answered-by, form-refused}
 use Rattle.reader.proofs.on_map.Statement.{statement}
 use Rattle.reader.proofs.on_map.Tie as tie

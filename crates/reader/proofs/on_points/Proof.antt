@@ -1,7 +1,7 @@
 -- `on_points` meets its contract: a point without a node, or the answer on the legs between them.
 use native.Mathlib.Omega.{arith}
 use borrow.Author.Needs.{needs}
-use Rattle.reader.proofs.Tracked.{all-found, none-found}
+use Rattle.references.proofs.Tracked.{all-found, none-found}
 use Rattle.reader.proofs.Answers.{no-point-read}
 use Rattle.reader.proofs.on_points.Statement.{statement}
 use Rattle.reader.proofs.on_points.Tie as tie

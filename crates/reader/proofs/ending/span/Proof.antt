@@ -1,6 +1,6 @@
 -- `span` meets its contract: with a byte and without.
 use borrow.Author.Needs.{needs}
-use Rattle.reader.specs.Form.{offsetIn}
+use Rattle.references.specs.Form.{offsetIn}
 use Rattle.reader.proofs.Ends.{spans-absent, spans-byte}
 use Rattle.reader.proofs.ending.span.Statement.{statement}
 use Rattle.reader.proofs.ending.span.Tie as tie

@@ -14,7 +14,7 @@ use Rattle.legs.specs.declared.ends.Leg.{Leg}
 use Rattle.legs.specs.declared.ends.Verdict.the-variants.{Unread, Several}
 use Rattle.legs.specs.Verdict.{legIn, FromLine, StandsIn, Set, Judged}
 use Rattle.legs.proofs.FirstLines.{walk-start, walk-end}
-use Rattle.reader.specs.Legs.{legsOn, legsAt}
+use Rattle.references.specs.Legs.{legsOn, legsAt}
 use Rattle.reader.specs.Every.{PlacesIn}
 use Rattle.reader.proofs.NotOne.{not-one, not-several}
 use Rattle.reader.proofs.Gathering.{Gathering, gather-none, gather-on, gather-unread, gather-several, gather-end, read-bounds}
