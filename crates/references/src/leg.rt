@@ -4,6 +4,7 @@ use crate::reference::attributes_at;
 use crate::reference::byte_at;
 use legs::ends::Arrival;
 use legs::ends::Leg;
+use search::area::wide;
 ghost use mathlib.Core.Path.{_≡_};
 ghost use Prim.Native.Nat.{_<_};
 ghost use lib.ListN.{length};
@@ -27,21 +28,14 @@ fn arrival_at(bytes: &[u8], points: usize, k: usize) -> Arrival
     ))
 }
 
-// A node's number as an index.
-fn index(node: u32) -> usize
-    ensures { λ r. ⌜ r ≡ node ⌝ }
-{
-    node as usize
-}
-
 // Leg `k`, between the nodes in `places`.
 pub fn leg_at(bytes: &[u8], points: usize, places: &[u32], k: usize) -> Leg
     requires { ⌜ SoundBytes (now bytes) points × (k < points) × (points < length (now places)) ⌝ }
     ensures { λ r. ⌜ legIn r ≡ legAt (now (bytes .entry)) points (now (places .entry)) k ⌝ }
 {
     let p = Reference::FIRST_P + Reference::MIDDLE_POINT * k;
-    let from = index(places[k]);
-    let to = index(places[k + 1]);
+    let from = wide(places[k]);
+    let to = wide(places[k + 1]);
     let leaves = attributes_at(bytes, p, p + 1);
     let lowest = byte_at(bytes, p + 1) / 32;
     let distance = byte_at(bytes, p + 2);

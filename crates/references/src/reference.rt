@@ -1,4 +1,5 @@
 // A reference's bytes: whether they have the form of one, and what their fields say.
+use fields::bytes::wide;
 use legs::ends::Attributes;
 use model::Refusal;
 ghost use mathlib.Core.Path.{_≡_};
@@ -83,13 +84,6 @@ pub fn byte_at(bytes: &[u8], i: usize) -> u32
     ensures { λ r. ⌜ (r ≡ getD (now (bytes .entry)) i 0) × (r < 256) ⌝ }
 {
     wide(bytes[i])
-}
-
-// A byte as a number. Its contract spares its callers the bound on an element.
-fn wide(byte: u8) -> u32
-    ensures { λ r. ⌜ (r ≡ byte) × (r < 256) ⌝ }
-{
-    byte as u32
 }
 
 // Byte R, after the last point's P.

@@ -13,26 +13,26 @@ mul-p c = search needs
 add-p : tie.Need-add-p
 add-p c = search needs
 
-mul-index : tie.Need-mul-index
-mul-index c = search needs
+mul-wide : tie.Need-mul-wide
+mul-wide c = search needs
 
-shared-slice-read-index : tie.Need-shared-slice-read-index
-shared-slice-read-index c = search needs
+shared-slice-read-wide : tie.Need-shared-slice-read-wide
+shared-slice-read-wide c = search needs
 
-index-requires : tie.Need-index-requires
-index-requires c κs = search needs
+wide-requires : tie.Need-wide-requires
+wide-requires c κs = search needs
 
-add-index : tie.Need-add-index
-add-index c = search needs
+add-wide : tie.Need-add-wide
+add-wide c = search needs
 
-mul-index-2 : tie.Need-mul-index-2
-mul-index-2 c = search needs
+mul-wide-2 : tie.Need-mul-wide-2
+mul-wide-2 c = search needs
 
-shared-slice-read-index-2 : tie.Need-shared-slice-read-index-2
-shared-slice-read-index-2 c = search needs
+shared-slice-read-wide-2 : tie.Need-shared-slice-read-wide-2
+shared-slice-read-wide-2 c = search needs
 
-index-requires-2 : tie.Need-index-requires-2
-index-requires-2 c κs = search needs
+wide-requires-2 : tie.Need-wide-requires-2
+wide-requires-2 c κs = search needs
 
 add-attributes-at : tie.Need-add-attributes-at
 add-attributes-at c = search needs
@@ -61,8 +61,8 @@ returns c =
     let bytes-read = c .before .before .before in
     λ i.
     record {
-      from = bytes-read .before .before .before .index .ensures i;
-      to = bytes-read .before .index2 .ensures i;
+      from = bytes-read .before .before .before .wide .ensures .0 i;
+      to = bytes-read .before .wide2 .ensures .0 i;
       leaves = bytes-read .attributes-at .ensures i;
       lowest = c .before .before .byte-at .ensures .0 i / 32;
       distance = c .before .byte-at2 .ensures .0 i;
@@ -75,13 +75,13 @@ leg-at-spec =
     (tie.spec
     mul-p
     add-p
-    mul-index
-    shared-slice-read-index
-    index-requires
-    add-index
-    mul-index-2
-    shared-slice-read-index-2
-    index-requires-2
+    mul-wide
+    shared-slice-read-wide
+    wide-requires
+    add-wide
+    mul-wide-2
+    shared-slice-read-wide-2
+    wide-requires-2
     add-attributes-at
     attributes-at-requires
     add-byte-at
