@@ -1,0 +1,5 @@
+-- Laws of the writer's definitions.
+pub mod Routes
+pub mod Choosing
+pub mod Stretches
+pub mod Checks

@@ -1,0 +1,3 @@
+-- What the writer's functions promise.
+pub mod Stretch
+pub mod Cuts
