@@ -3,3 +3,5 @@ pub mod Routes
 pub mod Choosing
 pub mod Stretches
 pub mod Checks
+pub mod Ends
+pub mod Points

@@ -17,10 +17,10 @@ use Rattle.model.proofs.Skipping.{total-append}
 use Rattle.writer.specs.Stretch.{Known, stretchOf, Skips}
 
 -- One line more, and the end.
-drop-next : (ls : List ℕ) (i : ℕ) → i < length ls → drop i ls ≡ getD ls i 0 ∷ drop (i + 1) ls
+pub drop-next : (ls : List ℕ) (i : ℕ) → i < length ls → drop i ls ≡ getD ls i 0 ∷ drop (i + 1) ls
 drop-next ls i h = rw add-one (drop-cons ls i 0 h)
 
-take-next : (ls : List ℕ) (i : ℕ) → i < length ls → take (i + 1) ls ≡ take i ls ++ (getD ls i 0 ∷ [])
+pub take-next : (ls : List ℕ) (i : ℕ) → i < length ls → take (i + 1) ls ≡ take i ls ++ (getD ls i 0 ∷ [])
 take-next ls i h = rw add-one (take-suc ls i 0 h)
 
 drop-end : (ls : List ℕ) (i : ℕ) → i ≡ length ls → drop i ls ≡ []

@@ -1,3 +1,4 @@
 -- What the writer's functions promise.
 pub mod Stretch
 pub mod Cuts
+pub mod Point

@@ -1,3 +1,4 @@
-// The writer of references: a stretch's checks and the choice of its points.
+// The writer of references: a stretch's checks, the choice of its points, and its bytes.
 pub mod cuts;
+pub mod leg;
 pub mod stretch;
