@@ -64,7 +64,7 @@ connected-of m (l ∷ k ∷ ls) some known joint =
     linked (known 0 some) (record { line = known 1 (omega arith); meets = j .0 })
     (connected-of m (k ∷ ls) (omega arith) (λ i h. known (suc i) (omega arith)) (j .1))
 
-known-take : (lines : ℕ) (ls : List ℕ) (n : ℕ) → Known lines ls → Known lines (take n ls)
+pub known-take : (lines : ℕ) (ls : List ℕ) (n : ℕ) → Known lines ls → Known lines (take n ls)
 known-take lines ls n known i h =
     let k = length-take n ls in
     rw (getD-take n ls i 0 (omega arith)) (known i (omega arith))

@@ -5,3 +5,6 @@ pub mod Stretches
 pub mod Checks
 pub mod Ends
 pub mod Points
+pub mod Placing
+pub mod Cutting
+pub mod Bytes

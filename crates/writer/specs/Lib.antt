@@ -2,3 +2,4 @@
 pub mod Stretch
 pub mod Cuts
 pub mod Point
+pub mod Put
