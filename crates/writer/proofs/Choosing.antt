@@ -18,7 +18,7 @@ use Rattle.writer.specs.Cuts.{Route, there, leg, Ahead, same, more, late
 use Rattle.writer.proofs.Routes.{short}
 
 -- Lines up to a cut, and the lines after it.
-cut-at : (i j : ℕ) (l : List ℕ) → i ≤ j → j ≤ length l → slice i j l ++ drop j l ≡ drop i l
+pub cut-at : (i j : ℕ) (l : List ℕ) → i ≤ j → j ≤ length l → slice i j l ++ drop j l ≡ drop i l
 cut-at i j l h k =
     let e : length (take j l) ≡ j = length-take-le j l k in
     rw (← drop-append-le i (take j l) (drop j l) (omega arith), take-append-drop)

@@ -32,7 +32,7 @@ pub to-is : (m : Map) (ls : List ℕ) → lineAt m (getD ls (length ls - 1) 0) .
 unfolding toNode
 to-is m ls = ap (λ (l : ℕ). lineAt m l .end) (last-is ls)
 
-lowest-append : (m : Map) (xs : List ℕ) (l : ℕ) → lowest m (xs ++ (l ∷ [])) ≡ max (lowest m xs) (lineAt m l .frc)
+pub lowest-append : (m : Map) (xs : List ℕ) (l : ℕ) → lowest m (xs ++ (l ∷ [])) ≡ max (lowest m xs) (lineAt m l .frc)
 unfolding lowest
 lowest-append m [] l = omega arith
 lowest-append m (x ∷ xs) l = omega (arith, lowest-append m xs l)

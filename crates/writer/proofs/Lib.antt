@@ -8,3 +8,5 @@ pub mod Points
 pub mod Placing
 pub mod Cutting
 pub mod Bytes
+pub mod Slices
+pub mod Marks

@@ -3,3 +3,4 @@ pub mod Stretch
 pub mod Cuts
 pub mod Point
 pub mod Put
+pub mod LegTests
