@@ -10,3 +10,8 @@ pub mod Cutting
 pub mod Bytes
 pub mod Slices
 pub mod Marks
+pub mod Sole
+pub mod Trials
+pub mod Opening
+pub mod Rows
+pub mod Writing

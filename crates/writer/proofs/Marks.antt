@@ -1,6 +1,5 @@
 -- Answers of tests: by what they decide, and as numbers of a table.
-use Prim.Native.Nat.{ℕ, _+_, _*_, _≤_, _<_}
-use mathlib.Core.Path.{_≡_, refl}
+use mathlib.Core.Path.{refl}
 use mathlib.Core.Bool.{Bool, true, false}
 use native.Mathlib.Omega.{arith}
 use Rattle.search.specs.Steps.{Decides}

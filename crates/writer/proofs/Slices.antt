@@ -1,9 +1,9 @@
 -- A part of a stretch's lines, one line more, and its ends.
-use Prim.Native.Nat.{ℕ, zero, suc, _+_, _*_, _-_, _≤_, _<_, max}
-use mathlib.Core.Path.{_≡_, refl, sym, subst, _∙_, ap}
+use Prim.Native.Nat.{ℕ, _+_, _*_, _-_, _≤_, _<_, max}
+use mathlib.Core.Path.{_≡_, sym, subst, _∙_, ap}
 use mathlib.Core.Logic.{⊎-elim}
 use mathlib.Core.List.{List, [], _∷_, _++_}
-use native.Mathlib.Nat.{add-zero, eq-or-lt-of-le}
+use native.Mathlib.Nat.{eq-or-lt-of-le}
 use native.Mathlib.Omega.{arith}
 use lib.ListN.{length, getD, take, drop, set}
 use lib.Seq.{slice, slice-empty, slice-cons, length-slice, length-take-le, drop-append-le, getD-drop, getD-take, getD-set-same, getD-set-other}
@@ -13,7 +13,7 @@ use Rattle.model.specs.Choice.{fromNode, toNode}
 use Rattle.model.proofs.Skipping.{total-append}
 use Rattle.writer.specs.LegTests.{mark}
 use Rattle.writer.proofs.Stretches.{take-next}
-use Rattle.writer.proofs.Ends.{first-is, last-is, lowest-append}
+use Rattle.writer.proofs.Ends.{last-is, lowest-append}
 use Rattle.writer.proofs.Choosing.{cut-at}
 
 module _ (s : List ℕ) (i j : ℕ) (h : i ≤ j) (l : j < length s) where
@@ -64,13 +64,13 @@ module _ (s : List ℕ) (i j : ℕ) (h : i < j) (l : j ≤ length s) where
   slice-no-longer m = omega (arith, ap (total m) (cut-at i j s (omega arith) l), total-append m (slice i j s) (drop j s))
 
 -- Parts of connected lines are connected.
-connected-front : {m : Map} (xs ys : List ℕ) → 0 < length xs → Connected m (xs ++ ys) → Connected m xs
+pub connected-front : {m : Map} (xs ys : List ℕ) → 0 < length xs → Connected m (xs ++ ys) → Connected m xs
 connected-front [] ys h c = absurd (omega arith)
 connected-front (x ∷ []) [] h c = c
 connected-front (x ∷ []) (y ∷ ys) h (linked l f c) = single l
 connected-front (x ∷ x′ ∷ xs) ys h (linked l f c) = linked l f (connected-front (x′ ∷ xs) ys (omega arith) c)
 
-connected-back : {m : Map} (xs ys : List ℕ) → 0 < length ys → Connected m (xs ++ ys) → Connected m ys
+pub connected-back : {m : Map} (xs ys : List ℕ) → 0 < length ys → Connected m (xs ++ ys) → Connected m ys
 connected-back [] ys h c = c
 connected-back (x ∷ []) [] h c = absurd (omega arith)
 connected-back (x ∷ []) (y ∷ ys) h (linked l f c) = c
@@ -83,6 +83,6 @@ pub row-set : (P : ℕ → ℕ → Type 0) (table : List ℕ) (i j x : ℕ) → 
 row-set P table i j x room before here k h l =
     ⊎-elim
     (λ e. subst (λ (q : ℕ). P q (mark (set table (65 * i + (j + 1)) x) i q)) (sym e)
-        (subst (P (j + 1)) (sym (getD-set-same table (65 * i + (j + 1)) x 0 room)) here))
+    (subst (P (j + 1)) (sym (getD-set-same table (65 * i + (j + 1)) x 0 room)) here))
     (λ lt. rw (getD-set-other table (65 * i + (j + 1)) (65 * i + k) x 0 (λ e. omega arith)) (before k h (omega arith)))
     (eq-or-lt-of-le l)

@@ -8,12 +8,12 @@ use lib.Seq.{slice}
 use lib.Dec.{eqb}
 use Rattle.model.specs.Map.{Map}
 use Rattle.model.specs.Field.{distance}
-use Rattle.model.specs.Lines.{lineAt, nodeAt, Connected, total, lowest, firstOf, leaving}
+use Rattle.model.specs.Lines.{lineAt, nodeAt, Connected, total, lowest, firstOf, lastOf, leaving}
 use Rattle.model.specs.Difference.{DifferencesFit}
-use Rattle.model.specs.Reading.{Leg, Reading, greatestLegLength}
-use Rattle.model.specs.Choice.{fromNode, toNode, legOf, Good, good}
+use Rattle.model.specs.Reading.{Leg, Allowed, Reading, greatestLegLength}
+use Rattle.model.specs.Choice.{fromNode, toNode, legOf, good}
 use Rattle.depot_map.specs.Area.{Kept}
-use Rattle.search.specs.Area.{Held, Searched, Reaching}
+use Rattle.search.specs.Area.{Searched, Reaching}
 use Rattle.legs.specs.Verdict.{LimitFor, FromLine, FromLines, Set}
 use Rattle.writer.specs.Stretch.{Known}
 use Rattle.writer.specs.Cuts.{Tested}
@@ -68,7 +68,15 @@ pub record Done (m : Map) (lines class first limit : ℕ) (w : List ℕ) : Type 
 abbrev pub DoneFor : Map → ℕ → ℕ → ℕ → ℕ → List ℕ → Type 0
 DoneFor m lines searched first limit w = 0 < searched → Done m lines (searched - 1) first limit w
 
--- A stretch's legs from position `i` are tested by the first line `first`, which starts at the same node with the same attributes as line `i`.
+-- A leg's own lines: allowed by the leg, of its D, and with these ends and this length.
+pub record OwnLines (m : Map) (leg : Leg) (ls : List ℕ) (own last len : ℕ) : Type 0 where
+  pub allowed : Allowed m leg ls
+  pub distanced : distance (total m ls) ≡ leg .distance
+  pub starts : firstOf ls ≡ own
+  pub ends : lastOf ls ≡ last
+  pub sum : total m ls ≡ len
+
+-- A stretch's legs from position `i` are tested by the first line `first`, which starts at the same node as line `i`.
 pub record Trial (m : Map) (lines : ℕ) (s : List ℕ) (i first limit : ℕ) : Type 0 where
   pub known : Known lines s
   pub connected : Connected m s
@@ -76,8 +84,15 @@ pub record Trial (m : Map) (lines : ℕ) (s : List ℕ) (i first limit : ℕ) : 
   pub before : i < length s
   pub line : first < lines
   pub from : lineAt m first .start ≡ lineAt m (getD s i 0) .start
-  pub leaves : leaving m first ≡ leaving m (getD s i 0)
   pub limited : (j : ℕ) → i < j → j ≤ length s → total m (slice i j s) ≤ greatestLegLength → LimitFor (distance (total m (slice i j s))) limit
+
+-- It has the attributes of line `i` too.
+abbrev pub Alike : Map → List ℕ → ℕ → ℕ → Type 0
+Alike m s i first = leaving m first ≡ leaving m (getD s i 0)
+
+-- Legs whose number is 1 are no longer than a leg can be.
+abbrev pub Within : Map → List ℕ → ℕ → List ℕ → Type 0
+Within m s i table = (j : ℕ) → i < j → j ≤ length s → mark table i j ≡ 1 → total m (slice i j s) ≤ greatestLegLength
 
 -- The leg from `i` to `j` has this lowest class and length.
 pub record Measured (m : Map) (s : List ℕ) (i j class len : ℕ) : Type 0 where
@@ -119,7 +134,8 @@ pub record RowTested (m : Map) (lines : ℕ) (s : List ℕ) (i : ℕ) (a b w v :
   pub kept : Kept (65 * i) (65 * i + 65) a b
   pub worked : Worked m lines w v
 
--- All legs are tested.
-pub record AllTested (m : Map) (lines : ℕ) (s : List ℕ) (b w v : List ℕ) : Type 0 where
+-- All legs are tested. The table was `a` and is `b`; past the rows of the stretch's positions it is unchanged.
+pub record AllTested (m : Map) (lines : ℕ) (s : List ℕ) (a b w v : List ℕ) : Type 0 where
   pub tested : (i j : ℕ) → i < j → j ≤ length s → Says1 (Tested (good m) s i j) (mark b i j)
+  pub kept : Kept 0 (65 * length s) a b
   pub worked : Worked m lines w v

@@ -1,6 +1,6 @@
 -- `begin_row` meets its contract: the legs up to `j` have their numbers.
 use Prim.Native.Nat.{ℕ, _+_, _*_, _-_, _≤_, _<_}
-use mathlib.Core.Path.{_≡_, refl, sym, _∙_}
+use mathlib.Core.Path.{_≡_, refl, _∙_}
 use lib.ListN.{length, length-set}
 use lib.Seq.{slice}
 use Rattle.model.specs.Map.{Map}
@@ -27,9 +27,14 @@ abbrev μ-loop : tie.MeasureT-loop
 
 loop-holds : tie.Need-loop-holds Inv-loop μ-loop
 loop-holds c =
-    let a = c .before .before .before .args in
-    (omega arith, omega (arith, c .before .before .before .pre .0 .1), refl, omega arith, kept-none,
-    λ m h. (total-slice-none m (a .stretch .now) (a .i), λ k x y. absurd (omega arith)))
+    let a = c .before .before .before .args in (
+      omega arith,
+      omega (arith, c .before .before .before .pre .0 .1),
+      refl,
+      omega arith,
+      kept-none,
+      λ m h. (total-slice-none m (a .stretch .now) (a .i), λ k x y. absurd (omega arith)),
+    )
 
 field-of-requires : tie.Need-field-of-requires Inv-loop μ-loop
 field-of-requires c κs = let p = c .before .before .before .before .before .pre in ((p .0 .0, c .loop-test .taken, omega arith), p .1)
@@ -66,14 +71,20 @@ loop-again c =
     let a = c .before .before .before .before .before .before .before .before .args in
     let s = a .stretch .now in
     let l = c .before .before .before .before .loop in
-    let t = c .before .before .before .loop-test .taken in
-    (omega (arith, l .inv .0), omega arith, length-set (l .table) _ _ ∙ l .inv .2, omega (arith, l .inv .3, c .before .wide .ensures .1),
-    kept-then (l .inv .4) (kept-set _ _ (omega arith) (omega (arith, c .before .before .before .before .before .before .before .before .pre .0 .2, t))),
-    λ m h.
-        let before = l .inv .5 m h in
-        let sum : l .len + c .before .wide .result ≡ total m (slice (a .i) (l .j + 1) s) = omega (arith, total-slice-on s (a .i) (l .j) (l .inv .0) t m, before .0, c .before .wide .ensures .0, c .before .before .field-of .ensures m h) in
-        (sum, row-set (λ k x. Says1 (Usual m (slice (a .i) k s)) x) (l .table) (a .i) (l .j) _ (omega (arith, c .before .before .before .before .before .before .before .before .pre .0, t, l .inv .2)) (before .1)
-            (c .first-mark .ensures m h sum)))
+    let t = c .before .before .before .loop-test .taken in (
+      omega (arith, l .inv .0),
+      omega arith,
+      length-set (l .table) _ _ ∙ l .inv .2,
+      omega (arith, l .inv .3, c .before .wide .ensures .1),
+      kept-then (l .inv .4) (kept-set _ _ (omega arith) (omega (arith, c .before .before .before .before .before .before .before .before .pre .0 .2, t))),
+      λ m h.
+          let before = l .inv .5 m h in
+          let sum : l .len + c .before .wide .result ≡ total m (slice (a .i) (l .j + 1) s) = omega (arith, total-slice-on s (a .i) (l .j) (l .inv .0) t m, before .0, c .before .wide .ensures .0, c .before .before .field-of .ensures m h) in (
+            sum,
+            row-set (λ k x. Says1 (Usual m (slice (a .i) k s)) x) (l .table) (a .i) (l .j) _ (omega (arith, c .before .before .before .before .before .before .before .before .pre .0, t, l .inv .2)) (before .1)
+                (c .first-mark .ensures m h sum),
+          ),
+    )
 
 same-length : tie.Need-same-length Inv-loop μ-loop
 same-length c = c .before .loop .inv .2

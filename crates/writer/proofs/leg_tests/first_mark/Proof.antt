@@ -1,5 +1,5 @@
 -- `first_mark` meets its contract.
-use mathlib.Core.Path.{_≡_, sym, _∙_}
+use mathlib.Core.Path.{_∙_}
 use Rattle.model.specs.Map.{Map}
 use Rattle.model.specs.Lines.{nodeAt}
 use Rattle.model.specs.Difference.{DifferencesFit}
@@ -23,7 +23,7 @@ ends-fit c m h =
     let from = c .before .before .node-of .ensures m h in
     let to = c .before .node-of2 .ensures m h in
     rw (from .0 ∙ from-of-slice (a .stretch .now) (a .i) (a .j) (p .1) (p .2) m, to .0 ∙ to-of-slice (a .stretch .now) (a .i) (a .j) (p .1) (p .2) m) at
-        (c .fits2 .ensures m h (from .1) (to .1))
+    (c .fits2 .ensures m h (from .1) (to .1))
 
 wide-requires : tie.Need-wide-requires
 wide-requires c κs = search needs

@@ -1,5 +1,4 @@
 -- `fits` meets its contract: both differences.
-use mathlib.Core.Path.{_≡_}
 use borrow.Author.Tests.{not-true, not-false}
 use Prim.Native.Nat.{_<_}
 use lib.ListN.{length}
@@ -10,7 +9,6 @@ use Rattle.search.specs.Area.{Held}
 use Rattle.search.specs.Steps.{Decides}
 use Rattle.writer.proofs.Marks.{decides-same}
 use borrow.Author.Needs.{needs}
-use native.Mathlib.Omega.{arith}
 use Rattle.writer.proofs.leg_tests.fits.Statement.{statement}
 use Rattle.writer.proofs.leg_tests.fits.Tie as tie
 

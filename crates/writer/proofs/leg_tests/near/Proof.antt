@@ -1,8 +1,7 @@
 -- `near` meets its contract.
-use mathlib.Core.Path.{_≡_, subst}
+use mathlib.Core.Path.{subst}
 use Rattle.fields.specs.Difference.{DifferenceIs}
 use borrow.Author.Needs.{needs}
-use native.Mathlib.Omega.{arith}
 use Rattle.writer.proofs.leg_tests.near.Statement.{statement}
 use Rattle.writer.proofs.leg_tests.near.Tie as tie
 
