@@ -24,7 +24,7 @@ use Rattle.writer.proofs.Routes.{short}
 use Rattle.writer.proofs.Choosing.{legs-count, choice}
 use Rattle.writer.proofs.Cutting.{next-leg}
 use Rattle.writer.proofs.Placing.{put-then, put-first}
-use Rattle.writer.specs.declared.leg.Point as Numbers
+use Rattle.writer.specs.declared.point.Point as Numbers
 
 bytes-rest : (ps : List Point) (rest : List ℕ) → pointBytes ps rest ≡ pointBytes ps [] ++ rest
 unfolding pointBytes bytes2
@@ -68,14 +68,6 @@ part-length on offset = go (eqb offset 0)
     go : (t : Bool) → length (offsetBytes (cond t absent (byte (offsetByte on offset)))) ≡ cond t 0 1
     go true = refl
     go false = refl
-
-pub flag-small : (offset weight : ℕ) → flagged offset weight ≤ weight
-unfolding flagged
-flag-small offset weight = go (eqb offset 0)
-  where
-    go : (t : Bool) → cond t 0 weight ≤ weight
-    go true = omega arith
-    go false = omega arith
 
 pub no-part : (on offset : ℕ) → offset ≡ 0 → (flagged offset 1 ≡ 0) × (offsetPart on offset ≡ [])
 unfolding offsetOf offsetBytes flagged

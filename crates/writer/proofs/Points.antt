@@ -15,7 +15,7 @@ use Rattle.model.proofs.Joining.{connected, first-ok, lowest-small}
 use Rattle.depot_map.specs.Area.{lineNumbers}
 use Rattle.legs.specs.declared.ends.Attributes.{Attributes}
 use Rattle.legs.specs.Verdict.{attributesIn}
-use Rattle.writer.specs.declared.leg.Step.{Step}
+use Rattle.writer.specs.declared.point.Step.{Step}
 use Rattle.writer.specs.Point.{attributesBy, StepIs, bytesOfPoint, PointIs}
 use Rattle.writer.proofs.Ends.{first-is, last-is}
 

@@ -10,8 +10,8 @@ use Rattle.model.specs.Difference.{differences}
 use Rattle.model.specs.Reference.{bytes2, pointBytes}
 use Rattle.model.specs.Choice.{fromNode, toNode, pointOf}
 use Rattle.depot_map.specs.Area.{lineNumbers}
-use Rattle.writer.specs.declared.leg.Point.{Point}
-use Rattle.writer.specs.declared.leg.Step.{Step}
+use Rattle.writer.specs.declared.point.Point.{Point}
+use Rattle.writer.specs.declared.point.Step.{Step}
 
 -- A line's attributes by its number `bearing`.
 unfoldable pub attributesBy : Line → ℕ → LineAttributes

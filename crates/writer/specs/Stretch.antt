@@ -31,13 +31,13 @@ pub record Leaves (m : Map) (s : Stretch) (r : Remaining) : Type 0 where
   pub inside : r .to ≤ length (s .lines)
   pub same : remaining m s ≡ partOf s r
 
--- That part is what remains of a stretch that is not refused. It is not empty.
-pub record Left (m : Map) (s : Stretch) (r : Remaining) : Type 0 where
+-- The stretch is not refused, and that part is what remains of it. It is not empty.
+pub record Passes (m : Map) (s : Stretch) (r : Remaining) : Type 0 where
   pub ordered : r .from < r .to
   pub inside : r .to ≤ length (s .lines)
-  pub passes : checkStretch m s ≡ remains (partOf s r)
+  pub checked : checkStretch m s ≡ remains (partOf s r)
 
 -- What an answer says of a stretch.
 abbrev pub Checks : Map → Stretch → Checked → Type 0
-Checks m s (Remains r) = Left m s r
+Checks m s (Remains r) = Passes m s r
 Checks m s (Refused why) = checkStretch m s ≡ refused (numberOf (refusalOf why))

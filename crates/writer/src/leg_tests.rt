@@ -1,11 +1,11 @@
 // The tests of a stretch's legs. A leg may be used if its differences fit and it is its own only reading.
 // One search serves all legs with the same first line and lowest class.
-use crate::leg::attributes_of;
-use crate::leg::coordinate;
-use crate::leg::greater;
-use crate::leg::node_of;
-use crate::stretch::field_of;
-use crate::stretch::total_length;
+use crate::lines::attributes_of;
+use crate::lines::coordinate;
+use crate::lines::field_of;
+use crate::lines::greater;
+use crate::lines::node_of;
+use crate::lines::total_length;
 use fields::coordinate::Difference16;
 use fields::coordinate::difference;
 use fields::leg::GREATEST_LEG_LENGTH;

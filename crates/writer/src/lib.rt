@@ -1,6 +1,7 @@
-// The writer of references: a stretch's checks, the choice of its points, and its bytes.
+// The writer of references, below its entry: a stretch's checks, the tests of its legs, the choice of its points, and its bytes.
 pub mod cuts;
-pub mod leg;
 pub mod leg_tests;
+mod lines;
+mod point;
 pub mod put;
 pub mod stretch;

@@ -1,10 +1,10 @@
 // The bytes of a reference, put into the lent buffer.
-use crate::leg::Point;
-use crate::leg::attributes_of;
-use crate::leg::coordinate;
-use crate::leg::node_of;
-use crate::leg::point_of;
-use crate::stretch::total_length;
+use crate::lines::attributes_of;
+use crate::lines::coordinate;
+use crate::lines::node_of;
+use crate::lines::total_length;
+use crate::point::Point;
+use crate::point::point_of;
 use fields::bytes::put2;
 use fields::bytes::put3;
 use fields::coordinate::latitude_code;
@@ -142,7 +142,7 @@ fn put_points(
 
 // The flag of an offset, which is set where it is not 0.
 fn flag(offset: u32, weight: u32) -> u32
-    ensures { λ r. ⌜ r ≡ flagged offset weight ⌝ }
+    ensures { λ r. ⌜ (r ≡ flagged offset weight) × (r ≤ weight) ⌝ }
 {
     if offset == 0 { 0 } else { weight }
 }

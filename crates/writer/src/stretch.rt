@@ -1,18 +1,17 @@
 // A stretch as it is given: whether it is refused with 7 to 9, and what its offsets leave of it.
+use crate::lines::field_of;
+use crate::lines::total_length;
 use model::Refusal;
 use search::area::END;
 use search::area::LENGTH;
 use search::area::START;
-use search::area::field;
 use search::area::wide;
 ghost use mathlib.Core.Path.{_≡_};
-ghost use Prim.Native.Nat.{_≤_, _<_};
+ghost use Prim.Native.Nat.{_≤_};
 ghost use mathlib.Core.List.{reverse};
-ghost use lib.ListN.{length, getD, take, drop};
+ghost use lib.ListN.{length, take, drop};
 ghost use Rattle.model.specs.Map.{Map};
-ghost use Rattle.model.specs.Lines.{lineAt, total};
 ghost use Rattle.model.specs.Stretch.{unknown, gap};
-ghost use Rattle.depot_map.specs.Area.{lineNumbers};
 ghost use Rattle.search.specs.Area.{Held};
 ghost use Rattle.writer.specs.Stretch.{Known, Skips, stretchOf, Leaves, Checks};
 
@@ -37,16 +36,6 @@ pub enum Checked {
 struct Stop {
     at: usize,
     offset: u32,
-}
-
-// Number `k` of the line that stands at `i`.
-pub fn field_of(work: &[u32], lines: usize, stretch: &[u32], i: usize, k: usize) -> u32
-    requires { ⌜ Known lines (now stretch) × (i < length (now stretch)) × (k < 7) ⌝ }
-    requires { ⌜ ((m : Map) × Held (now work) lines m) ⌝ }
-    ensures { λ r. ⌜ ((m : Map) → Held (now (work .entry)) lines m
-        → r ≡ getD (lineNumbers (lineAt m (getD (now (stretch .entry)) i 0))) k 0) ⌝ }
-{
-    field(work, wide(stretch[i]), k)
 }
 
 // Whether a line is none of the map's.
@@ -79,21 +68,6 @@ fn has_gap(work: &[u32], lines: usize, stretch: &[u32]) -> bool
         i += 1;
     }
     false
-}
-
-// The length of some lines, in 64 bits.
-pub fn total_length(work: &[u32], lines: usize, stretch: &[u32]) -> usize
-    requires { ⌜ Known lines (now stretch) × (length (now stretch) ≤ 64) ⌝ }
-    requires { ⌜ ((m : Map) × Held (now work) lines m) ⌝ }
-    ensures { λ r. ⌜ ((m : Map) → Held (now (work .entry)) lines m → r ≡ total m (now (stretch .entry))) ⌝ }
-{
-    let mut sum: usize = 0;
-    let mut i: usize = 0;
-    while i < stretch.len() {
-        sum += wide(field_of(work, lines, stretch, i, LENGTH));
-        i += 1;
-    }
-    sum
 }
 
 // Drops lines from the front while the offset is not below the first one's length. The lines from `at` on are left.

@@ -3,6 +3,7 @@ use mathlib.Core.Path.{subst}
 use Rattle.legs.specs.Verdict.{Says, FromLine}
 use Rattle.writer.proofs.Sole.{none-elsewhere, none-here, one-elsewhere, one-other-last, one-other-length, one-own, several-not}
 use borrow.Author.Needs.{needs}
+use native.Mathlib.Omega.{arith}
 use Rattle.writer.proofs.leg_tests.is_sole.Statement.{statement}
 use Rattle.writer.proofs.leg_tests.is_sole.Tie as tie
 
@@ -22,7 +23,7 @@ returns-3 : tie.Need-returns-3
 returns-3 c m leg ls o says = one-other-last o (subst (Says m (FromLine m leg (c .before .before .before .before .before .before .args .first))) (c .before .before .before .before .found .given .1) says) (c .before .before .if2 .left) (c .if3 .taken)
 
 returns-4 : tie.Need-returns-4
-returns-4 c m leg ls o says = one-other-length o (subst (Says m (FromLine m leg (c .before .before .before .before .before .before .before .before .args .first))) (c .before .before .before .before .before .before .found .given .1) says) (c .before .before .before .before .if2 .left) (c .if4 .taken)
+returns-4 c m leg ls o says = one-other-length o (subst (Says m (FromLine m leg (c .before .before .before .before .before .before .before .before .args .first))) (c .before .before .before .before .before .before .found .given .1) says) (c .before .before .before .before .if2 .left) (λ e. omega (arith, c .if4 .taken))
 
 enum-told-2 : tie.Need-enum-told-2
 enum-told-2 c = search needs
@@ -32,7 +33,7 @@ returns-5 c m leg ls o says = none-elsewhere o (subst (Says m (FromLine m leg (c
 
 returns-6 : tie.Need-returns-6
 returns-6 c m leg ls o says =
-    one-own o (subst (Says m (FromLine m leg (c .before .before .before .before .before .before .before .before .args .first))) (c .before .before .before .before .before .before .found .given .1) says) (c .before .before .before .before .if2 .left) (c .before .before .if3 .left) (c .if4 .left)
+    one-own o (subst (Says m (FromLine m leg (c .before .before .before .before .before .before .before .before .args .first))) (c .before .before .before .before .before .before .found .given .1) says) (c .before .before .before .before .if2 .left) (c .before .before .if3 .left) (omega (arith, c .if4 .left))
 
 returns-7 : tie.Need-returns-7
 returns-7 c m leg ls o says = several-not o (subst (Says m (FromLine m leg (c .before .before .args .first))) (c .enum-told2 .given .1) says)

@@ -11,7 +11,7 @@ add-if1 : tie.Need-add-if1
 add-if1 c = search needs
 
 returns : tie.Need-returns
-returns c m set before = not-again set (c .if1 .taken) before
+returns c m set before = not-again set (omega (arith, c .if1 .taken)) before
 
 search-requires : tie.Need-search-requires
 search-requires c κs =

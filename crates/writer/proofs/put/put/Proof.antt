@@ -13,7 +13,7 @@ use Rattle.writer.proofs.put.put.Tie as tie
 -- The length that the reference needs.
 needed : (c : tie.After-wide2) → let a = c .before .before .before .before .before .before .before .before .args in
     7 + 7 * a .legs + 2 + c .before .before .wide .result + c .wide2 .result ≡ 7 + 7 * a .legs + 2 + flagged (a .pos) 1 + flagged (a .neg) 1
-needed c = omega (arith, c .before .before .wide .ensures .0, c .before .before .before .flag .ensures, c .wide2 .ensures .0, c .before .flag2 .ensures)
+needed c = omega (arith, c .before .before .wide .ensures .0, c .before .before .before .flag .ensures .0, c .wide2 .ensures .0, c .before .flag2 .ensures .0)
 
 mul-length : tie.Need-mul-length
 mul-length c = omega (arith, cut-few (c .before .before .before .before .pre .1 .3))

@@ -9,20 +9,20 @@ use Rattle.search.specs.Area.{Held}
 use Rattle.writer.proofs.Ends.{lowest-none, lowest-on}
 use borrow.Author.Needs.{needs}
 use native.Mathlib.Omega.{arith}
-use Rattle.writer.proofs.leg.lowest_class.Statement.{statement}
-use Rattle.writer.proofs.leg.lowest_class.Tie as tie
+use Rattle.writer.proofs.lines.lowest_class.Statement.{statement}
+use Rattle.writer.proofs.lines.lowest_class.Tie as tie
 
 abbrev Inv-loop : tie.InvT-loop
-Inv-loop work lines leg class₀ i₀ class i = (i ≤ length leg) × ((m : Map) → Held work lines m → class ≡ lowest m (take i leg))
+Inv-loop work lines list class₀ i₀ class i = (i ≤ length list) × ((m : Map) → Held work lines m → class ≡ lowest m (take i list))
 
 abbrev μ-loop : tie.MeasureT-loop
-μ-loop work lines leg class₀ i₀ class i = length leg - i
+μ-loop work lines list class₀ i₀ class i = length list - i
 
 loop-holds : tie.Need-loop-holds Inv-loop μ-loop
-loop-holds c = (omega arith, λ m h. lowest-none m (c .before .before .args .leg .now))
+loop-holds c = (omega arith, λ m h. lowest-none m (c .before .before .args .list .now))
 
 field-of-requires : tie.Need-field-of-requires Inv-loop μ-loop
-field-of-requires c κs = let p = c .before .before .before .before .pre in ((p .0, c .loop-test .taken, omega arith), p .1)
+field-of-requires c κs = let p = c .before .before .before .before .pre in ((p .0, omega (arith, c .loop-test .taken), omega arith), p .1)
 
 greater-requires : tie.Need-greater-requires Inv-loop μ-loop
 greater-requires c κs = search needs
@@ -37,12 +37,12 @@ loop-again : tie.Need-loop-again Inv-loop μ-loop
 loop-again c = (
   omega arith,
   λ m h. c .greater .ensures ∙ ap₂ max (c .before .before .before .loop .inv .1 m h) (c .before .field-of .ensures m h)
-      ∙ sym (lowest-on m (c .before .before .before .before .before .before .args .leg .now) (c .before .before .before .loop .i) (c .before .before .loop-test .taken)),
+      ∙ sym (lowest-on m (c .before .before .before .before .before .before .args .list .now) (c .before .before .before .loop .i) (c .before .before .loop-test .taken)),
 )
 
 returns : tie.Need-returns Inv-loop μ-loop
 returns c m h =
-    let e : c .before .loop .i ≡ length (c .before .before .before .before .args .leg .now) = omega arith in
+    let e : c .before .loop .i ≡ length (c .before .before .before .before .args .list .now) = omega arith in
     c .before .loop .inv .1 m h ∙ rw (e, take-length)
 
 pub lowest-class-spec : {M : Type 1} → statement M

@@ -10,8 +10,8 @@ use Rattle.model.proofs.Joining.{filled, connected}
 use Rattle.search.specs.Area.{Held}
 use Rattle.writer.proofs.Ends.{from-is, to-is}
 use native.Mathlib.Omega.{arith}
-use Rattle.writer.proofs.leg.step_of.Statement.{statement}
-use Rattle.writer.proofs.leg.step_of.Tie as tie
+use Rattle.writer.proofs.point.step_of.Statement.{statement}
+use Rattle.writer.proofs.point.step_of.Tie as tie
 
 -- The two nodes.
 module _ (c : tie.After-node-of2) (m : Map) (h : Held (c .before .before .before .before .args .work .now) (c .before .before .before .before .args .lines) m) where

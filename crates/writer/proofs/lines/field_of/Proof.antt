@@ -5,8 +5,8 @@ use lib.ListN.{getD}
 use Rattle.search.proofs.Frame.{few}
 use borrow.Author.Needs.{needs}
 use native.Mathlib.Omega.{arith}
-use Rattle.writer.proofs.stretch.field_of.Statement.{statement}
-use Rattle.writer.proofs.stretch.field_of.Tie as tie
+use Rattle.writer.proofs.lines.field_of.Statement.{statement}
+use Rattle.writer.proofs.lines.field_of.Tie as tie
 
 mul-wide : tie.Need-mul-wide
 mul-wide c = search needs

@@ -2,8 +2,8 @@
 use mathlib.Core.Path.{subst}
 use Rattle.fields.specs.Difference.{DifferenceIs}
 use borrow.Author.Needs.{needs}
-use Rattle.writer.proofs.leg.near_difference.Statement.{statement}
-use Rattle.writer.proofs.leg.near_difference.Tie as tie
+use Rattle.writer.proofs.point.near_difference.Statement.{statement}
+use Rattle.writer.proofs.point.near_difference.Tie as tie
 
 difference-requires : tie.Need-difference-requires
 difference-requires c κs = search needs

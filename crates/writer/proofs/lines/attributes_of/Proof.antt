@@ -4,8 +4,8 @@ use Rattle.model.specs.Field.{sector}
 use Rattle.legs.specs.Verdict.{attributesIn}
 use Rattle.writer.specs.Point.{attributesBy}
 use borrow.Author.Needs.{needs}
-use Rattle.writer.proofs.leg.attributes_of.Statement.{statement}
-use Rattle.writer.proofs.leg.attributes_of.Tie as tie
+use Rattle.writer.proofs.lines.attributes_of.Statement.{statement}
+use Rattle.writer.proofs.lines.attributes_of.Tie as tie
 
 field-of-requires : tie.Need-field-of-requires
 field-of-requires c κs = search needs

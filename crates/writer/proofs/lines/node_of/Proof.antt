@@ -3,8 +3,8 @@ use mathlib.Core.Path.{_∙_}
 use Rattle.search.proofs.Frame.{line-ok}
 use Rattle.writer.proofs.Ends.{node-small}
 use borrow.Author.Needs.{needs}
-use Rattle.writer.proofs.leg.node_of.Statement.{statement}
-use Rattle.writer.proofs.leg.node_of.Tie as tie
+use Rattle.writer.proofs.lines.node_of.Statement.{statement}
+use Rattle.writer.proofs.lines.node_of.Tie as tie
 
 field-of-requires : tie.Need-field-of-requires
 field-of-requires c κs = search needs

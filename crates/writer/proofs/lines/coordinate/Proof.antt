@@ -1,7 +1,7 @@
 -- `coordinate` meets its contract.
 use native.Mathlib.Omega.{arith}
-use Rattle.writer.proofs.leg.coordinate.Statement.{statement}
-use Rattle.writer.proofs.leg.coordinate.Tie as tie
+use Rattle.writer.proofs.lines.coordinate.Statement.{statement}
+use Rattle.writer.proofs.lines.coordinate.Tie as tie
 
 mul-result : tie.Need-mul-result
 mul-result c = let p = c .pre in omega (arith, p .1 .formed .few-nodes)

@@ -4,8 +4,8 @@ use Rattle.writer.proofs.Points.{small, point-is}
 use Prim.Native.Nat.{_+_, _*_, _≤_, _<_}
 use borrow.Author.Needs.{needs}
 use native.Mathlib.Omega.{arith}
-use Rattle.writer.proofs.leg.point_of.Statement.{statement}
-use Rattle.writer.proofs.leg.point_of.Tie as tie
+use Rattle.writer.proofs.point.point_of.Statement.{statement}
+use Rattle.writer.proofs.point.point_of.Tie as tie
 
 -- P and Q are bytes, and the length is that of a leg.
 bounds : (c : tie.After-total-length) →
