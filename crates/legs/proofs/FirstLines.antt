@@ -34,7 +34,11 @@ module _ {m : Map} {lines : ℕ} {leg : Leg} {first limit : ℕ} {w : List ℕ} 
   unfolding legIn
   searched set longest from leaves f =
       record {
-        ready = record { searched = f .searched; longest = longest; start = record { from = from; leaves = leaves } };
+        ready = record {
+          searched = f .searched;
+          limited = record { within = longest .within; holds = longest .holds };
+          start = record { from = from; leaves = leaves };
+        };
         set = record { held = held-kept (omega arith) (f .kept) (set .held); chained = chained-kept (omega arith) (f .kept) (set .chained) };
         kept = kept-within (omega arith) (omega arith) (f .kept);
       }
@@ -44,7 +48,7 @@ module _ {m : Map} {lines : ℕ} {leg : Leg} {first limit : ℕ} {w : List ℕ} 
       record {
         ready = record {
           searched = searched-kept (omega arith) (e .kept) (d .ready .searched);
-          longest = d .ready .longest;
+          limited = d .ready .limited;
           start = d .ready .start;
         };
         set = record {

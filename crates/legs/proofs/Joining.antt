@@ -44,7 +44,7 @@ second-only : {m : Map} {P Q : List ℕ → Type 0} {N : Reading → List ℕ �
 second-only no-list s = says-same (λ ls q. inr q) (λ ls e. ⊎-elim (λ p. absurd (no-list ls p)) (λ q. q) e) s
 
 -- What is said of the one list may become another thing that follows from it.
-says-then : {m : Map} {P : List ℕ → Type 0} {N N′ : Reading → List ℕ → Type 0} {v : Verdict} →
+pub says-then : {m : Map} {P : List ℕ → Type 0} {N N′ : Reading → List ℕ → Type 0} {v : Verdict} →
     ((r : Reading) (ls : List ℕ) → v ≡ One r → OneList m P r ls → N r ls → N′ r ls) → Says m P N v → Says m P N′ v
 says-then f (unread no-list) = unread no-list
 says-then f (one {r = r} {ls = ls} o n) = one o (f r ls refl o n)

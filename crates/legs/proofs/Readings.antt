@@ -12,14 +12,13 @@ use Rattle.model.specs.Map.{Map}
 use Rattle.model.specs.Field.{distance}
 use Rattle.model.specs.Lines.{lineAt, total, firstOf, lastOf, leaving}
 use Rattle.model.specs.Reading.{Leg, Arrives, Allowed, SameEnds, Reading, greatestLegLength}
-use Rattle.fields.specs.Leg.{LongestLeg}
 use Rattle.search.specs.Ways.{Target, Ends, Way, Least, Only, Two, Beyond}
 use Rattle.model.proofs.Skipping.{last-append}
 use Rattle.search.specs.Area.{lineBefore, linesTo}
 use Rattle.search.specs.Promises.{Told}
 use Rattle.search.specs.declared.ways.Ways.{Ways}
 use Rattle.search.specs.declared.ways.Ways.the-variants.{Nothing, Several, One}
-use Rattle.legs.specs.Verdict.{ReadingTo, FirstOf, TwoLists, Says, StandsIn, unread, one, several, judgeOf}
+use Rattle.legs.specs.Verdict.{LimitFor, ReadingTo, FirstOf, TwoLists, Says, StandsIn, unread, one, several, judgeOf}
 use Rattle.legs.specs.declared.ends.Verdict.the-variants as verdict
 
 -- An end of a leg: the lists that end there end as the leg says, and those that the leg allows with the same ends end there too.
@@ -30,7 +29,7 @@ pub record EndOf (m : Map) (leg : Leg) (to : Target) : Type 0 where
   pub there : (a b : List ℕ) → Ends m to a → SameEnds (leg .arrival) a b → Allowed m leg b → Ends m to b
   pub first : (a b : List ℕ) → SameEnds (leg .arrival) a b → firstOf a ≡ firstOf b
 
-module _ {m : Map} {leg : Leg} {first limit : ℕ} {to : Target} (longest : LongestLeg (leg .distance) limit) (end : EndOf m leg to)
+module _ {m : Map} {leg : Leg} {first limit : ℕ} {to : Target} (limited : LimitFor (leg .distance) limit) (end : EndOf m leg to)
     (start : FirstOf m leg first) where
   allowed : {ls : List ℕ} → Way m (leg .lowest) first to ls → total m ls ≤ greatestLegLength → Allowed m leg ls
   allowed {ls} w short =
@@ -49,7 +48,7 @@ module _ {m : Map} {leg : Leg} {first limit : ℕ} {to : Target} (longest : Long
 
   -- A reading is within the limit.
   within : {ls : List ℕ} → Reading m leg ls → total m ls ≤ limit
-  within r = longest .holds _ (r .allowed .within) (omega (arith, r .distanced))
+  within r = limited .holds _ (r .allowed .within) (omega (arith, r .distanced))
 
   pub none : Beyond m (leg .lowest) first to limit → (ls : List ℕ) → ReadingTo m leg first to ls → ⊥
   none beyond ls r = omega (arith, beyond ls (way (r .reading .allowed) (r .starts) (r .ends)), within (r .reading))
@@ -60,7 +59,7 @@ module _ {m : Map} {leg : Leg} {first limit : ℕ} {to : Target} (longest : Long
     length-is {ls} r =
         let w = way (r .reading .allowed) (r .starts) (r .ends) in
         let s = least .some in
-        let short : total m (s .list) ≤ greatestLegLength = omega (arith, s .sum, longest .within) in
+        let short : total m (s .list) ≤ greatestLegLength = omega (arith, s .sum, limited .within) in
         let same = end .same ls (s .list) (r .starts ∙ sym (s .way .starts)) (r .ends) (s .way .ends) in
         le-antisymm (omega (arith, r .reading .least (s .list) (allowed (s .way) short) same, s .sum)) (least .least ls w)
 
@@ -72,7 +71,7 @@ module _ {m : Map} {leg : Leg} {first limit : ℕ} {to : Target} (longest : Long
     reading {ls} e w sum =
         record {
           reading = record {
-            allowed = allowed w (omega (arith, sum, longest .within));
+            allowed = allowed w (omega (arith, sum, limited .within));
             distanced = ap distance sum ∙ e;
             least = λ other a same.
                 let starts : firstOf other ≡ first = sym (end .first ls other same) ∙ w .starts in
@@ -114,24 +113,24 @@ count-is w last (suc count) =
     length-append (linesTo w (lineBefore w last - 1) count) (last ∷ []) ∙ (let h = count-is w (lineBefore w last - 1) count in omega arith)
 
 -- The verdict on the ways that were found.
-module _ {m : Map} {leg : Leg} {first limit : ℕ} {to : Target} (longest : LongestLeg (leg .distance) limit) (end : EndOf m leg to)
+module _ {m : Map} {leg : Leg} {first limit : ℕ} {to : Target} (limited : LimitFor (leg .distance) limit) (end : EndOf m leg to)
     (start : FirstOf m leg first) (lines : ℕ) (w : List ℕ) where
   pub judged : (ways : Ways) → Told m lines (leg .lowest) first limit to w ways →
       Says m (ReadingTo m leg first to) (StandsIn w) (judgeOf ways first (leg .distance))
   unfolding judgeOf
-  judged Nothing beyond = unread (none longest end start beyond)
+  judged Nothing beyond = unread (none limited end start beyond)
   judged (Several length) t = go (eqb (distance length) (leg .distance)) refl
     where
       go : (b : Bool) → eqb (distance length) (leg .distance) ≡ b → Says m (ReadingTo m leg first to) (StandsIn w) (cond b verdict.Several verdict.Unread)
-      go true e = several (two longest end start (t .within) (t .least) (eqb-true _ _ e) (t .two))
-      go false e = unread (other-length longest end start (t .within) (t .least) (eqb-false _ _ e))
+      go true e = several (two limited end start (t .within) (t .least) (eqb-true _ _ e) (t .two))
+      go false e = unread (other-length limited end start (t .within) (t .least) (eqb-false _ _ e))
   judged (One last length count) (o, inside, some, few) = go (eqb (distance length) (leg .distance)) refl
     where
       go : (b : Bool) → eqb (distance length) (leg .distance) ≡ b →
           Says m (ReadingTo m leg first to) (StandsIn w)
           (cond b (verdict.One (record { first = first; last = last; length = length; count = count })) verdict.Unread)
       go true e =
-          let k = one-reading longest end start (o .within) (o .least) (eqb-true _ _ e) (o .only) in
+          let k = one-reading limited end start (o .within) (o .least) (eqb-true _ _ e) (o .only) in
           one {ls = linesTo w last count}
           (record {
             holds = k .0;
@@ -142,4 +141,4 @@ module _ {m : Map} {leg : Leg} {first limit : ℕ} {to : Target} (longest : Long
             count = count-is w last count;
           })
           refl
-      go false e = unread (other-length longest end start (o .within) (o .least) (eqb-false _ _ e))
+      go false e = unread (other-length limited end start (o .within) (o .least) (eqb-false _ _ e))

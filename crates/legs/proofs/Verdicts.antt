@@ -25,7 +25,7 @@ module _ {m : Map} {lines : ℕ} {leg : Leg} {first limit : ℕ} {w : List ℕ} 
   unfolding legIn
   node-verdict e ways told =
       says-same (λ ls r. from-node ls r) (λ ls r. to-node e ls r)
-      (judged (ready .longest) (node-end m (legIn leg) e) (ready .start) lines w ways told)
+      (judged (ready .limited) (node-end m (legIn leg) e) (ready .start) lines w ways told)
 
   module _ (a : Attributes) (e : arrivalIn (leg .arrival) ≡ definitions.matching (attributesIn a)) where
     pub line-verdict : (last : ℕ) → lineAt m last .end ≡ leg .to → arriving m last ≡ attributesIn a → (ways : Ways) →
@@ -33,7 +33,7 @@ module _ {m : Map} {lines : ℕ} {leg : Leg} {first limit : ℕ} {w : List ℕ} 
         Says m (ReadingTo m (legIn leg) first (line last)) (StandsIn w) (judgeOf ways first (leg .distance))
     unfolding legIn
     line-verdict last ends arrives ways told =
-        judged (ready .longest) (line-end m (legIn leg) last (e ∙ ap definitions.matching (sym arrives)) ends) (ready .start) lines w ways told
+        judged (ready .limited) (line-end m (legIn leg) last (e ∙ ap definitions.matching (sym arrives)) ends) (ready .start) lines w ways told
 
     pub other-line : (last : ℕ) → (arriving m last ≡ attributesIn a → ⊥) → (ls : List ℕ) → ReadingTo m (legIn leg) first (line last) ls → ⊥
     unfolding legIn

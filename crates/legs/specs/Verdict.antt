@@ -8,7 +8,7 @@ use lib.Dec.{eqb}
 use Rattle.model.specs.Map.{Map}
 use Rattle.model.specs.Field.{sector, distance}
 use Rattle.model.specs.Lines.{LineAttributes, lineAt, total, firstOf, lastOf, leaving}
-use Rattle.fields.specs.Leg.{LongestLeg}
+use Rattle.model.specs.Reading.{greatestLegLength}
 use Rattle.depot_map.specs.Area.{Kept}
 use Rattle.search.specs.Ways.{Target, Ends}
 use Rattle.search.specs.Area.{Held, Chained, Searched, linesTo}
@@ -107,10 +107,15 @@ pub record FirstOf (m : Map) (leg : definitions.Leg) (first : ℕ) : Type 0 wher
   pub from : lineAt m first .start ≡ leg .from
   pub leaves : leaving m first ≡ leg .leaves
 
--- The search for a leg from a first line is done: under the leg's lowest class, up to the greatest length that gives D.
+-- A limit that a search for legs of byte D up to `d` can have: no length of a leg that gives such a byte is past it.
+pub record LimitFor (d limit : ℕ) : Type 0 where
+  pub within : limit ≤ greatestLegLength
+  pub holds : (length : ℕ) → length ≤ greatestLegLength → distance length ≤ d → length ≤ limit
+
+-- The search for a leg from a first line is done: under the leg's lowest class, up to such a limit.
 pub record Ready (m : Map) (lines : ℕ) (leg : Leg) (first limit : ℕ) (w : List ℕ) : Type 0 where
   pub searched : Searched m lines (leg .lowest) first limit w
-  pub longest : LongestLeg (leg .distance) limit
+  pub limited : LimitFor (leg .distance) limit
   pub start : FirstOf m (legIn leg) first
 
 -- The work area is ready for searches: it holds the map, and the chains of the lines that leave each node are made.

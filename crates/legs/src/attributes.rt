@@ -12,13 +12,13 @@ ghost use Rattle.search.specs.Steps.{Decides};
 ghost use Rattle.legs.specs.Verdict.{attributesIn, attributesAt};
 
 // Which number of a line is which.
-const FRC: usize = 3;
+pub const FRC: usize = 3;
 
-const FOW: usize = 4;
+pub const FOW: usize = 4;
 
-const BEARING_OUT: usize = 5;
+pub const BEARING_OUT: usize = 5;
 
-const BEARING_BACK: usize = 6;
+pub const BEARING_BACK: usize = 6;
 
 // Whether line `l` has these attributes, by its number `bearing`.
 fn has_attributes(work: &[u32], l: usize, bearing: usize, a: Attributes) -> bool

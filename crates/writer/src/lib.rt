@@ -1,0 +1,7 @@
+// The writer of references, below its entry: a stretch's checks, the tests of its legs, the choice of its points, and its bytes.
+pub mod cuts;
+pub mod leg_tests;
+mod lines;
+mod point;
+pub mod put;
+pub mod stretch;
