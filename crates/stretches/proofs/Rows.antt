@@ -1,0 +1,140 @@
+-- A row of the table while its legs are tested by a first line, one leg after another; and by one first line after another.
+use Prim.Native.Nat.{ℕ, zero, suc, _+_, _*_, _-_, _≤_, _<_, max}
+use mathlib.Core.Path.{_≡_, sym, subst, _∙_, ap₂}
+use mathlib.Core.Logic.{⊎-elim}
+use mathlib.Core.List.{List}
+use native.Mathlib.Nat.{eq-or-lt-of-le}
+use native.Mathlib.Omega.{arith}
+use lib.ListN.{length, getD, set}
+use lib.Seq.{slice, getD-set-other}
+use Rattle.model.specs.Map.{Map}
+use Rattle.model.specs.Lines.{lineAt, Connected, single, linked, total, lowest}
+use Rattle.model.specs.Choice.{good}
+use Rattle.depot_map.specs.Area.{Kept}
+use Rattle.depot_map.proofs.Kept.{kept-none, kept-then}
+use Rattle.search.specs.Area.{latest}
+use Rattle.search.proofs.Leaving.{latest-le, latest-hit}
+use Rattle.legs.specs.Verdict.{Set}
+use Rattle.stretches.specs.declared.leg_tests.Cell.{Cell}
+use Rattle.stretches.specs.Stretch.{Known}
+use Rattle.stretches.specs.Cuts.{Tested}
+use Rattle.stretches.specs.LegTests.{mark, Says1, Open, Sifted, DoneFor, Within, Measured, Worked, CellTested, RowSifted, RowBegun, RowTested}
+use Rattle.stretches.proofs.Slices.{total-slice-on, total-slice-none, lowest-slice-on, lowest-slice-none, row-set}
+use Rattle.stretches.proofs.Opening.{open-start, open-on, open-end}
+
+pub worked-then : {m : Map} {lines : ℕ} {w v u : List ℕ} → Worked m lines w v → Worked m lines v u → Worked m lines w u
+worked-then a b = record { set = b .set; kept = kept-then (a .kept) (b .kept) }
+
+-- The legs up to position `j` are tested by the first line `first`.
+pub record Sifting (m : Map) (lines : ℕ) (s : List ℕ) (i first limit : ℕ) (a b w v : List ℕ) (class len searched j : ℕ) : Type 0 where
+  pub classes : class ≡ lowest m (slice i j s)
+  pub sum : len ≡ total m (slice i j s)
+  pub done : DoneFor m lines searched first limit v
+  pub sifted : (k : ℕ) → i < k → k ≤ j → Sifted m s i k first (mark a i k) (mark b i k)
+  pub worked : Worked m lines w v
+
+module _ {m : Map} {lines : ℕ} {s : List ℕ} {i first limit : ℕ} {w : List ℕ} where
+  pub sifting-start : {a : List ℕ} → Set m lines w → Sifting m lines s i first limit a a w w 0 0 0 i
+  sifting-start set =
+      record {
+        classes = lowest-slice-none m s i;
+        sum = total-slice-none m s i;
+        done = λ h. absurd (omega arith);
+        sifted = λ k h l. absurd (omega arith);
+        worked = record { set = set; kept = kept-none };
+      }
+
+  module _ {a b v : List ℕ} {class len searched j : ℕ} (before : i ≤ j) (inside : j < length s)
+      (k : Sifting m lines s i first limit a b w v class len searched j) where
+    pub measured-on : {class′ len′ frc size : ℕ} → class′ ≡ max class frc → frc ≡ lineAt m (getD s j 0) .frc → len′ ≡ len + size →
+        size ≡ lineAt m (getD s j 0) .length → Measured m s i (j + 1) class′ len′
+    measured-on c f l z =
+        record {
+          ordered = omega arith;
+          inside = omega arith;
+          classes = c ∙ ap₂ max (k .classes) f ∙ sym (lowest-slice-on s i j before inside m);
+          sum = omega (arith, l, z, k .sum, total-slice-on s i j before inside m);
+        }
+
+    pub sifting-on : {class′ len′ : ℕ} {u : List ℕ} (r : Cell) → 65 * i + (j + 1) < length b → Measured m s i (j + 1) class′ len′ →
+        mark b i (j + 1) ≡ mark a i (j + 1) → CellTested m lines s i (j + 1) first limit (mark b i (j + 1)) v u r →
+        Sifting m lines s i first limit a (set b (65 * i + (j + 1)) (r .mark)) w u class′ len′ (r .searched) (j + 1)
+    sifting-on r room x e cell =
+        record {
+          classes = x .classes;
+          sum = x .sum;
+          done = cell .done;
+          sifted = row-set (λ q y. Sifted m s i q first (mark a i q) y) b i j (r .mark) room (k .sifted)
+              (subst (λ (y : ℕ). Sifted m s i (j + 1) first y (r .mark)) e (cell .sifted));
+          worked = worked-then (k .worked) (cell .worked);
+        }
+
+  pub sifting-end : {a b v : List ℕ} {class len searched j : ℕ} → j ≡ length s → Kept (65 * i) (65 * i + 65) a b →
+      Sifting m lines s i first limit a b w v class len searched j → RowSifted m lines s i first a b w v
+  sifting-end e kept k = record { sifted = rw e at (k .sifted); kept = kept; worked = k .worked }
+
+-- The numbers of the legs that come later are still what they were.
+pub later-set : (a b : List ℕ) (i j x : ℕ) → ((k : ℕ) → j < k → mark b i k ≡ mark a i k) → (k : ℕ) → j + 1 < k →
+    mark (set b (65 * i + (j + 1)) x) i k ≡ mark a i k
+later-set a b i j x later k h = getD-set-other b (65 * i + (j + 1)) (65 * i + k) x 0 (λ e. omega arith) ∙ later k (omega arith)
+
+-- The lines of a connected list are the map's.
+pub connected-lines : {m : Map} {ls : List ℕ} → Connected m ls → Known (length (m .lines)) ls
+connected-lines (single h) zero l = h
+connected-lines (single h) (suc i) l = absurd (omega arith)
+connected-lines (linked h f c) zero l = h
+connected-lines (linked h f c) (suc i) l = connected-lines c i (omega arith)
+
+-- The first lines from `at` on are tested, and `at - 1` is the next of the chain.
+pub record Testing (m : Map) (lines : ℕ) (s : List ℕ) (i : ℕ) (a b w v : List ℕ) (at : ℕ) : Type 0 where
+  pub inside : at ≤ lines
+  pub next : 0 < at → lineAt m (at - 1) .start ≡ lineAt m (getD s i 0) .start
+  pub numbers : (j : ℕ) → i < j → j ≤ length s → Open m s i j at (mark b i j)
+  pub kept : Kept (65 * i) (65 * i + 65) a b
+  pub worked : Worked m lines w v
+
+module _ {m : Map} {lines : ℕ} {s : List ℕ} {i : ℕ} {w : List ℕ} (c : Connected m s) where
+  pub testing-start : {a b : List ℕ} (at : ℕ) → Set m lines w → at ≡ latest m (lineAt m (getD s i 0) .start) lines → RowBegun m s i a b →
+      Testing m lines s i a b w w at
+  testing-start at set e row =
+      let all = set .held .line-count in
+      let v = lineAt m (getD s i 0) .start in
+      record {
+        inside = omega (arith, e, latest-le m v lines);
+        next = rw e (latest-hit m v lines);
+        numbers = λ j h l. open-start c h l (rw all e) (row .usual j h l);
+        kept = row .kept;
+        worked = record { set = set; kept = kept-none };
+      }
+
+  pub testing-within : {a b v : List ℕ} {at : ℕ} → Testing m lines s i a b w v at → Within m s i b
+  testing-within k j h l one = k .numbers j h l .usual one .within
+
+  pub testing-on : {a b b′ v u : List ℕ} {at next : ℕ} → Testing m lines s i a b w v at → 0 < at →
+      next ≡ latest m (lineAt m (at - 1) .start) (at - 1) → RowSifted m lines s i (at - 1) b b′ v u → Testing m lines s i a b′ w u next
+  testing-on {at = at} {next = next} k some e row =
+      let from = k .next some in
+      record {
+        inside = omega (arith, k .inside, e, latest-le m (lineAt m (at - 1) .start) (at - 1));
+        next = λ pos.
+            let hit : lineAt m (next - 1) .start ≡ lineAt m (at - 1) .start =
+            rw e (latest-hit m (lineAt m (at - 1) .start) (at - 1) (omega arith)) in
+            hit ∙ from;
+        numbers = λ j h l. open-on c h l some from e (k .numbers j h l) (row .sifted j h l);
+        kept = kept-then (k .kept) (row .kept);
+        worked = worked-then (k .worked) (row .worked);
+      }
+
+  pub testing-end : {a b v : List ℕ} {at : ℕ} → at ≡ 0 → Testing m lines s i a b w v at → RowTested m lines s i a b w v
+  testing-end e k = record { tested = λ j h l. open-end c h l e (k .numbers j h l); kept = k .kept; worked = k .worked }
+
+-- One row more is tested.
+pub rows-on : {m : Map} {lines : ℕ} {s : List ℕ} {i : ℕ} {a b w v : List ℕ} → length s ≤ 64 → RowTested m lines s i a b w v →
+    ((k j : ℕ) → k < i → k < j → j ≤ length s → Says1 (Tested (good m) s k j) (mark a k j)) →
+    (k j : ℕ) → k < i + 1 → k < j → j ≤ length s → Says1 (Tested (good m) s k j) (mark b k j)
+rows-on {m} {s = s} {i = i} {b = b} few row before k j h l inside =
+    let last : k ≤ i = omega arith in
+    ⊎-elim
+    (λ e. subst (λ (q : ℕ). Says1 (Tested (good m) s q j) (mark b q j)) (sym e) (row .tested j (omega arith) inside))
+    (λ lt. subst (Says1 (Tested (good m) s k j)) (sym (row .kept .below (65 * k + j) (omega arith))) (before k j lt l inside))
+    (eq-or-lt-of-le last)

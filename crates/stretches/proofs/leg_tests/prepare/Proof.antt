@@ -1,0 +1,44 @@
+-- `prepare` meets its contract: the search was done, or it is done now.
+use mathlib.Core.Path.{_∙_}
+use Rattle.search.proofs.Frame.{held-kept}
+use Rattle.stretches.proofs.Trials.{not-again, anew}
+use borrow.Author.Needs.{needs}
+use native.Mathlib.Omega.{arith}
+use Rattle.stretches.proofs.leg_tests.prepare.Statement.{statement}
+use Rattle.stretches.proofs.leg_tests.prepare.Tie as tie
+
+add-if1 : tie.Need-add-if1
+add-if1 c = search needs
+
+returns : tie.Need-returns
+returns c m set before = not-again set (omega (arith, c .if1 .taken)) before
+
+search-requires : tie.Need-search-requires
+search-requires c κs =
+    let p = c .before .before .before .pre in
+    (p .1 .0, p .1 .1 .held, p .1 .1 .chained, p .0 .0, p .0 .2)
+
+nearest-lines-requires : tie.Need-nearest-lines-requires
+nearest-lines-requires c κs =
+    let p = c .before .before .before .before .before .before .before .pre in
+    let f = c .before .before .before .search .ensures (p .1 .0) (p .1 .1 .held) (p .1 .1 .chained) in
+    (p .1 .0, held-kept (omega arith) (f .kept) (p .1 .1 .held))
+
+same-length : tie.Need-same-length
+same-length c = c .before .before .nearest-lines .kept .0 ∙ c .before .before .before .before .before .before .search .kept .0
+
+returns-2 : tie.Need-returns-2
+returns-2 c m set before =
+    let f = c .before .before .before .before .before .before .search .ensures m (set .held) (set .chained) in
+    anew set f (c .before .before .nearest-lines .ensures m (held-kept (omega arith) (f .kept) (set .held)))
+
+pub prepare-spec : {M : Type 1} → statement M
+prepare-spec =
+    tie.close
+    (tie.spec
+    add-if1
+    returns
+    search-requires
+    nearest-lines-requires
+    same-length
+    returns-2)
