@@ -15,6 +15,7 @@ pub mod Points
 pub mod Composed
 pub mod Outcomes
 pub mod Rows
+pub mod Cleared
 pub mod Once
 pub mod Demand3
 pub mod Cases
