@@ -2,6 +2,7 @@
 // count of lines. What it prints is held to what the unrelated implementation says (oracle/pack.py).
 use cases::Part;
 use cases::word_at;
+use console::print;
 use depot_map::MapRead;
 use depot_map::read_map;
 use legs::ends::Arrival;
@@ -46,11 +47,6 @@ fn leg_of(words: &[u8]) -> Leg {
         distance: word_at(words, 24),
         arrival: arrival_of(words),
     }
-}
-
-fn print(word: &[u8], n: u64) {
-    io::write_all(STDOUT_FILENO, word);
-    io::print_decimal(STDOUT_FILENO, n);
 }
 
 fn print_verdict(found: Verdict) {
@@ -125,6 +121,6 @@ fn run(bytes: &[u8], work: &mut [u32])
 fn main() {
     let mut bytes = cases::megabyte();
     let mut work = [0; 12288];
-    let n = cases::load(b"cases.bin", &mut bytes);
+    let n = console::load(b"cases.bin", &mut bytes);
     run(&bytes[..n], &mut work);
 }
