@@ -62,7 +62,8 @@ def leg_row(depot_map, readings):
     if readings.how_many != "one":
         return readings.how_many
     lines = readings.lines
-    return f"one {lines[0]} {lines[-1]} {list_length(depot_map, lines)} {len(lines)}"
+    whole = " ".join(map(str, lines))
+    return f"one {lines[0]} {lines[-1]} {list_length(depot_map, lines)} {len(lines)}: {whole}"
 
 
 def full_map_legs(maps, legs):

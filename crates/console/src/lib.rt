@@ -25,6 +25,19 @@ pub fn print(word: &[u8], n: u64) {
     io::print_decimal(STDOUT_FILENO, n);
 }
 
+fn print_number(word: &[u8], n: u32) {
+    print(word, n as u64);
+}
+
+// Each of the numbers, with the word before it.
+pub fn print_each(word: &[u8], numbers: &[u32]) {
+    let mut i: usize = 0;
+    while i < numbers.len() {
+        print_number(word, numbers[i]);
+        i += 1;
+    }
+}
+
 // A refusal by its number in the table of paper 01, then the point or leg if it has one.
 fn print_refusal(why: Refusal) {
     print(b"refused ", number_of(why) as u64);
