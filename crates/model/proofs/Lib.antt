@@ -16,5 +16,6 @@ pub mod Composed
 pub mod Outcomes
 pub mod Rows
 pub mod Once
+pub mod Calls
 pub mod Demand3
 pub mod Cases
