@@ -129,17 +129,30 @@ fn sample(name: &'static str, plan: MapPlan) -> Sample {
     Sample { name, bytes, map }
 }
 
+/// Prints the rows of every kind, or of the kind that the argument names: decode, search, read or write.
 fn main() {
     let proved = functions();
+    let kind = std::env::args().nth(1);
+    let wanted = |name: &str| kind.as_deref().is_none_or(|kind| kind == name);
     println!("what | ours µs | plain Rust µs | ratio");
     for sample in &samples() {
-        decode_row(&proved, sample).print();
-        search_rows(&proved, sample);
-        reading_rows(&proved, sample);
-        writing_rows(&proved, sample);
+        if wanted("decode") {
+            decode_row(&proved, sample).print();
+        }
+        if wanted("search") {
+            search_rows(&proved, sample);
+        }
+        if wanted("read") {
+            reading_rows(&proved, sample);
+        }
+        if wanted("write") {
+            writing_rows(&proved, sample);
+        }
     }
-    for sample in &hostile_samples() {
-        search_rows(&proved, sample);
+    if wanted("search") {
+        for sample in &hostile_samples() {
+            search_rows(&proved, sample);
+        }
     }
 }
 
@@ -251,6 +264,9 @@ fn reading_rows(proved: &ProvedFunctions, sample: &Sample) {
         if references.is_empty() {
             continue;
         }
+        for (reference, lines) in &references {
+            check_proved_reading(proved, sample, reference, lines);
+        }
         let lines: usize = references.iter().map(|(_, lines)| lines.len()).sum();
         let lines = lines / references.len();
         let references = references.into_iter().map(|(bytes, _)| bytes).collect();
@@ -258,6 +274,23 @@ fn reading_rows(proved: &ProvedFunctions, sample: &Sample) {
         row.what = format!("read, {}, legs {legs}, lines {lines}", sample.name);
         row.print();
     }
+}
+
+/// What is timed is a reading of these lines.
+fn check_proved_reading(
+    proved: &ProvedFunctions,
+    sample: &Sample,
+    reference: &[u8],
+    lines: &[u32],
+) {
+    let Some(read) = proved.read else {
+        return;
+    };
+    let mut work_area = vec![0; WORK_AREA];
+    let mut line_buffer = vec![u32::MAX; LINE_ROOM];
+    let refusal = read(&sample.bytes, reference, &mut work_area, &mut line_buffer);
+    assert_eq!(refusal, 0, "the plain reader accepts the reference");
+    assert_eq!(&line_buffer[..lines.len()], lines);
 }
 
 fn reading_row<'a>(
@@ -289,8 +322,8 @@ fn proved_reading<'a>(
     let mut line_buffer = vec![0; LINE_ROOM];
     Some(Box::new(move |input| {
         let (map_bytes, reference) = black_box((&sample.bytes, &references[input]));
-        let read = read(map_bytes, reference, &mut work_area, &mut line_buffer);
-        let _ = black_box(read);
+        let refusal = read(map_bytes, reference, &mut work_area, &mut line_buffer);
+        black_box(refusal);
     }))
 }
 
