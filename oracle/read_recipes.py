@@ -1,18 +1,16 @@
-"""Inputs for read cases. A recipe takes a random source and a turn, and gives a detail and the input.
-
-A recipe whose name starts with "refusal N" must come out as that refusal, by the scope paper's table.
-"""
+"""Inputs for read cases (recipes.py says what a recipe is)."""
 
 from dataclasses import dataclass, replace
 
-from damages import map_damages, reference_damages, replaced
+from damages import map_damage, reference_damages, replaced
 from depot_map import map_to_bytes, read_map
 from fields import LONGEST_LEG, differences_fit, offset_byte, offset_span_by_trying
 from legs import list_length
 from reader import LEAST_WORK_LENGTH, read
+from recipes import any_sample, until_found, work_area_exactly_enough, work_area_too_short
 from reference import last_point_position, p_byte_positions, put_together
 from sample_maps import SMALL_SAMPLES, MapBuilder, chain_of_ties, full_size_sample, random_walk
-from write_recipes import accepted_input, any_sample, until_found, write_outcome
+from write_recipes import accepted_input, write_outcome
 from writer import reference_of_legs
 
 AMPLE_LINES = 1_024
@@ -36,8 +34,8 @@ def any_turn(rng):
 
 
 def written_input(rng, turn):
-    sample, given = accepted_input(rng, turn)
-    return sample.label, ReadInput(given.map_bytes, write_outcome(given).reference)
+    label, given = accepted_input(rng, turn)
+    return label, ReadInput(given.map_bytes, write_outcome(given).reference)
 
 
 def cut_into_legs(rng, walk, most_lines):
@@ -131,26 +129,11 @@ def lines_too_few(rng, turn):
     return label, replace(given, line_room=rng.choice([room, room, 0]))
 
 
-def work_area_exactly_enough(rng, turn):
-    label, given = written_input(rng, turn)
-    return label, replace(given, work_length=LEAST_WORK_LENGTH + turn % 2)
-
-
-def work_area_too_short(rng, turn):
-    """Refusal 1 stands above everything else, so that the rest may be wrong as well."""
-    label, given = written_input(rng, turn)
-    others = [given, replace(given, map_bytes=b""), replace(given, reference=b""),
-              replace(given, line_room=0)]
-    work_length = LEAST_WORK_LENGTH - 1 if turn % 2 == 0 else 0
-    return label, replace(others[turn % 4], work_length=work_length)
-
-
 def damaged_map(refusal):
     def recipe(rng, turn):
         _, given = written_input(rng, turn)
         depot_map = read_map(given.map_bytes)
-        damages = [damage for damage in map_damages(depot_map) if damage.refusal == refusal]
-        damage = damages[turn % len(damages)]
+        damage = map_damage(depot_map, refusal, turn)
         # The reference is wrong as well every other time; the map's refusal stands above.
         reference = given.reference if turn % 2 else b""
         return damage.label, ReadInput(damage.apply(depot_map), reference)
@@ -340,7 +323,7 @@ READ_RECIPES = {
     "offset bytes changed": changed_offset_byte,
     "offsets one below the total": offsets_next_to_total,
     "line buffer exactly long enough": lines_exactly_enough,
-    "work area long enough": work_area_exactly_enough,
+    "work area long enough": work_area_exactly_enough(written_input),
     "shortest reference": shortest_reference,
     "longest reference": longest_reference,
     "closed loop": closed_loop,
@@ -349,7 +332,7 @@ READ_RECIPES = {
     "most lines": most_lines,
     "full size": full_size,
     "two faults": two_faults,
-    "refusal 1": work_area_too_short,
+    "refusal 1": work_area_too_short(written_input, {"map_bytes": b""}, {"reference": b""}, {"line_room": 0}),
     "refusal 2": damaged_map(2),
     "refusal 3": damaged_map(3),
     "refusal 4": damaged_map(4),
