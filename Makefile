@@ -2,8 +2,11 @@
 # `make compare` compares plain Rust with the oracle.
 .PHONY: ridge test bench compare
 
-ridge:
-	cd examples/ridge && python3 ../../oracle/show.py
+ridge: target/bin/openlr_show
+	cd examples/ridge && ../../target/bin/openlr_show
+
+target/bin/openlr_show:
+	rt check openlr_show >&2
 
 test:
 	bash .ci/run
