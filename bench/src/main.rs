@@ -20,8 +20,10 @@ use proved::{functions, ProvedFunctions};
 /// The best of many short rounds: a round that something else disturbs does not count.
 const ROUNDS: usize = 400;
 const ROUND_TIME: Duration = Duration::from_micros(60);
-/// No further round starts after this time on one input.
+/// No further round starts after this time on one input, but for the first few: one round that is
+/// disturbed for that long must not be the only one.
 const INPUT_TIME: Duration = Duration::from_millis(100);
+const LEAST_ROUNDS: usize = 3;
 
 /// Different inputs in one row, so that it does not hang on one of them.
 const INPUTS: usize = 8;
@@ -68,7 +70,7 @@ fn time_in_turn<const COUNT: usize>(
         let mut best = [f64::INFINITY; COUNT];
         let start = Instant::now();
         for round in 0..ROUNDS {
-            if round > 0 && start.elapsed() > INPUT_TIME {
+            if round >= LEAST_ROUNDS && start.elapsed() > INPUT_TIME {
                 break;
             }
             for (number, call) in calls.iter_mut().enumerate() {
