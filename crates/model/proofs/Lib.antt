@@ -17,5 +17,6 @@ pub mod Outcomes
 pub mod Rows
 pub mod Cleared
 pub mod Once
+pub mod Calls
 pub mod Demand3
 pub mod Cases

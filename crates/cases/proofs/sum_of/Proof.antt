@@ -1,14 +1,14 @@
 -- `sum_of` meets its contract: the sum stays below the modulus.
 use borrow.Author.Needs.{needs}
 use Prim.Native.Nat.{_-_, _≤_, _<_}
-use Rattle.test_maps.proofs.sum_of.Statement.{statement}
-use Rattle.test_maps.proofs.sum_of.Tie as tie
+use Rattle.cases.proofs.sum_of.Statement.{statement}
+use Rattle.cases.proofs.sum_of.Tie as tie
 
 abbrev Inv-loop : tie.InvT-loop
-Inv-loop work from to sum total₀ i₀ total i = (i ≤ to) × (total < 4_294_967_291)
+Inv-loop numbers from to sum total₀ i₀ total i = (i ≤ to) × (total < 4_294_967_291)
 
 abbrev μ-loop : tie.MeasureT-loop
-μ-loop work from to sum total₀ i₀ total i = to - i
+μ-loop numbers from to sum total₀ i₀ total i = to - i
 
 loop-holds : tie.Need-loop-holds Inv-loop μ-loop
 loop-holds c = search needs
