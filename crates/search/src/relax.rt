@@ -1,0 +1,104 @@
+// How a search goes on from a line: at each line that can follow it, the length to that comes down, or the line is noted as one before it.
+use crate::area::BEFORE;
+use crate::area::CLASS;
+use crate::area::END;
+use crate::area::LENGTHS;
+use crate::area::SEVERAL;
+use crate::area::WAITING;
+use crate::area::by_way_of;
+use crate::area::field;
+use crate::area::wide;
+use crate::chains::first_leaving;
+use crate::chains::follows;
+use crate::chains::next_leaving;
+use crate::list::bring_down;
+ghost use Prim.Native.Nat.{_≤_, _<_};
+ghost use lib.ListN.{length};
+ghost use Rattle.model.specs.Outcome.{workLength};
+ghost use Rattle.search.specs.Steps.{Task, Underway, Noted, TieNoted, Relaxed, RelaxedAll};
+
+// `x` with line `l` noted.
+fn note(x: u32, l: usize) -> u32
+    requires { ⌜ l < 1_024 ⌝ }
+    ensures { λ r. ⌜ Noted x l r ⌝ }
+{
+    let line = (l + 1) as u32;
+    if x == 0 {
+        return line;
+    }
+    if x == line {
+        return line;
+    }
+    SEVERAL
+}
+
+// Notes line `l` at line `j`.
+fn note_tie(work: &mut [u32], l: usize, j: usize)
+    requires { ⌜ (l < 1_024) × (j < 1_024) × (workLength ≤ length (now work)) ⌝ }
+    ensures { λ _. ⌜ TieNoted l j (now (work .entry)) (now (work .exit)) ⌝ }
+{
+    let x = work[BEFORE + j];
+    let noted = note(x % WAITING, l);
+    work[BEFORE + j] = x / WAITING * WAITING + noted;
+}
+
+// Takes line `l` into account at line `j`, where that can follow it: how many lines are on the list now.
+fn relax(
+    work: &mut [u32],
+    lines: usize,
+    l: usize,
+    j: usize,
+    count: usize,
+    class: u32,
+    limit: u32,
+) -> usize
+    requires { ⌜ (l < lines) × (j < lines) ⌝ }
+    requires { ⌜ ((q : Task) × Underway q lines class limit count (now work)) ⌝ }
+    ensures { λ r. ⌜ ((q : Task) → Underway q lines class limit count (now (work .entry))
+        → Relaxed q lines class limit l j (now (work .entry)) (now (work .exit)) r) ⌝ }
+{
+    if !follows(work, lines, l, j) {
+        return count;
+    }
+    let length = by_way_of(work, l, j);
+    let found = wide(work[LENGTHS + j]);
+    if found < length {
+        return count;
+    }
+    if found == length {
+        note_tie(work, l, j);
+        return count;
+    }
+    if class < field(work, j, CLASS) {
+        return count;
+    }
+    if wide(limit) < length {
+        return count;
+    }
+    bring_down(work, j, (l + 1) as u32, count, length as u32)
+}
+
+// Does that at each line that leaves the end of line `l`, which then waits no longer: how many lines are on the list now.
+pub fn relax_all(
+    work: &mut [u32],
+    lines: usize,
+    l: usize,
+    count: usize,
+    class: u32,
+    limit: u32,
+) -> usize
+    requires { ⌜ l < lines ⌝ }
+    requires { ⌜ ((q : Task) × Underway q lines class limit count (now work)) ⌝ }
+    ensures { λ r. ⌜ ((q : Task) → Underway q lines class limit count (now (work .entry))
+        → RelaxedAll q lines class limit l (now (work .entry)) (now (work .exit)) r) ⌝ }
+{
+    let v = wide(field(work, l, END));
+    let mut at = first_leaving(work, lines, v);
+    let mut listed = count;
+    while 0 < at {
+        listed = relax(work, lines, l, at - 1, listed, class, limit);
+        at = next_leaving(work, lines, at);
+    }
+    work[BEFORE + l] = work[BEFORE + l] % WAITING;
+    listed
+}
