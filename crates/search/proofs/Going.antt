@@ -1,8 +1,9 @@
 -- How a search begins, and how it goes on from a line: at one line that can follow it, and along the chain of all.
 use Prim.Native.Nat.{ℕ, _+_, _-_, _*_, _/_, _%_, _≤_, _<_}
-use mathlib.Core.Path.{_≡_, refl, _∙_, ap, subst}
+use mathlib.Core.Path.{_≡_, refl, sym, _∙_, ap, subst}
 use mathlib.Core.List.{List, [], _∷_, _++_}
 use mathlib.Core.Logic.{_⊎_, inl, inr, ⊎-elim, _≢_}
+use native.Mathlib.Nat.{eq-or-lt-of-le}
 use native.Mathlib.Omega.{arith}
 use native.Mathlib.Decide.{ℕ-discrete}
 use lib.ListN.{getD}
@@ -10,7 +11,7 @@ use Rattle.model.specs.Map.{Map}
 use Rattle.model.specs.Lines.{lineAt, Follows}
 use Rattle.depot_map.specs.Area.{Kept}
 use Rattle.search.specs.Area.{Held, latest, lengthTo, lineBefore, listed, Tie}
-use Rattle.search.specs.Steps.{Task, task, Waits, noteAt, Leads, Backed, Notes, Counted, Underway, Stepped, Forgotten, Begun, Noted, TieNoted, Lowered, Relaxed}
+use Rattle.search.specs.Steps.{Task, task, Waits, noteAt, Leads, Backed, Notes, Counted, Underway, Stepped, Forgotten, Begun, Noted, TieNoted, Lowered, Relaxed, WentOn, weight}
 use Rattle.search.proofs.Plain.{way-one, way-more, total-more, total-one}
 use Rattle.search.proofs.Follows.{known, meets}
 use Rattle.depot_map.proofs.Kept.{kept-then, kept-within}
@@ -279,3 +280,42 @@ module _ {q : Task} {n c limit l : ℕ} {u : List ℕ} where
       let t = p .others j (omega arith) o in
       counted-same (p .from) (t .0) (t .1) (k .counted j (omega (arith, o)) f))
       j at≤ f)
+
+-- The search went on from the lines that wait at the places from `from` up to `i`.
+pub record Passing (q : Task) (n c limit from count : ℕ) (u w : List ℕ) (i r : ℕ) : Type 0 where
+  pub step : Stepped q n c limit u w r
+  pub start : i ≡ from → (w ≡ u) × (r ≡ count)
+  pub less : from < i → Waits u (listed u from - 1) → weight w n < weight u n
+
+module _ {q : Task} {n c limit from count : ℕ} {u : List ℕ} where
+  pub passing-start : Underway q n c limit count u → Passing q n c limit from count u u from count
+  passing-start g = record { step = stepped-none g; start = λ e. (refl, refl); less = λ z. absurd (omega arith) }
+
+  pub passing-step : {w v : List ℕ} {i r s : ℕ} → from ≤ i → Passing q n c limit from count u w i r →
+      WentOn q n c limit (listed w i - 1) w v s → Passing q n c limit from count u v (i + 1) s
+  passing-step {w} {v} {i} f≤ k t =
+      record {
+        step = stepped-then (k .step) (t .step);
+        start = λ e. absurd (omega arith);
+        less = λ z waits.
+            ⊎-elim
+            (λ e.
+            let same : w ≡ u = k .start (sym e) .0 in
+            let at : Waits w (listed w from - 1) = subst (λ (x : List ℕ). Waits x (listed x from - 1)) (sym same) waits in
+            let now = t .less (subst (λ (j : ℕ). Waits w (listed w j - 1)) e at) in
+            subst (λ (x : List ℕ). weight v n < weight x n) same now)
+            (λ later. omega (arith, k .less later waits, t .step .lighter))
+            (eq-or-lt-of-le {n = from} {m = i} f≤);
+      }
+
+  pub passing-end : {w : List ℕ} {i r : ℕ} → from < count → from ≤ i → r ≤ i → Passing q n c limit from count u w i r →
+      WentOn q n c limit (listed u from - 1) u w r
+  passing-end {i = i} f< f≤ end k =
+      let later : from < i =
+      ⊎-elim (λ e. absurd (omega (arith, k .start (sym e) .1))) (λ z. z) (eq-or-lt-of-le {n = from} {m = i} f≤) in
+      record { step = k .step; less = k .less later }
+
+-- A line that does not wait is passed.
+pub passed-over : {q : Task} {n c limit count l : ℕ} {w : List ℕ} → lineBefore w l < 4096 → Underway q n c limit count w →
+    WentOn q n c limit l w w count
+passed-over awake g = record { step = stepped-none g; less = λ waits. absurd (omega arith) }

@@ -19,13 +19,13 @@ last-known (one h k) = h
 last-known (more g f k) = known f
 
 module _ {q : Task} {n c limit count place : ℕ} {w : List ℕ} (g : Underway q n c limit count w) (b : Based (q .map) c (q .first) limit w)
-    (s : Sought 0 count w place) (end : count ≤ place) where
+    (s : Sought count w place) (end : count ≤ place) where
   -- Every line within the limit is on the list, and none of these waits.
   still : (l : ℕ) → l < n → lengthTo w l ≤ limit → lineBefore w l < 4096
   still l l< near =
       let a = g .listing .every l l< (omega (arith, g .small)) in
       let e : listed w (a .0) - 1 ≡ l = omega (arith, a .2) in
-      subst (λ (k : ℕ). lineBefore w k < 4096) e (s .none end (a .0) (omega arith) (a .1))
+      subst (λ (k : ℕ). lineBefore w k < 4096) e (s .none end (a .0) (a .1))
 
   all : (l j : ℕ) → l < n → lengthTo w l ≤ limit → Follows (q .map) l j → Counted (q .map) c limit l j w
   all l j l< near f = g .counted l j l< near (still l l< near) f

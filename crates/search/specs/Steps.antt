@@ -103,10 +103,10 @@ pub record Begun (m : Map) (lines class first limit : ℕ) (w v : List ℕ) (r :
   pub waits : (i : ℕ) → i < r → Waits v (listed v i - 1)
   pub kept : Kept 8_192 11_776 w v
 
--- The line at place `r` waits; or `r` is past the list, and none from place `from` on does.
-pub record Sought (from count : ℕ) (w : List ℕ) (r : ℕ) : Type 0 where
+-- The line at place `r` waits; or `r` is past the list, and none on it does.
+pub record Sought (count : ℕ) (w : List ℕ) (r : ℕ) : Type 0 where
   pub waits : r < count → Waits w (listed w r - 1)
-  pub none : count ≤ r → (i : ℕ) → from ≤ i → i < count → lineBefore w (listed w i - 1) < 4_096
+  pub none : count ≤ r → (i : ℕ) → i < count → lineBefore w (listed w i - 1) < 4_096
 
 -- `r` is `x` with line `l` noted.
 pub record Noted (x l r : ℕ) : Type 0 where
@@ -142,7 +142,7 @@ pub record Relaxed (q : Task) (lines class limit l j : ℕ) (w v : List ℕ) (r 
   pub others : (k : ℕ) → k < lines → k ≢ j → (lengthTo v k ≡ lengthTo w k) × (noteAt v k ≡ noteAt w k)
   pub waits : Waits w l → Waits v l
 
--- Line `l` is taken into account at every line.
-pub record RelaxedAll (q : Task) (lines class limit l : ℕ) (w v : List ℕ) (r : ℕ) : Type 0 where
+-- The search went on from line `l`, where that waited, and maybe from others.
+pub record WentOn (q : Task) (lines class limit l : ℕ) (w v : List ℕ) (r : ℕ) : Type 0 where
   pub step : Stepped q lines class limit w v r
   pub less : Waits w l → weight v lines < weight w lines

@@ -5,10 +5,9 @@ use area::CLASS;
 use area::LENGTH;
 use area::field;
 use list::bring_down;
+use list::first_waiting;
 use list::forget;
-use list::line_at;
-use list::next_waiting;
-use relax::relax_all;
+use relax::relax_from;
 ghost use Prim.Native.Nat.{_≤_, _<_};
 ghost use Rattle.model.specs.Map.{Map};
 ghost use Rattle.model.specs.Reading.{greatestLegLength};
@@ -50,8 +49,7 @@ pub fn search(work: &mut [u32], lines: usize, first: usize, class: u32, limit: u
     let mut count = begin(work, lines, first, class, limit);
     let mut place: usize = 0;
     while place < count {
-        let l = line_at(work, place) - 1;
-        count = relax_all(work, lines, l, count, class, limit);
-        place = next_waiting(work, lines, place + 1, count);
+        count = relax_from(work, lines, place, count, class, limit);
+        place = first_waiting(work, lines, count);
     }
 }

@@ -57,12 +57,12 @@ pub fn bring_down(work: &mut [u32], j: usize, note: u32, count: usize, to: u32) 
     count + 1
 }
 
-// The place of the first line that waits, from place `from` on; `count` where there is none.
-fn waiting_from(work: &[u32], lines: usize, from: usize, count: usize) -> usize
+// The place of the first line of the list that waits; `count` where none does.
+pub fn first_waiting(work: &[u32], lines: usize, count: usize) -> usize
     requires { ⌜ (lines ≤ 1_024) × (workLength ≤ length (now work)) × Listing (now work) lines count ⌝ }
-    ensures { λ r. ⌜ Sought from count (now (work .entry)) r ⌝ }
+    ensures { λ r. ⌜ Sought count (now (work .entry)) r ⌝ }
 {
-    let mut i = from;
+    let mut i = 0;
     while i < count {
         let l = line_at(work, i) - 1;
         if WAITING <= work[BEFORE + l] {
@@ -71,16 +71,4 @@ fn waiting_from(work: &[u32], lines: usize, from: usize, count: usize) -> usize
         i += 1;
     }
     count
-}
-
-// The place of a line that waits, `from` or one after it where there is one there; `count` where none on the list waits.
-pub fn next_waiting(work: &[u32], lines: usize, from: usize, count: usize) -> usize
-    requires { ⌜ (lines ≤ 1_024) × (workLength ≤ length (now work)) × Listing (now work) lines count ⌝ }
-    ensures { λ r. ⌜ Sought 0 count (now (work .entry)) r ⌝ }
-{
-    let after = waiting_from(work, lines, from, count);
-    if after < count {
-        return after;
-    }
-    waiting_from(work, lines, 0, count)
 }

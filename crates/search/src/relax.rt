@@ -12,10 +12,12 @@ use crate::chains::first_leaving;
 use crate::chains::follows;
 use crate::chains::next_leaving;
 use crate::list::bring_down;
-ghost use Prim.Native.Nat.{_≤_, _<_};
+use crate::list::line_at;
+ghost use Prim.Native.Nat.{_-_, _≤_, _<_};
 ghost use lib.ListN.{length};
 ghost use Rattle.model.specs.Outcome.{workLength};
-ghost use Rattle.search.specs.Steps.{Task, Underway, Noted, TieNoted, Relaxed, RelaxedAll};
+ghost use Rattle.search.specs.Area.{listed};
+ghost use Rattle.search.specs.Steps.{Task, Underway, Noted, TieNoted, Relaxed, WentOn};
 
 // `x` with line `l` noted.
 fn note(x: u32, l: usize) -> u32
@@ -79,7 +81,7 @@ fn relax(
 }
 
 // Does that at each line that leaves the end of line `l`, which then waits no longer: how many lines are on the list now.
-pub fn relax_all(
+fn relax_all(
     work: &mut [u32],
     lines: usize,
     l: usize,
@@ -90,7 +92,7 @@ pub fn relax_all(
     requires { ⌜ l < lines ⌝ }
     requires { ⌜ ((q : Task) × Underway q lines class limit count (now work)) ⌝ }
     ensures { λ r. ⌜ ((q : Task) → Underway q lines class limit count (now (work .entry))
-        → RelaxedAll q lines class limit l (now (work .entry)) (now (work .exit)) r) ⌝ }
+        → WentOn q lines class limit l (now (work .entry)) (now (work .exit)) r) ⌝ }
 {
     let v = wide(field(work, l, END));
     let mut at = first_leaving(work, lines, v);
@@ -101,4 +103,41 @@ pub fn relax_all(
     }
     work[BEFORE + l] = work[BEFORE + l] % WAITING;
     listed
+}
+
+// Does that for the line at place `i` of the list, where it waits.
+fn relax_at(work: &mut [u32], lines: usize, i: usize, count: usize, class: u32, limit: u32) -> usize
+    requires { ⌜ i < count ⌝ }
+    requires { ⌜ ((q : Task) × Underway q lines class limit count (now work)) ⌝ }
+    ensures { λ r. ⌜ ((q : Task) → Underway q lines class limit count (now (work .entry))
+        → WentOn q lines class limit (listed (now (work .entry)) i - 1) (now (work .entry)) (now (work .exit)) r) ⌝ }
+{
+    let l = line_at(work, i) - 1;
+    if work[BEFORE + l] < WAITING {
+        return count;
+    }
+    relax_all(work, lines, l, count, class, limit)
+}
+
+// Does that for each line of the list from place `from` on, those too that come to it meanwhile.
+pub fn relax_from(
+    work: &mut [u32],
+    lines: usize,
+    from: usize,
+    count: usize,
+    class: u32,
+    limit: u32,
+) -> usize
+    requires { ⌜ from < count ⌝ }
+    requires { ⌜ ((q : Task) × Underway q lines class limit count (now work)) ⌝ }
+    ensures { λ r. ⌜ ((q : Task) → Underway q lines class limit count (now (work .entry))
+        → WentOn q lines class limit (listed (now (work .entry)) from - 1) (now (work .entry)) (now (work .exit)) r) ⌝ }
+{
+    let mut i = from;
+    let mut reached = count;
+    while i < reached {
+        reached = relax_at(work, lines, i, reached, class, limit);
+        i += 1;
+    }
+    reached
 }

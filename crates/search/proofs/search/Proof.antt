@@ -13,7 +13,7 @@ use Rattle.search.proofs.search.Tie as tie
 
 abbrev Inv-loop : tie.InvT-loop
 Inv-loop work₀ lines first class limit count₀ place₀ work count place =
-    Sought 0 count work place × ((q : Task) → Underway q lines class limit count₀ work₀ → Stepped q lines class limit work₀ work count)
+    Sought count work place × ((q : Task) → Underway q lines class limit count₀ work₀ → Stepped q lines class limit work₀ work count)
 
 abbrev μ-loop : tie.MeasureT-loop
 μ-loop work₀ lines first class limit count₀ place₀ work count place = weight work lines
@@ -35,50 +35,28 @@ loop-holds : tie.Need-loop-holds Inv-loop μ-loop
 loop-holds c =
     let p = c .before .before .before .before .before .pre in
     let b = c .before .before .begin .ensures (p .0) (p .1) (p .2) in
-    (record { waits = λ z. b .waits 0 z; none = λ z i f i<. absurd (omega arith) }, λ q g. stepped-none g)
+    (record { waits = λ z. b .waits 0 z; none = λ z i i<. absurd (omega arith) }, λ q g. stepped-none g)
 
-line-at-requires : tie.Need-line-at-requires Inv-loop μ-loop
-line-at-requires c κs =
-    let s = state (c .before) in
-    let n≤ = few (s .1 .held) in
-    let t = c .before .loop-test .taken in
-    (omega (arith, count-le (s .1 .listing)), s .1 .held .full)
+relax-from-requires : tie.Need-relax-from-requires Inv-loop μ-loop
+relax-from-requires c κs = (c .before .loop-test .taken, state (c .before))
 
-sub-l : tie.Need-sub-l Inv-loop μ-loop
-sub-l c =
-    let s = state (c .before .before) in
-    omega (arith, c .line-at .ensures, s .1 .listing .some _ (c .before .before .loop-test .taken) .0)
-
-relax-all-requires : tie.Need-relax-all-requires Inv-loop μ-loop
-relax-all-requires c κs =
-    let s = state (c .before .before .before) in
-    let l = s .1 .listing .some _ (c .before .before .before .loop-test .taken) in
-    (omega (arith, c .before .line-at .ensures, l .0, l .1), s)
-
-add-next-waiting : tie.Need-add-next-waiting Inv-loop μ-loop
-add-next-waiting c =
-    let s = state (c .before .before .before .before .before .before .before) in
-    let n≤ = few (s .1 .held) in
-    let t = c .before .before .before .before .before .before .before .loop-test .taken in
-    omega (arith, count-le (s .1 .listing))
-
-next-waiting-requires : tie.Need-next-waiting-requires Inv-loop μ-loop
-next-waiting-requires c κs =
-    let s = state (c .before .before .before .before .before .before .before) in
-    let g = c .before .before .before .relax-all .ensures (s .0) (s .1) .step .underway in
+first-waiting-requires : tie.Need-first-waiting-requires Inv-loop μ-loop
+first-waiting-requires c κs =
+    let s = state (c .before .before .before .before .before) in
+    let g = c .before .before .before .relax-from .ensures (s .0) (s .1) .step .underway in
     (few (g .held), g .held .full, g .listing)
 
 loop-less : tie.Need-loop-less Inv-loop μ-loop
 loop-less c =
-    let s = state (c .before .before .before .before .before .before .before .before) in
-    c .before .before .before .before .relax-all .ensures (s .0) (s .1) .less (rw (c .before .before .before .before .before .before .line-at .ensures) (c .before .before .before .before .before .before .before .before .before .loop .inv .0 .waits (c .before .before .before .before .before .before .before .before .loop-test .taken)))
+    let s = state (c .before .before .before .before .before .before) in
+    c .before .before .before .before .relax-from .ensures (s .0) (s .1) .less (c .before .before .before .before .before .before .before .loop .inv .0 .waits (c .before .before .before .before .before .before .loop-test .taken))
 
 loop-again : tie.Need-loop-again Inv-loop μ-loop
 loop-again c = (
-  c .next-waiting .ensures,
+  c .first-waiting .ensures,
   λ q g.
-      let s = c .before .before .before .before .before .before .before .before .before .loop .inv .1 q g in
-      stepped-then s (c .before .before .before .before .relax-all .ensures q (s .underway) .step),
+      let s = c .before .before .before .before .before .before .before .loop .inv .1 q g in
+      stepped-then s (c .before .before .before .before .relax-from .ensures q (s .underway) .step),
 )
 
 same-length : tie.Need-same-length Inv-loop μ-loop
@@ -117,11 +95,8 @@ search-spec =
     μ-loop
     begin-requires
     loop-holds
-    line-at-requires
-    sub-l
-    relax-all-requires
-    add-next-waiting
-    next-waiting-requires
+    relax-from-requires
+    first-waiting-requires
     loop-less
     loop-again
     same-length

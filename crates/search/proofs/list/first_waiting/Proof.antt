@@ -1,21 +1,21 @@
--- `waiting_from` meets its contract: none waits from `from` up to the place that is looked at.
+-- `first_waiting` meets its contract: none waits up to the place that is looked at.
 use Prim.Native.Nat.{ℕ, _≤_, _<_, _-_}
 use Rattle.search.specs.Area.{listed, lineBefore}
 use Rattle.search.proofs.Reached.{count-le}
 use borrow.Author.Count.{below-more}
 use native.Mathlib.Omega.{arith}
 use borrow.Author.Needs.{needs}
-use Rattle.search.proofs.list.waiting_from.Statement.{statement}
-use Rattle.search.proofs.list.waiting_from.Tie as tie
+use Rattle.search.proofs.list.first_waiting.Statement.{statement}
+use Rattle.search.proofs.list.first_waiting.Tie as tie
 
 abbrev Inv-loop : tie.InvT-loop
-Inv-loop work lines from count i₀ i = (from ≤ i) × ((k : ℕ) → k < i → from ≤ k → lineBefore work (listed work k - 1) < 4096)
+Inv-loop work lines count i₀ i = (k : ℕ) → k < i → lineBefore work (listed work k - 1) < 4096
 
 abbrev μ-loop : tie.MeasureT-loop
-μ-loop work lines from count i₀ i = count - i
+μ-loop work lines count i₀ i = count - i
 
 loop-holds : tie.Need-loop-holds Inv-loop μ-loop
-loop-holds c = (search needs, λ k k< f. absurd (omega arith))
+loop-holds c = λ k k<. absurd (omega arith)
 
 line-at-requires : tie.Need-line-at-requires Inv-loop μ-loop
 line-at-requires c κs = let p = c .before .before .before .pre in let t = c .loop-test .taken in (omega (arith, count-le (p .2)), p .1)
@@ -47,15 +47,15 @@ loop-less c = search needs
 loop-again : tie.Need-loop-again Inv-loop μ-loop
 loop-again c =
     let e = c .before .before .line-at .ensures in
-    (search needs, below-more _ _ (c .before .before .before .before .loop .inv .1) (λ f. rw (← e) (c .if1 .left)))
+    below-more _ _ (c .before .before .before .before .loop .inv) (rw (← e) (c .if1 .left))
 
 returns-2 : tie.Need-returns-2 Inv-loop μ-loop
 returns-2 c =
     let t = c .loop-test .left in
-    record { waits = λ z. absurd (omega arith); none = λ z k f k<. c .before .loop .inv .1 k (omega arith) f }
+    record { waits = λ z. absurd (omega arith); none = λ z k k<. c .before .loop .inv k (omega arith) }
 
-pub waiting-from-spec : {M : Type 1} → statement M
-waiting-from-spec =
+pub first-waiting-spec : {M : Type 1} → statement M
+first-waiting-spec =
     tie.close
     (tie.spec
     Inv-loop
