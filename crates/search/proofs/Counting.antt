@@ -206,14 +206,14 @@ module _ {q : Task} {n c limit count l y : ℕ} {w : List ℕ} (g : Underway q n
   same-note : (k : ℕ) → noteAt awoken k ≡ noteAt w k
   same-note = cells (λ k b. b % 4096 ≡ noteAt w k) (omega arith) (λ k o. refl)
 
-  pub awake : ((j : ℕ) → j < n → Follows (q .map) l j → Counted (q .map) c limit l j w) → Stepped q n c limit w awoken count
+  pub awake : ((j : ℕ) → lengthTo w l ≤ limit → Follows (q .map) l j → Counted (q .map) c limit l j w) → Stepped q n c limit w awoken count
   awake counted =
       renoted g kept
       (cells (λ k b. k < n → b / 4096 ≤ lineBefore w k / 4096) (λ k<. omega arith) (λ k o k<. omega arith))
       (λ k j k< j< near z f.
       counted-same (same-length g kept k k<) (same-length g kept j j<) (same-note j)
       (cells (λ k b. b < 4096 → lengthTo w k ≤ limit → k < n → Follows (q .map) k j → Counted (q .map) c limit k j w)
-      (λ z near k< f. counted j j< f)
+      (λ z near k< f. counted j near f)
       (λ k o z near k< f. g .counted k j k< near z f)
       k z near k< f))
       (λ j j< near.

@@ -11,7 +11,7 @@ use Rattle.model.specs.Map.{Map}
 use Rattle.model.specs.Lines.{lineAt, Follows}
 use Rattle.depot_map.specs.Area.{Kept}
 use Rattle.search.specs.Area.{Held, latest, lengthTo, lineBefore, listed, Tie}
-use Rattle.search.specs.Steps.{Task, task, Waits, noteAt, Leads, Backed, Notes, Counted, Underway, Stepped, Forgotten, Begun, Noted, TieNoted, Lowered, Relaxed, WentOn, weight}
+use Rattle.search.specs.Steps.{Task, task, Waits, noteAt, Leads, Backed, Notes, Counted, Underway, Stepped, Forgotten, Begun, Noted, TieNoted, Lowered, Relaxed, Ahead, WentOn, weight}
 use Rattle.search.proofs.Plain.{way-one, way-more, total-more, total-one}
 use Rattle.search.proofs.Follows.{known, meets}
 use Rattle.depot_map.proofs.Kept.{kept-then, kept-within}
@@ -237,7 +237,7 @@ module _ {q : Task} {n c limit count l j : ℕ} {w : List ℕ} (g : Underway q n
 -- The walk along the chain of the lines that start where `l` ends: `l` is taken into account at those from `at` on.
 pub record Along (q : Task) (n c limit l : ℕ) (u w : List ℕ) (at r : ℕ) : Type 0 where
   pub step : Stepped q n c limit u w r
-  pub counted : (j : ℕ) → at ≤ j → Follows (q .map) l j → Counted (q .map) c limit l j w
+  pub counted : (j : ℕ) → at ≤ j → lengthTo w l ≤ limit → Follows (q .map) l j → Counted (q .map) c limit l j w
   pub waits : Waits u l → Waits w l
   pub inside : at ≤ n
   pub joined : 0 < at → lineAt (q .map) (at - 1) .start ≡ lineAt (q .map) l .end
@@ -248,7 +248,7 @@ module _ {q : Task} {n c limit l : ℕ} {u : List ℕ} where
   along-from i i≤ e s waits counted =
       record {
         step = s;
-        counted = λ j at≤ f. ⊎-elim
+        counted = λ j at≤ near f. ⊎-elim
             (λ i≤j. counted j i≤j f)
             (λ j<i. absurd (omega (arith, latest-all (q .map) _ i j j<i (meets f))))
             (le-or-lt i j);
@@ -257,29 +257,48 @@ module _ {q : Task} {n c limit l : ℕ} {u : List ℕ} where
         joined = rw e (latest-hit (q .map) _ i);
       }
 
-  pub along-start : {v at count : ℕ} → Underway q n c limit count u → v ≡ lineAt (q .map) l .end → at ≡ latest (q .map) v n →
-      Along q n c limit l u u at count
-  along-start g e z =
-      along-from n (omega arith) (z ∙ ap (λ (a : ℕ). latest (q .map) a n) e) (stepped-none g) (λ y. y)
-      (λ j n≤ f. absurd (let to = known f in let h = g .held in omega arith))
+  -- Where `l` does not wait, it is taken into account everywhere.
+  pub along-start : {at count : ℕ} → Underway q n c limit count u → l < n → Ahead (q .map) n l u at → Along q n c limit l u u at count
+  along-start g l< a =
+      ⊎-elim
+      (λ waits.
+      along-from n (omega arith) (a .waits waits) (stepped-none g) (λ y. y)
+      (λ j n≤ f. absurd (let to = known f in let h = g .held in omega arith)))
+      (λ still.
+      let e = a .still still in
+      record {
+        step = stepped-none g;
+        counted = λ j at≤ near f. g .counted l j l< near still f;
+        waits = λ y. y;
+        inside = omega arith;
+        joined = λ z. absurd (omega arith);
+      })
+      (le-or-lt 4096 (lineBefore u l))
 
   pub along-step : {w v : List ℕ} {at next r s : ℕ} → Along q n c limit l u w at r → 0 < at → Relaxed q n c limit l (at - 1) w v s →
       next ≡ latest (q .map) (lineAt (q .map) (at - 1) .start) (at - 1) → Along q n c limit l u v next s
-  along-step {at = at} k pos p e =
+  along-step {v = v} {at = at} {next = next} k pos p e =
       let i = k .inside in
-      along-from (at - 1) (omega arith)
-      (e ∙ ap (λ (z : ℕ). latest (q .map) z (at - 1)) (k .joined pos))
-      (stepped-then (k .step) (p .step))
-      (λ y. p .waits (k .waits y))
-      (λ j at≤ f.
-      here-or (λ j. at - 1 ≤ j → Follows (q .map) l j → Counted (q .map) c limit l j _) (at - 1)
-      (λ at≤ f. p .here f)
-      (λ j o at≤ f.
-      let to = known f in
-      let h = k .step .underway .held in
-      let t = p .others j (omega arith) o in
-      counted-same (p .from) (t .0) (t .1) (k .counted j (omega (arith, o)) f))
-      j at≤ f)
+      record {
+        step = stepped-then (k .step) (p .step);
+        counted = λ j next≤ near f. ⊎-elim
+            (λ at≤.
+            here-or (λ j. at - 1 ≤ j → Follows (q .map) l j → Counted (q .map) c limit l j v) (at - 1)
+            (λ at≤ f. p .here f)
+            (λ j o at≤ f.
+            let to = known f in
+            let h = k .step .underway .held in
+            let t = p .others j (omega arith) o in
+            counted-same (p .from) (t .0) (t .1) (k .counted j (omega (arith, o)) (omega (arith, p .from)) f))
+            j at≤ f)
+            (λ j<. absurd (omega (arith, e, latest-all (q .map) _ (at - 1) j j< (meets f ∙ sym (k .joined pos)))))
+            (le-or-lt (at - 1) j);
+        waits = λ y. p .waits (k .waits y);
+        inside = omega (arith, latest-le (q .map) (lineAt (q .map) (at - 1) .start) (at - 1));
+        joined = λ z.
+            let hit : lineAt (q .map) (next - 1) .start ≡ lineAt (q .map) (at - 1) .start = rw e (latest-hit (q .map) _ (at - 1) (omega arith)) in
+            hit ∙ k .joined pos;
+      }
 
 -- The search went on from the lines that wait at the places from `from` up to `i`.
 pub record Passing (q : Task) (n c limit from count : ℕ) (u w : List ℕ) (i r : ℕ) : Type 0 where
@@ -314,8 +333,3 @@ module _ {q : Task} {n c limit from count : ℕ} {u : List ℕ} where
       let later : from < i =
       ⊎-elim (λ e. absurd (omega (arith, k .start (sym e) .1))) (λ z. z) (eq-or-lt-of-le {n = from} {m = i} f≤) in
       record { step = k .step; less = k .less later }
-
--- A line that does not wait is passed.
-pub passed-over : {q : Task} {n c limit count l : ℕ} {w : List ℕ} → lineBefore w l < 4096 → Underway q n c limit count w →
-    WentOn q n c limit l w w count
-passed-over awake g = record { step = stepped-none g; less = λ waits. absurd (omega arith) }

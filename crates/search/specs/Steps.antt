@@ -10,7 +10,7 @@ use Rattle.model.specs.Lines.{lineAt, Follows}
 use Rattle.model.specs.Reading.{greatestLegLength}
 use Rattle.depot_map.specs.Area.{Kept}
 use Rattle.search.specs.Ways.{line, Reached}
-use Rattle.search.specs.Area.{Held, Chained, Listing, lengthTo, lineBefore, firstLeaving, nextLeaving, listed, far, several, sum, Tie}
+use Rattle.search.specs.Area.{Held, Chained, Listing, latest, lengthTo, lineBefore, firstLeaving, nextLeaving, listed, far, several, sum, Tie}
 
 -- The answer of a test.
 abbrev pub Decides : Type 0 → Bool → Type 0
@@ -141,6 +141,11 @@ pub record Relaxed (q : Task) (lines class limit l j : ℕ) (w v : List ℕ) (r 
   pub from : lengthTo v l ≡ lengthTo w l
   pub others : (k : ℕ) → k < lines → k ≢ j → (lengthTo v k ≡ lengthTo w k) × (noteAt v k ≡ noteAt w k)
   pub waits : Waits w l → Waits v l
+
+-- `r` is the chain of the lines to go on to from line `l`, or 0 where that does not wait.
+pub record Ahead (m : Map) (lines l : ℕ) (w : List ℕ) (r : ℕ) : Type 0 where
+  pub waits : Waits w l → r ≡ latest m (lineAt m l .end) lines
+  pub still : lineBefore w l < 4_096 → r ≡ 0
 
 -- The search went on from line `l`, where that waited, and maybe from others.
 pub record WentOn (q : Task) (lines class limit l : ℕ) (w v : List ℕ) (r : ℕ) : Type 0 where

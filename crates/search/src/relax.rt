@@ -16,8 +16,9 @@ use crate::list::line_at;
 ghost use Prim.Native.Nat.{_-_, _≤_, _<_};
 ghost use lib.ListN.{length};
 ghost use Rattle.model.specs.Outcome.{workLength};
-ghost use Rattle.search.specs.Area.{listed};
-ghost use Rattle.search.specs.Steps.{Task, Underway, Noted, TieNoted, Relaxed, WentOn};
+ghost use Rattle.model.specs.Map.{Map};
+ghost use Rattle.search.specs.Area.{Held, Chained, listed};
+ghost use Rattle.search.specs.Steps.{Task, Underway, Noted, TieNoted, Relaxed, Ahead, WentOn};
 
 // `x` with line `l` noted.
 fn note(x: u32, l: usize) -> u32
@@ -80,7 +81,19 @@ fn relax(
     bring_down(work, j, (l + 1) as u32, count, length as u32)
 }
 
-// Does that at each line that leaves the end of line `l`, which then waits no longer: how many lines are on the list now.
+// The chain of the lines to go on to from line `l`: 1 + its first line, or 0 where there is none or where line `l` does not wait.
+fn ahead(work: &[u32], lines: usize, l: usize) -> usize
+    requires { ⌜ l < lines ⌝ }
+    requires { ⌜ ((m : Map) × Held (now work) lines m × Chained (now work) lines m) ⌝ }
+    ensures { λ r. ⌜ ((m : Map) → Held (now (work .entry)) lines m → Chained (now (work .entry)) lines m → Ahead m lines l (now (work .entry)) r) ⌝ }
+{
+    if work[BEFORE + l] < WAITING {
+        return 0;
+    }
+    first_leaving(work, lines, wide(field(work, l, END)))
+}
+
+// Takes line `l` into account at each line ahead of it, and then it waits no longer: how many lines are on the list now.
 fn relax_all(
     work: &mut [u32],
     lines: usize,
@@ -94,29 +107,14 @@ fn relax_all(
     ensures { λ r. ⌜ ((q : Task) → Underway q lines class limit count (now (work .entry))
         → WentOn q lines class limit l (now (work .entry)) (now (work .exit)) r) ⌝ }
 {
-    let v = wide(field(work, l, END));
-    let mut at = first_leaving(work, lines, v);
-    let mut listed = count;
+    let mut at = ahead(work, lines, l);
+    let mut reached = count;
     while 0 < at {
-        listed = relax(work, lines, l, at - 1, listed, class, limit);
+        reached = relax(work, lines, l, at - 1, reached, class, limit);
         at = next_leaving(work, lines, at);
     }
     work[BEFORE + l] = work[BEFORE + l] % WAITING;
-    listed
-}
-
-// Does that for the line at place `i` of the list, where it waits.
-fn relax_at(work: &mut [u32], lines: usize, i: usize, count: usize, class: u32, limit: u32) -> usize
-    requires { ⌜ i < count ⌝ }
-    requires { ⌜ ((q : Task) × Underway q lines class limit count (now work)) ⌝ }
-    ensures { λ r. ⌜ ((q : Task) → Underway q lines class limit count (now (work .entry))
-        → WentOn q lines class limit (listed (now (work .entry)) i - 1) (now (work .entry)) (now (work .exit)) r) ⌝ }
-{
-    let l = line_at(work, i) - 1;
-    if work[BEFORE + l] < WAITING {
-        return count;
-    }
-    relax_all(work, lines, l, count, class, limit)
+    reached
 }
 
 // Does that for each line of the list from place `from` on, those too that come to it meanwhile.
@@ -136,7 +134,8 @@ pub fn relax_from(
     let mut i = from;
     let mut reached = count;
     while i < reached {
-        reached = relax_at(work, lines, i, reached, class, limit);
+        let l = line_at(work, i) - 1;
+        reached = relax_all(work, lines, l, reached, class, limit);
         i += 1;
     }
     reached

@@ -2,7 +2,6 @@
 use mathlib.Core.Path.{_∙_}
 use Rattle.search.specs.Steps.{Task, task, Underway, weight, Stepped, Sought, Based}
 use Rattle.depot_map.proofs.Kept.{kept-then}
-use Rattle.search.proofs.Reached.{count-le}
 use Rattle.search.proofs.Frame.{few}
 use Rattle.search.proofs.Counting.{stepped-none, stepped-then}
 use Rattle.search.proofs.Lengths.{settled, tied}

@@ -1,5 +1,5 @@
 -- `first_waiting` meets its contract: none waits up to the place that is looked at.
-use Prim.Native.Nat.{ℕ, _≤_, _<_, _-_}
+use Prim.Native.Nat.{ℕ, _<_, _-_}
 use Rattle.search.specs.Area.{listed, lineBefore}
 use Rattle.search.proofs.Reached.{count-le}
 use borrow.Author.Count.{below-more}

@@ -4,7 +4,7 @@ use Prim.Native.Nat.{_-_}
 use mathlib.Core.Path.{_≡_, refl, _∙_}
 use Rattle.model.specs.Lines.{lineAt}
 use Rattle.search.specs.Steps.{Task, Underway, Relaxed}
-use Rattle.search.proofs.Leaving.{latest-le, end-in, end-is}
+use Rattle.search.proofs.Leaving.{latest-le}
 use Rattle.search.proofs.Counting.{stepped-then, awake, lighter}
 use Rattle.search.proofs.Going.{Along, along-start, along-step}
 use native.Mathlib.Omega.{arith}
@@ -13,39 +13,27 @@ use Rattle.search.proofs.relax.relax_all.Statement.{statement}
 use Rattle.search.proofs.relax.relax_all.Tie as tie
 
 abbrev Inv-loop : tie.InvT-loop
-Inv-loop work₀ lines l count class limit v at₀ listed₀ work at listed =
-    (length work ≡ length work₀) × ((q : Task) → Underway q lines class limit count work₀ → Along q lines class limit l work₀ work at listed)
+Inv-loop work₀ lines l count class limit at₀ reached₀ work at reached =
+    (length work ≡ length work₀) × ((q : Task) → Underway q lines class limit count work₀ → Along q lines class limit l work₀ work at reached)
 
 abbrev μ-loop : tie.MeasureT-loop
-μ-loop work₀ lines l count class limit v at₀ listed₀ work at listed = at
+μ-loop work₀ lines l count class limit at₀ reached₀ work at reached = at
 
 -- What a call does.
 relaxed : (c : tie.After-relax Inv-loop μ-loop) (q : Task) →
-    let a = c .before .before .before .before .before .before .before .before .before .before .args in
+    let a = c .before .before .before .before .before .before .before .args in
     let k = c .before .before .before .loop in
     Underway q (a .lines) (a .class) (a .limit) (a .count) (a .work .now) →
     Relaxed q (a .lines) (a .class) (a .limit) (a .l) (k .at - 1) (k .work) (c .relax .last .0) (c .relax .result)
 relaxed c q g = c .relax .ensures q (c .before .before .before .loop .inv .1 q g .step .underway)
 
-field-requires : tie.Need-field-requires Inv-loop μ-loop
-field-requires c κs = search needs
-
-wide-requires : tie.Need-wide-requires Inv-loop μ-loop
-wide-requires c κs = search needs
-
-first-leaving-requires : tie.Need-first-leaving-requires Inv-loop μ-loop
-first-leaving-requires c κs =
-    let p = c .before .before .before .before .before .pre in
-    let g = p .1 .1 in
-    (_, g .held, g .chained, end-in (g .held) (p .0) (c .before .wide .ensures .0 ∙ c .before .before .field .ensures))
+ahead-requires : tie.Need-ahead-requires Inv-loop μ-loop
+ahead-requires c κs = let p = c .before .before .pre in let g = p .1 .1 in (p .0, (_, g .held, g .chained))
 
 loop-holds : tie.Need-loop-holds Inv-loop μ-loop
 loop-holds c = (
   refl,
-  λ q g.
-      let l = c .before .before .before .before .before .before .pre .0 in
-      let at = c .before .before .wide .ensures .0 ∙ c .before .before .before .field .ensures in
-      along-start g (end-is (g .held) l at) (c .first-leaving .ensures (q .map) (g .held) (g .chained) (end-in (g .held) l at)),
+  λ q g. along-start g (c .before .before .before .pre .0) (c .ahead .ensures (q .map) (g .held) (g .chained)),
 )
 
 sub-relax : tie.Need-sub-relax Inv-loop μ-loop
@@ -53,14 +41,14 @@ sub-relax c = search needs
 
 relax-requires : tie.Need-relax-requires Inv-loop μ-loop
 relax-requires c κs =
-    let p = c .before .before .before .before .before .before .before .before .before .pre in
+    let p = c .before .before .before .before .before .before .pre in
     let k = c .before .before .loop .inv .1 (p .1 .0) (p .1 .1) in
     let i = k .inside in
     (search needs, (p .1 .0, k .step .underway))
 
 next-leaving-requires : tie.Need-next-leaving-requires Inv-loop μ-loop
 next-leaving-requires c κs =
-    let p = c .before .before .before .before .before .before .before .before .before .before .before .before .before .pre in
+    let p = c .before .before .before .before .before .before .before .before .before .before .pre in
     let g = relaxed (c .before .before .before) (p .1 .0) (p .1 .1) .step .underway in
     let k = c .before .before .before .before .before .before .loop .inv .1 (p .1 .0) (p .1 .1) in
     let i = k .inside in
@@ -68,7 +56,7 @@ next-leaving-requires c κs =
 
 loop-less : tie.Need-loop-less Inv-loop μ-loop
 loop-less c =
-    let p = c .before .before .before .before .before .before .before .before .before .before .before .before .before .before .pre in
+    let p = c .before .before .before .before .before .before .before .before .before .before .before .pre in
     let q = p .1 .0 in
     let g = relaxed (c .before .before .before .before) q (p .1 .1) .step .underway in
     let t = c .before .before .before .before .before .before .loop-test .taken in
@@ -110,8 +98,8 @@ returns : tie.Need-returns Inv-loop μ-loop
 returns c =
     λ q g.
     let k = c .before .before .loop .inv .1 q g in
-    let l = c .before .before .before .before .before .before .before .before .before .pre .0 in
-    let a = awake (k .step .underway) l refl (λ j j< f. k .counted j (let t = c .before .loop-test .left in omega arith) f) in
+    let l = c .before .before .before .before .before .before .pre .0 in
+    let a = awake (k .step .underway) l refl (λ j near f. k .counted j (let t = c .before .loop-test .left in omega arith) near f) in
     record {
       step = stepped-then (k .step) a;
       less = λ y. omega (arith, k .step .lighter, lighter (k .step .underway) l refl (k .waits y));
@@ -123,9 +111,7 @@ relax-all-spec =
     (tie.spec
     Inv-loop
     μ-loop
-    field-requires
-    wide-requires
-    first-leaving-requires
+    ahead-requires
     loop-holds
     sub-relax
     relax-requires
