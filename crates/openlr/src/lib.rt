@@ -35,9 +35,11 @@ pub struct Lines {
 fn no_lines(why: Refusal) -> Lines
     ensures { λ r. ⌜ asRead r ≡ hostRead (ReadOutcome.refused (refusalOf why)) ⌝ }
 {
+    let number = number_of(why);
+    let place = place_of(why);
     Lines {
-        refusal: number_of(why),
-        place: place_of(why),
+        refusal: number,
+        place: place,
         lines: 0,
         pos_least: 0,
         pos_greatest: 0,
