@@ -7,14 +7,15 @@ import argparse
 import random
 from dataclasses import dataclass, replace
 
-from damages import map_damages
+from damages import map_damage
 from depot_map import DepotMap, map_to_bytes, read_map
 from fields import LONGEST_LEG
 from legs import Leg, LegSearch, Readings, describe_leg, list_length
 from outcome import Refused, RefusedCall, outcome_text
-from read_recipes import READ_RECIPES, ReadInput, read_outcome
+from read_recipes import READ_RECIPES, read_outcome
+from recipes import any_sample
 from sample_maps import full_size_sample, random_walk
-from write_recipes import WRITE_RECIPES, WriteInput, any_sample, write_outcome
+from write_recipes import WRITE_RECIPES, write_outcome
 
 
 @dataclass(frozen=True)
@@ -47,23 +48,21 @@ class LegCase:
 
 
 @dataclass(frozen=True)
-class ReadCase:
+class CallCase:
+    """A call of the reader or of the writer. Expected: its outcome."""
     label: str
-    given: ReadInput
+    given: object
     expected: object
 
+
+class ReadCase(CallCase):
     def row(self):
         given = self.given
         numbers = f"work {given.work_length} lines {given.line_room}"
         return [given.map_bytes.hex(), given.reference.hex(), numbers, self.label, one_row(self.expected)]
 
 
-@dataclass(frozen=True)
-class WriteCase:
-    label: str
-    given: WriteInput
-    expected: object
-
+class WriteCase(CallCase):
     def row(self):
         given = self.given
         numbers = (f"stretch {' '.join(map(str, given.lines))} pos {given.pos} neg {given.neg}"
@@ -95,8 +94,7 @@ def good_map(rng, turn):
 def damaged_map(refusal):
     def recipe(rng, turn):
         sample = full_size_sample(rng) if turn % 50 == 49 else any_sample(rng, turn)
-        damages = [damage for damage in map_damages(sample.depot_map) if damage.refusal == refusal]
-        damage = damages[turn % len(damages)]
+        damage = map_damage(sample.depot_map, refusal, turn)
         return damage.label, damage.apply(sample.depot_map)
     return recipe
 
@@ -210,18 +208,16 @@ def leg_cases(seed, count):
     return make_cases("leg", LEG_RECIPES, seed, count, make_case)
 
 
-def read_cases(seed, count):
-    def make_case(name, detail, given):
-        return ReadCase(f"{name}: {detail}", given, read_outcome(given))
-    return make_cases("read", READ_RECIPES, seed, count, make_case)
+def call_cases(kind, case_type, recipes, outcome):
+    def make_cases_of_kind(seed, count):
+        def make_case(name, detail, given):
+            return case_type(f"{name}: {detail}", given, outcome(given))
+        return make_cases(kind, recipes, seed, count, make_case)
+    return make_cases_of_kind
 
 
-def write_cases(seed, count):
-    def make_case(name, detail, given):
-        return WriteCase(f"{name}: {detail}", given, write_outcome(given))
-    return make_cases("write", WRITE_RECIPES, seed, count, make_case)
-
-
+read_cases = call_cases("read", ReadCase, READ_RECIPES, read_outcome)
+write_cases = call_cases("write", WriteCase, WRITE_RECIPES, write_outcome)
 KINDS = {"map": map_cases, "leg": leg_cases, "read": read_cases, "write": write_cases}
 
 

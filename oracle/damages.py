@@ -161,6 +161,12 @@ def map_damages(depot_map):
             + line_damages(depot_map) + same_code_damages(depot_map) + two_map_damages(depot_map))
 
 
+def map_damage(depot_map, refusal, turn):
+    """One of the damages that give a refusal, each in its turn."""
+    damages = [damage for damage in map_damages(depot_map) if damage.refusal == refusal]
+    return damages[turn % len(damages)]
+
+
 @dataclass(frozen=True)
 class ReferenceDamage:
     """Changed bytes of a good reference, and the refusal with its point or leg that follows."""

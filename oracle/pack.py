@@ -7,10 +7,12 @@ import argparse
 import sys
 from pathlib import Path
 
-from cases import leg_cases, map_cases, random_source, stretch_leg
+from cases import leg_cases, map_cases, random_source, read_cases, stretch_leg
 from depot_map import map_numbers, map_to_bytes
 from legs import LegSearch, list_length
 from outcome import Refused, outcome_text
+from read_recipes import changed_in_a_byte, composed_from, read_outcome
+from recipes import until_found
 from sample_maps import full_size_sample
 
 CRATES = Path(__file__).parent.parent / "crates"
@@ -62,7 +64,8 @@ def leg_row(depot_map, readings):
     if readings.how_many != "one":
         return readings.how_many
     lines = readings.lines
-    return f"one {lines[0]} {lines[-1]} {list_length(depot_map, lines)} {len(lines)}"
+    whole = " ".join(map(str, lines))
+    return f"one {lines[0]} {lines[-1]} {list_length(depot_map, lines)} {len(lines)}: {whole}"
 
 
 def full_map_legs(maps, legs):
@@ -88,7 +91,54 @@ def test_legs():
     return packed(parts), rows
 
 
-PROGRAMS = {"test_maps": test_maps, "test_legs": test_legs}
+def read_row(outcome):
+    """The answer, and what stands in the work area and in the line buffer behind the lines handed back."""
+    text = outcome_text(outcome).split("\n")[0]
+    if isinstance(outcome, Refused):
+        return f"{text} work {'kept' if outcome.number == 1 else 'cleared'} rest kept"
+    return f"{text} sum {number_sum(outcome.lines)} work cleared rest kept"
+
+
+def full_map_reads(maps, references):
+    """Inputs and outcomes of many references on each of some full-size maps, every other one with a byte changed."""
+    for turn in range(maps):
+        rng = random_source("full-size reads", 1, turn)
+        sample = full_size_sample(rng)
+        for number in range(references):
+            given = until_found(lambda: composed_from(rng, sample))
+            if number % 2:
+                given = changed_in_a_byte(rng, given)
+            yield given, read_outcome(given)
+
+
+def small_map_reads(count):
+    for case in read_cases(seed=1, count=count):
+        if not case.label.startswith("full size"):
+            yield case.given, case.expected
+
+
+def by_map(reads):
+    """The same reads, each once, those on one map one after another."""
+    groups = {}
+    for given, outcome in reads:
+        groups.setdefault(given.map_bytes, {})[given] = outcome
+    return [read for group in groups.values() for read in group.items()]
+
+
+def test_reads():
+    """A case has three parts: a map, a reference, and three numbers. These are the lengths of the work area and
+    of the line buffer, and 1 where the map is that of the case before; its own part is empty then."""
+    parts, rows, map_before = [], [], None
+    for given, outcome in by_map([*small_map_reads(2_960), *full_map_reads(maps=10, references=40)]):
+        same = given.map_bytes == map_before
+        map_before = given.map_bytes
+        parts += [b"" if same else given.map_bytes, given.reference,
+                  words([given.work_length, given.line_room, int(same)])]
+        rows.append(read_row(outcome))
+    return packed(parts), rows
+
+
+PROGRAMS = {"test_maps": test_maps, "test_legs": test_legs, "test_reads": test_reads}
 
 
 def files():

@@ -1,18 +1,16 @@
-"""Inputs for read cases. A recipe takes a random source and a turn, and gives a detail and the input.
-
-A recipe whose name starts with "refusal N" must come out as that refusal, by the scope paper's table.
-"""
+"""Inputs for read cases (recipes.py says what a recipe is)."""
 
 from dataclasses import dataclass, replace
 
-from damages import map_damages, reference_damages, replaced
+from damages import map_damage, reference_damages, replaced
 from depot_map import map_to_bytes, read_map
-from fields import differences_fit, offset_span_by_trying
+from fields import LONGEST_LEG, differences_fit, offset_byte, offset_span_by_trying
 from legs import list_length
 from reader import LEAST_WORK_LENGTH, read
+from recipes import any_sample, until_found, work_area_exactly_enough, work_area_too_short
 from reference import last_point_position, p_byte_positions, put_together
 from sample_maps import SMALL_SAMPLES, MapBuilder, chain_of_ties, full_size_sample, random_walk
-from write_recipes import accepted_input, any_sample, until_found, write_outcome
+from write_recipes import accepted_input, write_outcome
 from writer import reference_of_legs
 
 AMPLE_LINES = 1_024
@@ -36,8 +34,8 @@ def any_turn(rng):
 
 
 def written_input(rng, turn):
-    sample, given = accepted_input(rng, turn)
-    return sample.label, ReadInput(given.map_bytes, write_outcome(given).reference)
+    label, given = accepted_input(rng, turn)
+    return label, ReadInput(given.map_bytes, write_outcome(given).reference)
 
 
 def cut_into_legs(rng, walk, most_lines):
@@ -85,14 +83,18 @@ composed_legs = composed_on(any_sample)
 full_size = composed_on(lambda rng, turn: full_size_sample(rng))
 
 
-def changed_byte(rng, turn):
-    """Any byte of a reference changed in one bit or by one."""
-    label, given = (written_input, composed_legs)[turn % 2](rng, any_turn(rng))
+def changed_in_a_byte(rng, given):
+    """Any byte of the reference changed, mostly in one bit or by one."""
     position = rng.randrange(len(given.reference))
     byte = given.reference[position]
     one_bit = byte ^ 1 << rng.randrange(8)
     changed = rng.choice([one_bit, (byte + 1) % 256, (byte - 1) % 256, rng.randrange(256)])
-    return label, replace(given, reference=replaced(given.reference, position, bytes([changed])))
+    return replace(given, reference=replaced(given.reference, position, bytes([changed])))
+
+
+def changed_byte(rng, turn):
+    label, given = (written_input, composed_legs)[turn % 2](rng, any_turn(rng))
+    return label, changed_in_a_byte(rng, given)
 
 
 def changed_leg_field(rng, turn):
@@ -127,26 +129,11 @@ def lines_too_few(rng, turn):
     return label, replace(given, line_room=rng.choice([room, room, 0]))
 
 
-def work_area_exactly_enough(rng, turn):
-    label, given = written_input(rng, turn)
-    return label, replace(given, work_length=LEAST_WORK_LENGTH + turn % 2)
-
-
-def work_area_too_short(rng, turn):
-    """Refusal 1 stands above everything else, so that the rest may be wrong as well."""
-    label, given = written_input(rng, turn)
-    others = [given, replace(given, map_bytes=b""), replace(given, reference=b""),
-              replace(given, line_room=0)]
-    work_length = LEAST_WORK_LENGTH - 1 if turn % 2 == 0 else 0
-    return label, replace(others[turn % 4], work_length=work_length)
-
-
 def damaged_map(refusal):
     def recipe(rng, turn):
         _, given = written_input(rng, turn)
         depot_map = read_map(given.map_bytes)
-        damages = [damage for damage in map_damages(depot_map) if damage.refusal == refusal]
-        damage = damages[turn % len(damages)]
+        damage = map_damage(depot_map, refusal, turn)
         # The reference is wrong as well every other time; the map's refusal stands above.
         reference = given.reference if turn % 2 else b""
         return damage.label, ReadInput(damage.apply(depot_map), reference)
@@ -184,6 +171,81 @@ def longest_reference(rng, turn):
     depot_map, legs = chain_of_ties(64, tied)
     reference = bytes_of_legs(depot_map, legs, rng.randrange(1, 300), rng.randrange(1, 300))
     return f"tied legs {list(tied)}", ReadInput(map_to_bytes(depot_map), reference)
+
+
+def longest_reference_damaged(refusal, place):
+    """Refusal 16 or 17 at a point or leg of a reference of 64 legs, where only that one is wrong."""
+    def recipe(rng, turn):
+        depot_map, legs = chain_of_ties(64, ())
+        reference = bytes_of_legs(depot_map, legs, 1, 1)
+        p_position = p_byte_positions(len(reference))[place]
+        if refusal == 17:
+            position, wrong = p_position + 2, bytes([rng.choice([1, 2, 255])])
+        elif place == 0:
+            position, wrong = p_position - 6, rng.choice([b"\x7f\xff\xff", b"\x80\x00\x00"])
+        else:
+            position, wrong = p_position - 4, rng.choice([b"\x7f\xff", b"\x80\x00"])
+        # The line buffer is too short as well every other time; refusal 20 stands below.
+        return (f"place {place}", ReadInput(map_to_bytes(depot_map), replaced(reference, position, wrong),
+                                            line_room=AMPLE_LINES * (turn % 2)))
+    return recipe
+
+
+def around(node_count, leg_count):
+    """A ring that runs one way, and legs that each go once around it, from a node to itself.
+
+    A second line beside the first, with another FOW, can only be a last line. A last leg that ends with it has
+    a line more than there are nodes: no leg's reading has more.
+    """
+    builder = MapBuilder()
+    columns = 32
+    for number in range(node_count):
+        builder.node(1_000 * (number % columns), 1_000 * (number // columns))
+    nodes = range(node_count)
+    length = LONGEST_LEG // (node_count + 1)
+    once = tuple(builder.line(node, (node + 1) % node_count, length) for node in nodes)
+    beside = builder.line(0, 1, length, fow=4)
+    return builder.build(), [once] * (leg_count - 1) + [once + (beside,)]
+
+
+def many_lines(rng, turn):
+    """More lines than a map can have: the buffer holds them exactly, one fewer, 1,024 or a few more."""
+    depot_map, legs = around(rng.choice([40, 60, 100]), rng.choice([40, 64]))
+    count = sum(len(leg) for leg in legs)
+    room = (count, count - 1, AMPLE_LINES, count + 5)[turn % 4]
+    return f"{count} lines, room for {room}", ReadInput(map_to_bytes(depot_map), bytes_of_legs(depot_map, legs),
+                                                        line_room=room)
+
+
+def most_lines(rng, turn):
+    """The longest reading that there is: 64 legs around 512 nodes, and the line more."""
+    depot_map, legs = around(512, 64)
+    room = (32_769, 32_768)[turn % 2]
+    return f"room for {room}", ReadInput(map_to_bytes(depot_map), bytes_of_legs(depot_map, legs), line_room=room)
+
+
+def closed_loop(rng, turn):
+    """Legs from a node to itself, the last one every other time with a line more."""
+    node_count, leg_count = rng.randrange(2, 6), rng.choice([1, 2, 3])
+    depot_map, legs = around(node_count, leg_count)
+    if turn % 2:
+        legs[-1] = legs[-1][:-1]
+    pos = rng.choice([0, rng.randrange(list_length(depot_map, legs[0]))])
+    return f"{leg_count} times {node_count} nodes", ReadInput(map_to_bytes(depot_map),
+                                                              bytes_of_legs(depot_map, legs, pos))
+
+
+def offset_at_leg_end(rng, turn):
+    """The least and the greatest offset byte of a leg, and offsets of 1 and of one below the leg length."""
+    lengths = [rng.choice([2, 100, 255, 256, 257, 1_000, 149_999, 150_000]) for _ in range(rng.choice([1, 2, 3]))]
+    depot_map = row_of_lines(lengths)
+    good = bytes_of_legs(depot_map, [(line,) for line in range(len(lengths))])
+    flags = rng.choice([0x40, 0x20, 0x60])
+    legs = [length for length, flag in ((lengths[0], 0x40), (lengths[-1], 0x20)) if flags & flag]
+    offset_bytes = bytes(rng.choice([0, 255, offset_byte(1, length), offset_byte(length - 1, length)])
+                         for length in legs)
+    reference = good[:-1] + bytes([good[-1] | flags]) + offset_bytes
+    return f"lengths {lengths}", ReadInput(map_to_bytes(depot_map), reference)
 
 
 def shortest_reference(rng, turn):
@@ -261,12 +323,16 @@ READ_RECIPES = {
     "offset bytes changed": changed_offset_byte,
     "offsets one below the total": offsets_next_to_total,
     "line buffer exactly long enough": lines_exactly_enough,
-    "work area long enough": work_area_exactly_enough,
+    "work area long enough": work_area_exactly_enough(written_input),
     "shortest reference": shortest_reference,
     "longest reference": longest_reference,
+    "closed loop": closed_loop,
+    "offsets at leg ends": offset_at_leg_end,
+    "many lines": many_lines,
+    "most lines": most_lines,
     "full size": full_size,
     "two faults": two_faults,
-    "refusal 1": work_area_too_short,
+    "refusal 1": work_area_too_short(written_input, {"map_bytes": b""}, {"reference": b""}, {"line_room": 0}),
     "refusal 2": damaged_map(2),
     "refusal 3": damaged_map(3),
     "refusal 4": damaged_map(4),
@@ -277,6 +343,10 @@ READ_RECIPES = {
     "refusal 14": damaged_reference(14),
     "refusal 15": damaged_reference(15),
     "refusal 16": damaged_reference(16),
+    "refusal 16, point 0 of 65": longest_reference_damaged(16, 0),
+    "refusal 16, point 64 of 65": longest_reference_damaged(16, 64),
+    "refusal 17, leg 0 of 64": longest_reference_damaged(17, 0),
+    "refusal 17, leg 63 of 64": longest_reference_damaged(17, 63),
     "refusal 17, by marks": damaged_reference(17),
     "refusal 17, by D": leg_without_reading,
     "refusal 18": tied_leg,

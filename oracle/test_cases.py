@@ -13,7 +13,7 @@ from outcome import Refused, ReferenceWritten, StretchRead
 from reference import take_apart
 
 # Enough for each recipe to go through its edges at least once.
-MAP_CASES, LEG_CASES, READ_CASES, WRITE_CASES = 420, 420, 700, 500
+MAP_CASES, LEG_CASES, READ_CASES, WRITE_CASES = 420, 420, 740, 500
 
 
 def refusal_in_label(label):
@@ -102,6 +102,27 @@ class Coverage(unittest.TestCase):
             self.assertIn(last_from_end, from_end)
             self.assertGreater(len(set(from_end)), 1)
 
+    def test_refusals_with_a_place_occur_at_the_ends_of_the_longest_reference(self):
+        given = {(case.expected.number, case.expected.place) for case in self.read_cases
+                 if isinstance(case.expected, Refused) and len(case.given.reference) == 459}
+        self.assertLessEqual({(16, 0), (16, 64), (17, 0), (17, 63), (18, 0), (18, 63)}, given)
+
+    def test_readings_of_more_lines_than_a_map_has(self):
+        long_reads = [case for case in self.read_cases if case.label.startswith(("many lines", "most lines"))]
+        counts = {len(case.expected.lines) for case in long_reads if isinstance(case.expected, StretchRead)}
+        self.assertGreater(min(counts), 1_024)
+        self.assertEqual(max(counts), 63 * 512 + 513)
+        self.assertIn(Refused(20), {case.expected for case in long_reads if case.given.line_room > 1_024})
+
+    def test_legs_from_a_node_to_itself_are_read(self):
+        loops = [case for case in self.read_cases if case.label.startswith("closed loop")]
+        self.assertTrue(all(isinstance(case.expected, StretchRead) for case in loops))
+
+    def test_spans_at_both_ends_of_a_leg(self):
+        spans = {span for case in self.read_cases if isinstance(case.expected, StretchRead)
+                 for span in (case.expected.positive_span, case.expected.negative_span)}
+        self.assertLessEqual({(1, 585), (149_415, 149_999), (1, 1), (255, 255)}, spans)
+
     def test_of_two_faults_the_upper_row_is_given(self):
         seen = set()
         for case in self.read_cases:
@@ -115,6 +136,7 @@ class Coverage(unittest.TestCase):
     def test_edges_of_buffers_and_work_areas(self):
         for made in (self.read_cases, self.write_cases):
             self.assertLessEqual({12_287, 12_288}, {case.given.work_length for case in made})
+        self.assertIn(0, {case.given.line_room for case in self.read_cases})
         spare_lines = {case.given.line_room - len(case.expected.lines) for case in self.read_cases
                        if isinstance(case.expected, StretchRead)}
         self.assertIn(0, spare_lines)

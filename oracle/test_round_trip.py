@@ -16,6 +16,10 @@ from write_recipes import WriteInput, edge_offsets, write_outcome
 from writer import choose_points, skip_lines, write
 
 
+def with_edge_offsets(rng, depot_map, lines):
+    return depot_map, lines, *edge_offsets(rng, depot_map, lines)
+
+
 class RoundTrips(unittest.TestCase):
     def round_trip(self, depot_map, lines, pos, neg):
         """True if the writer accepts; then what is read must be what is left."""
@@ -36,32 +40,27 @@ class RoundTrips(unittest.TestCase):
                 self.assertTrue(1 <= span[0] <= offset <= span[1] < list_length(depot_map, leg))
         return True
 
+    def accepted(self, stretches):
+        """How many of the stretches, each with its map and its offsets, the writer accepts."""
+        return sum(self.round_trip(*stretch) for stretch in stretches)
+
     def test_samples_with_edge_offsets(self):
         rng = random.Random("round trips")
-        accepted = 0
-        for turn in range(40 * len(SMALL_SAMPLES)):
-            sample = SMALL_SAMPLES[turn % len(SMALL_SAMPLES)](rng)
-            pos, neg = edge_offsets(rng, sample.depot_map, sample.stretch)
-            accepted += self.round_trip(sample.depot_map, sample.stretch, pos, neg)
+        samples = (make_sample(rng) for make_sample in SMALL_SAMPLES * 40)
+        accepted = self.accepted(with_edge_offsets(rng, sample.depot_map, sample.stretch) for sample in samples)
         self.assertGreater(accepted, 150)
 
     def test_tiny_maps(self):
         rng = random.Random("tiny round trips")
-        accepted = 0
-        for _ in range(1_500):
-            depot_map = random_tiny_map(rng, 5, 9)
-            lines = random_walk(rng, depot_map, rng.randrange(1, 9))
-            pos, neg = edge_offsets(rng, depot_map, lines)
-            accepted += self.round_trip(depot_map, lines, pos, neg)
+        maps = (random_tiny_map(rng, 5, 9) for _ in range(1_500))
+        accepted = self.accepted(with_edge_offsets(rng, depot_map, random_walk(rng, depot_map, rng.randrange(1, 9)))
+                                 for depot_map in maps)
         self.assertGreater(accepted, 500)
 
     def test_full_size_maps(self):
         rng = random.Random("full round trips")
-        accepted = 0
-        for make_sample in [full_sample] * 8 + [dense_sample] * 2:
-            sample = make_sample(rng)
-            accepted += self.round_trip(sample.depot_map, sample.stretch, 1, 1)
-        self.assertGreater(accepted, 4)
+        samples = (make_sample(rng) for make_sample in [full_sample] * 8 + [dense_sample] * 2)
+        self.assertGreater(self.accepted((sample.depot_map, sample.stretch, 1, 1) for sample in samples), 4)
 
     def test_there_is_exactly_one_reading_of_what_is_written(self):
         # The number of readings of a reference is the product of its legs' numbers.
@@ -103,7 +102,6 @@ class OffsetsOfOneSpan(unittest.TestCase):
                 outcome = read(map_bytes, written.reference, WORK, 1)
                 for offset, span in ((pos, outcome.positive_span), (neg, outcome.negative_span)):
                     self.assertTrue(span[0] <= offset <= span[1])
-
 
 
 if __name__ == "__main__":

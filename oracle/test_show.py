@@ -6,16 +6,21 @@ from pathlib import Path
 from show import shown
 from test_scope_paper import RIDGE, THREE_POINTS_OFFSET_500
 
-FOLDER = Path(__file__).parent.parent / "examples" / "ridge"
+ROOT = Path(__file__).parent.parent
+FOLDER = ROOT / "examples" / "ridge"
+PROGRAM = ROOT / "crates" / "openlr_show"
 
 
 class RidgeExample(unittest.TestCase):
     def test_files_are_those_of_the_scope_paper(self):
-        self.assertEqual((FOLDER / "map.bin").read_bytes(), RIDGE)
-        self.assertEqual((FOLDER / "ref.bin").read_bytes(), THREE_POINTS_OFFSET_500)
+        # The gate runs the program on files of its own crate.
+        for folder in (FOLDER, PROGRAM / "data"):
+            self.assertEqual((folder / "map.bin").read_bytes(), RIDGE)
+            self.assertEqual((folder / "ref.bin").read_bytes(), THREE_POINTS_OFFSET_500)
 
     def test_printed(self):
         self.assertEqual(shown(FOLDER), "lines 2 pos 500 503 neg 0 0\n0\n1")
+        self.assertEqual((PROGRAM / "stdout").read_text(), shown(FOLDER) + "\n")
 
     def test_missing_files_count_as_empty(self):
         self.assertEqual(shown(FOLDER / "nothing here"), "refused 2")

@@ -2,6 +2,7 @@
 
 import base64
 import unittest
+from pathlib import Path
 
 from depot_map import DepotMap, Line, Node, map_to_bytes
 from fields import coordinate_code, distance_byte, offset_byte, sector
@@ -37,6 +38,17 @@ class BinaryExample(unittest.TestCase):
         in_xml_listing = base64.b64decode("CgRbWyNG9BpsCQCb/jsbtAT/6/+jK1kC")[4:7]
         self.assertEqual(coordinate_code(4_960_851), int.from_bytes(in_xml_listing, "big"))
         self.assertEqual(coordinate_code(4_960_851), int.from_bytes(EXAMPLE[4:7], "big") - 1)
+
+    def test_base64_below_the_tables(self):
+        # It has the tables' bytes but for the last two, where Tables 89 and 90 have 59 and 44.
+        printed = base64.b64decode("CwRbWyNG9RpsCQCb/jsbtAT/6/+jK1IE")
+        self.assertEqual(printed[:-2], EXAMPLE[:-2])
+        self.assertEqual((printed[-2:].hex(), EXAMPLE[-2:].hex()), ("5204", "5944"))
+
+    def test_file_of_the_program(self):
+        # crates/test_white_paper takes the same bytes apart.
+        crate = Path(__file__).parent.parent / "crates" / "test_white_paper"
+        self.assertEqual((crate / "data" / "example.bin").read_bytes(), EXAMPLE)
 
     def test_taken_apart(self):
         self.assertEqual(take_apart(EXAMPLE), Reference(EXAMPLE_POINTS, positive_byte=68))

@@ -1,16 +1,14 @@
-"""Inputs for write cases. A recipe takes a random source and a turn, and gives a detail and the input.
-
-A recipe whose name starts with "refusal N" must come out as that refusal, by the scope paper's table.
-"""
+"""Inputs for write cases (recipes.py says what a recipe is)."""
 
 from dataclasses import dataclass, replace
 
-from damages import map_damages
+from damages import map_damage
 from depot_map import LARGEST_NUMBER, map_to_bytes
 from legs import list_length
 from outcome import ReferenceWritten
 from reader import LEAST_WORK_LENGTH
-from sample_maps import SMALL_SAMPLES, MapBuilder, far_sample, full_size_sample, ring_sample
+from recipes import any_sample, until_found, work_area_exactly_enough, work_area_too_short
+from sample_maps import MapBuilder, far_sample, full_size_sample, ring_sample
 from writer import MOST_STRETCH_LINES, write
 
 AMPLE_BYTES = 459
@@ -30,11 +28,6 @@ def write_outcome(given):
     return write(given.map_bytes, given.lines, given.pos, given.neg, given.work_length, given.byte_room)
 
 
-def any_sample(rng, turn):
-    """A sample of each kind in turn."""
-    return SMALL_SAMPLES[turn % len(SMALL_SAMPLES)](rng)
-
-
 def edge_offsets(rng, depot_map, stretch):
     """Two offsets at or next to the ends of lines, of the total or of 32 bits; their sum may be too large."""
     total = list_length(depot_map, stretch)
@@ -51,15 +44,6 @@ def edge_offsets(rng, depot_map, stretch):
                        (LARGEST_NUMBER, 0), (LARGEST_NUMBER, 1), (1, LARGEST_NUMBER)])
 
 
-def until_found(attempt):
-    """Tries until something is found. Only an oracle that is wrong needs more tries than these."""
-    for _ in range(1_000):
-        found = attempt()
-        if found is not None:
-            return found
-    raise RuntimeError("nothing found")
-
-
 def accepted_input(rng, turn):
     """A sample's name and an input that the writer accepts, with offsets where they are accepted too."""
     def attempt():
@@ -68,7 +52,7 @@ def accepted_input(rng, turn):
         for pos, neg in (edge_offsets(rng, sample.depot_map, sample.stretch), (0, 0)):
             given = WriteInput(map_bytes, sample.stretch, pos, neg)
             if isinstance(write_outcome(given), ReferenceWritten):
-                return sample, given
+                return sample.label, given
         return None
     return until_found(attempt)
 
@@ -114,34 +98,20 @@ def full_size(rng, turn):
 
 
 def bytes_exactly_enough(rng, turn):
-    sample, given = accepted_input(rng, turn)
-    return sample.label, replace(given, byte_room=len(write_outcome(given).reference))
+    label, given = accepted_input(rng, turn)
+    return label, replace(given, byte_room=len(write_outcome(given).reference))
 
 
 def bytes_too_few(rng, turn):
-    sample, given = accepted_input(rng, turn)
+    label, given = accepted_input(rng, turn)
     room = len(write_outcome(given).reference) - 1
-    return sample.label, replace(given, byte_room=rng.choice([room, room, 15, 0]))
-
-
-def work_area_exactly_enough(rng, turn):
-    sample, given = accepted_input(rng, turn)
-    return sample.label, replace(given, work_length=LEAST_WORK_LENGTH + turn % 2)
-
-
-def work_area_too_short(rng, turn):
-    """Refusal 1 stands above everything else, so that the rest may be wrong as well."""
-    sample, given = accepted_input(rng, turn)
-    others = [given, replace(given, map_bytes=b""), replace(given, lines=()), replace(given, byte_room=0)]
-    work_length = LEAST_WORK_LENGTH - 1 if turn % 2 == 0 else 0
-    return sample.label, replace(others[turn % 4], work_length=work_length)
+    return label, replace(given, byte_room=rng.choice([room, room, 15, 0]))
 
 
 def damaged_map(refusal):
     def recipe(rng, turn):
         sample = any_sample(rng, turn)
-        damages = [damage for damage in map_damages(sample.depot_map) if damage.refusal == refusal]
-        damage = damages[turn % len(damages)]
+        damage = map_damage(sample.depot_map, refusal, turn)
         # The stretch is wrong as well every other time; the map's refusal stands above.
         lines = sample.stretch if turn % 2 else ()
         return damage.label, WriteInput(damage.apply(sample.depot_map), lines)
@@ -212,10 +182,10 @@ WRITE_RECIPES = {
     "skipped lines": skipped_lines,
     "offsets just below the total": offsets_just_below,
     "byte buffer exactly long enough": bytes_exactly_enough,
-    "work area long enough": work_area_exactly_enough,
+    "work area long enough": work_area_exactly_enough(accepted_input),
     "longest reference": longest_reference,
     "full size": full_size,
-    "refusal 1": work_area_too_short,
+    "refusal 1": work_area_too_short(accepted_input, {"map_bytes": b""}, {"lines": ()}, {"byte_room": 0}),
     "refusal 2": damaged_map(2),
     "refusal 3": damaged_map(3),
     "refusal 4": damaged_map(4),

@@ -6,10 +6,6 @@
 /// The refusal number and, for refusals 16 to 18, the point or leg.
 pub type ProvedRefusal = (u32, Option<u32>);
 
-/// The count of lines and the spans of the offsets: least and greatest of the positive, least and
-/// greatest of the negative one.
-pub type ProvedReading = (usize, [u32; 4]);
-
 /// Decodes a map into the work area. The answer is the refusal, if there is one.
 pub type Decode = fn(map_bytes: &[u8], work_area: &mut [u32]) -> Option<ProvedRefusal>;
 
@@ -18,13 +14,9 @@ pub type Decode = fn(map_bytes: &[u8], work_area: &mut [u32]) -> Option<ProvedRe
 pub type SearchLines =
     fn(map_bytes: &[u8], work_area: &mut [u32], first: u32, class: u8, limit: u32, times: u32);
 
-/// Reads a reference into the line buffer.
-pub type Read = fn(
-    map_bytes: &[u8],
-    reference: &[u8],
-    work_area: &mut [u32],
-    line_buffer: &mut [u32],
-) -> Result<ProvedReading, ProvedRefusal>;
+/// Reads a reference into the line buffer. The answer is the number of the refusal, or 0.
+pub type Read =
+    fn(map_bytes: &[u8], reference: &[u8], work_area: &mut [u32], line_buffer: &mut [u32]) -> u32;
 
 /// Writes a stretch into the byte buffer: the stretch, the positive and the negative offset.
 /// The answer is the count of bytes.
@@ -88,12 +80,46 @@ fn search(map_bytes: &[u8], work_area: &mut [u32], first: u32, class: u8, limit:
     assert_eq!(refusal, 0, "the map is whole");
 }
 
+/// The feature `read` says that the library has the function.
+#[cfg(feature = "read")]
+fn read() -> Option<Read> {
+    extern "C" {
+        fn measured_read(
+            map: *const u8,
+            map_len: usize,
+            reference: *const u8,
+            reference_len: usize,
+            work: *mut u32,
+            work_len: usize,
+            lines: *mut u32,
+            lines_len: usize,
+        ) -> u32;
+    }
+    Some(|map_bytes, reference, work_area, line_buffer| unsafe {
+        measured_read(
+            map_bytes.as_ptr(),
+            map_bytes.len(),
+            reference.as_ptr(),
+            reference.len(),
+            work_area.as_mut_ptr(),
+            work_area.len(),
+            line_buffer.as_mut_ptr(),
+            line_buffer.len(),
+        )
+    })
+}
+
+#[cfg(not(feature = "read"))]
+fn read() -> Option<Read> {
+    None
+}
+
 /// The proved functions that there are.
 pub fn functions() -> ProvedFunctions {
     ProvedFunctions {
         decode: Some(decode),
         search: Some(search),
-        read: None,
+        read: read(),
         write: None,
     }
 }

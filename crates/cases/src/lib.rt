@@ -3,21 +3,7 @@
 ghost use mathlib.Core.Path.{_≡_};
 ghost use Prim.Native.Nat.{_+_, _*_, _≤_, _<_};
 ghost use lib.ListN.{length, getD};
-ghost use Rattle.io.specs.Counts.{Counts};
 ghost use Rattle.cases.specs.Part.{PartIs, wordAt};
-
-// The bytes of a file, first in the buffer, as many as fit. A missing file counts as empty.
-pub fn load(path: &[u8], buffer: &mut [u8]) -> usize
-    ensures { λ r. ⌜ Counts r (now (buffer .exit)) ⌝ }
-{
-    let fd = os::open_read(path);
-    if fd < 0 {
-        return io::count(0, buffer);
-    }
-    let n = io::read_full(fd, buffer);
-    libc::close(fd);
-    n
-}
 
 // Room for a file of cases. A literal of this size in `main` itself is too large for the checker.
 pub fn megabyte() -> [u8; 1048576]
@@ -70,4 +56,26 @@ pub fn word_at(bytes: &[u8], at: usize) -> u32
         + wide(bytes[at + 1]) * 256
         + wide(bytes[at + 2]) * 65_536
         + wide(bytes[at + 3]) * 16_777_216) as u32
+}
+
+// A sum that tells the numbers and their order: each step takes 257 times the sum so far and adds the number, by the greatest prime below 2^32.
+fn added(sum: u64, x: u32) -> u64
+    requires { ⌜ sum < 4_294_967_291 ⌝ }
+    ensures { λ r. ⌜ r < 4_294_967_291 ⌝ }
+{
+    (sum * 257 + x as u64) % 4_294_967_291
+}
+
+// The sum over the numbers from `from` up to `to`, on top of `sum`.
+pub fn sum_of(numbers: &[u32], from: usize, to: usize, sum: u64) -> u64
+    requires { ⌜ (from ≤ to) × (to ≤ length (now numbers)) × (sum < 4_294_967_291) ⌝ }
+    ensures { λ r. ⌜ r < 4_294_967_291 ⌝ }
+{
+    let mut total = sum;
+    let mut i = from;
+    while i < to {
+        total = added(total, numbers[i]);
+        i += 1;
+    }
+    total
 }

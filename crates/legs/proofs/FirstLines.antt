@@ -10,7 +10,7 @@ use Rattle.depot_map.specs.Area.{Kept}
 use Rattle.search.specs.Area.{latest}
 use Rattle.search.specs.Promises.{Found, Ended}
 use Rattle.depot_map.proofs.Kept.{kept-none, kept-then, kept-within}
-use Rattle.search.proofs.Frame.{held-kept, chained-kept}
+use Rattle.search.proofs.Frame.{held-kept}
 use Rattle.search.proofs.Carried.{searched-kept, chained-above}
 use Rattle.search.proofs.Leaving.{latest-le, latest-hit}
 use Rattle.legs.specs.declared.ends.Leg.{Leg}
@@ -39,7 +39,7 @@ module _ {m : Map} {lines : ℕ} {leg : Leg} {first limit : ℕ} {w : List ℕ} 
           limited = record { within = longest .within; holds = longest .holds };
           start = record { from = from; leaves = leaves };
         };
-        set = record { held = held-kept (omega arith) (f .kept) (set .held); chained = chained-kept (omega arith) (f .kept) (set .chained) };
+        set = record { held = held-kept (omega arith) (f .kept) (set .held); chained = f .chained };
         kept = kept-within (omega arith) (omega arith) (f .kept);
       }
 

@@ -1,10 +1,15 @@
--- The refusal of a map, 0 where it is whole.
+-- Refusals by their numbers, 0 where there is none: of a map, and of a call of the reader.
 use Prim.Native.Nat.{ℕ}
+use mathlib.Core.Path.{_≡_}
 use mathlib.Core.Bool.{cond}
 use mathlib.Core.List.{List}
 use lib.Dec.{ltb}
 use Rattle.model.specs.Map.{MapAnswer, whole, decode}
 use Rattle.model.specs.Outcome.{workLength}
+use Rattle.model.specs.Refusal.{numberOf, refusalOf}
+use Rattle.model.specs.Call.{ReadCall}
+use Rattle.model.specs.declared.ReadAnswer.{ReadAnswer}
+use Rattle.model.specs.declared.ReadAnswer.the-variants.{Read, Refused}
 
 unfoldable pub refusedBy : MapAnswer → ℕ
 refusedBy (whole m) = 0
@@ -12,3 +17,13 @@ refusedBy (MapAnswer.refused n) = n
 
 unfoldable pub mapRefusal : ℕ → List ℕ → ℕ
 mapRefusal work bytes = cond (ltb work workLength) 1 (refusedBy (decode bytes))
+
+unfoldable pub answerNumber : ReadAnswer → ℕ
+answerNumber (Read n pos neg) = 0
+answerNumber (Refused why) = numberOf (refusalOf why)
+
+-- A call of the reader whose answer has this number.
+pub record ReadNumber (mb ref work lines : List ℕ) (n : ℕ) (work′ lines′ : List ℕ) : Type 0 where
+  pub answer : ReadAnswer
+  pub call : ReadCall mb ref work lines answer work′ lines′
+  pub same : n ≡ answerNumber answer

@@ -3,14 +3,16 @@ use depot_map::MapRead;
 use depot_map::area::WORK_LENGTH;
 use depot_map::read_map;
 use fields::leg::GREATEST_LEG_LENGTH;
+use model::ReadAnswer;
 use model::number_of;
+use reader::read;
 use search::chains::link;
 use search::search;
 ghost use mathlib.Core.Path.{_≡_};
 ghost use lib.ListN.{length};
 ghost use Rattle.model.specs.Map.{Map};
 ghost use Rattle.depot_map.specs.Area.{Holds};
-ghost use Rattle.measured.specs.Refusal.{mapRefusal};
+ghost use Rattle.measured.specs.Refusal.{mapRefusal, ReadNumber};
 
 // Reads a map into the work area: the number of the refusal, or 0.
 #[no_mangle]
@@ -65,5 +67,21 @@ pub extern "C" fn measured_search(
             0
         }
         MapRead::Refused(why) => number_of(why),
+    }
+}
+
+// Reads a reference: the number of the refusal, or 0.
+#[no_mangle]
+pub extern "C" fn measured_read(
+    map: &[u8],
+    reference: &[u8],
+    work: &mut [u32],
+    lines: &mut [u32],
+) -> u32
+    ensures { λ r. ⌜ ReadNumber (now (map .entry)) (now (reference .entry)) (now (work .entry)) (now (lines .entry)) r (now (work .exit)) (now (lines .exit)) ⌝ }
+{
+    match read(map, reference, work, lines) {
+        ReadAnswer::Read(_, _, _) => 0,
+        ReadAnswer::Refused(why) => number_of(why),
     }
 }

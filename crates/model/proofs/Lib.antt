@@ -15,6 +15,8 @@ pub mod Points
 pub mod Composed
 pub mod Outcomes
 pub mod Rows
+pub mod Cleared
 pub mod Once
+pub mod Calls
 pub mod Demand3
 pub mod Cases

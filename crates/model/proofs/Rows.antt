@@ -1,4 +1,4 @@
--- The rows of the table that a map and a reference's bytes are refused with, and that those carry no point or leg.
+-- The rows of the table that a map, a stretch and a reference's bytes are refused with, and that those carry no point or leg.
 use Prim.Native.Nat.{ℕ, zero, suc, _+_, _*_, _-_, _%_, _≤_}
 use mathlib.Core.Path.{_≡_, refl, subst}
 use mathlib.Core.Bool.{Bool, true, false, cond, _&&_, _||_}
@@ -11,6 +11,8 @@ use Rattle.model.specs.declared.Refusal.the-variants.{WorkAreaShort, Map
 use Rattle.model.specs.Refusal.{row, numberOf, refusalOf}
 use Rattle.model.specs.Number.{Number, got, faulty, number}
 use Rattle.model.specs.Map.{Node, Line, Map, MapAnswer, whole, refused, field, clash, ended, readLine, decodeLines, readNode, decodeNodes, decode}
+use Rattle.model.specs.Lines.{total}
+use Rattle.model.specs.Stretch.{Stretch, greatestStretch, unknown, gap, StretchAnswer, remains, remaining, checkStretch}
 use Rattle.model.specs.Reference.{Reference, statusByte, shortestReference, longestReference, pointCount, referenceAt, spareBits, flags, ParseAnswer, parsed, parse}
 
 -- A refusal of row 15 or before carries no place.
@@ -98,6 +100,31 @@ map-row bs n e = go (subst Low e (map-low bs))
   where
     go : Low (refused n) → n ≤ 6
     go (is-refused h) = h
+
+-- ---- a stretch: rows up to 9
+
+data LowStretch : StretchAnswer → Type 0 where
+  is-left : {s : Stretch} → LowStretch (remains s)
+  is-refused : {n : ℕ} → n ≤ 9 → LowStretch (StretchAnswer.refused n)
+
+checks-low : (unknown gap far : Bool) (s : Stretch) →
+    LowStretch (cond unknown (StretchAnswer.refused 7) (cond gap (StretchAnswer.refused 8) (cond far (StretchAnswer.refused 9) (remains s))))
+checks-low true gap far s = LowStretch.is-refused {n = 7} (omega arith)
+checks-low false true far s = LowStretch.is-refused {n = 8} (omega arith)
+checks-low false false true s = LowStretch.is-refused {n = 9} (omega arith)
+checks-low false false false s = is-left
+
+stretch-low : (m : Map) (s : Stretch) → LowStretch (checkStretch m s)
+unfolding checkStretch
+stretch-low m s =
+    checks-low (eqb (length (s .lines)) 0 || ltb greatestStretch (length (s .lines)) || unknown m (s .lines)) (gap m (s .lines))
+    (leb (total m (s .lines)) (s .pos + s .neg)) (remaining m s)
+
+pub stretch-row : (m : Map) (s : Stretch) (n : ℕ) → checkStretch m s ≡ StretchAnswer.refused n → n ≤ 9
+stretch-row m s n e = go (subst LowStretch e (stretch-low m s))
+  where
+    go : LowStretch (StretchAnswer.refused n) → n ≤ 9
+    go (LowStretch.is-refused h) = h
 
 -- ---- a reference's bytes: rows up to 15
 

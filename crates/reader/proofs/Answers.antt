@@ -1,12 +1,10 @@
 -- Answers to the definitions' questions, put together from those of the parts.
 use Prim.Native.Nat.{ℕ, _≤_, _<_}
-use mathlib.Core.Path.{_≡_, refl, sym, ap, subst, _∙_}
-use mathlib.Core.Bool.{Bool, cond}
-use mathlib.Core.List.{List, _++_}
+use mathlib.Core.Path.{_≡_, refl, sym, ap, subst}
+use mathlib.Core.List.{List}
 use native.Mathlib.Omega.{arith}
-use lib.ListN.{length, take, drop, replicate, length-append}
-use lib.Seq.{take-at, drop-at, length-take-le}
-use lib.Dec.{ltb}
+use lib.ListN.{length, take, drop}
+use lib.Seq.{take-at}
 use borrow.Author.Tests.{lt-ltb, le-ltb}
 use Rattle.model.specs.Map.{Map, MapAnswer, decode}
 use Rattle.model.specs.Refusal.{row, numberOf, refusalOf}
@@ -19,6 +17,7 @@ use Rattle.model.specs.declared.Span.{Span}
 use Rattle.model.specs.declared.ReadAnswer.{ReadAnswer}
 use Rattle.model.specs.declared.ReadAnswer.the-variants.{Read, Refused}
 use Rattle.model.proofs.Legs.{legs-same}
+use Rattle.model.proofs.Cleared.{cleared-short}
 use Rattle.model.proofs.Rows.{row-of, map-row, form-row}
 use Rattle.reader.specs.declared.every_leg.Sums.{Sums}
 use Rattle.reader.specs.declared.every_leg.Legs.{Legs}
@@ -152,13 +151,13 @@ map-refused map bytes room r e = refused-by r (rw e (ap ReadOutcome.refused (row
 
 module _ (mb ref lines : List ℕ) where
   pub area-short : (work : List ℕ) → length work < workLength → ReadCall mb ref work lines (Refused why.WorkAreaShort) work lines
-  unfolding cleared linesAfter refusalOf
+  unfolding linesAfter refusalOf
   area-short work h =
       record {
         outcome = ReadOutcome.refused (row 1);
         reads = rw (lt-ltb (length work) workLength h) refl;
         answers = refusal {why = why.WorkAreaShort};
-        work-after = sym (ap (λ (t : Bool). cond t work (replicate workLength 0 ++ drop workLength work)) (lt-ltb (length work) workLength h));
+        work-after = cleared-short work h;
         lines-after = refl;
       }
 
@@ -172,15 +171,3 @@ module _ (mb ref lines : List ℕ) where
         work-after = e;
         lines-after = d .lines-after;
       }
-
--- A change within the first numbers does not matter to what is cleared. Over any length, so that the zeros are not written out.
-front-cleared : (n : ℕ) (w front : List ℕ) → n ≤ length w → length front ≡ n →
-    cond (ltb (length (front ++ drop n w)) n) (front ++ drop n w) (replicate n 0 ++ drop n (front ++ drop n w)) ≡
-    cond (ltb (length w) n) w (replicate n 0 ++ drop n w)
-front-cleared n w front h e =
-    let long : n ≤ length (front ++ drop n w) = omega (arith, length-append front (drop n w)) in
-    rw (le-ltb (length (front ++ drop n w)) n long, le-ltb (length w) n h, drop-at front (drop n w) n e)
-
-pub cleared-same : (w front : List ℕ) → workLength ≤ length w → length front ≡ length (take workLength w) → cleared (front ++ drop workLength w) ≡ cleared w
-unfolding cleared
-cleared-same w front h e = front-cleared workLength w front h (e ∙ length-take-le workLength w h)

@@ -12,19 +12,10 @@ use Rattle.model.specs.Map.{Map}
 use Rattle.model.specs.Lines.{lineAt, total, lastOf}
 use Rattle.search.specs.Ways.{line, Way, Reached, Least, Only, Two}
 use Rattle.search.specs.Area.{lengthTo, linesTo, Tie, Before, Searched, lineBefore}
-use Rattle.search.proofs.Plain.{Grown, one, more, total-more, total-one, way-one, way-more, way-of, grown-of, same-before}
+use Rattle.search.proofs.Plain.{Grown, one, more, class-first, class-last, total-more, total-one, way-one, way-more, way-of, grown-of, same-before}
 use Rattle.search.proofs.Follows.{known}
 use Rattle.search.proofs.Frame.{le-or-lt, picked, line-ok}
 use Rattle.search.proofs.Lengths.{last-known}
-
--- The first and the last line of a way are of its class.
-class-first : {m : Map} {c f l : ℕ} {r : List ℕ} → Grown m c f l r → lineAt m f .frc ≤ c
-class-first (one i k) = k
-class-first (more p g k) = class-first p
-
-class-last : {m : Map} {c f l : ℕ} {r : List ℕ} → Grown m c f l r → lineAt m l .frc ≤ c
-class-last (one i k) = k
-class-last (more p g k) = k
 
 -- A way of least length, without its last line, is one to a line that ties with that.
 record Back (m : Map) (c f : ℕ) (w : List ℕ) (l : ℕ) (r : List ℕ) : Type 0 where
@@ -209,7 +200,7 @@ walked-few {n = n} {w = w} {last = last} l< k =
 
 module _ {m : Map} {n c f limit : ℕ} {w : List ℕ} {last at count : ℕ} (s : Searched m n c f limit w) (k : Walked m n c f limit w last at count) where
   before : Before m w n at (lineBefore w at)
-  before = s .tied at (k .inside)
+  before = s .tied at (k .inside) (k .near)
 
   pub before-some : (at ≡ f → ⊥) → 0 < lineBefore w at
   before-some out =

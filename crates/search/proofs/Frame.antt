@@ -1,6 +1,6 @@
 -- What a store leaves as it was.
-use Prim.Native.Nat.{ℕ, _+_, _≤_, _<_}
-use mathlib.Core.Path.{_≡_, refl, sym, _∙_, subst}
+use Prim.Native.Nat.{ℕ, _+_, _/_, _%_, _≤_, _<_}
+use mathlib.Core.Path.{_≡_, refl, sym, _∙_, ap, subst}
 use mathlib.Core.Bool.{Bool, true, false, cond}
 use mathlib.Core.List.{List}
 use mathlib.Core.Logic.{_⊎_, inl, inr, _≢_}
@@ -16,6 +16,7 @@ use Rattle.search.specs.Area.{Held, Chained}
 use Rattle.search.specs.Steps.{Filled}
 use Rattle.depot_map.proofs.Kept.{kept-then, kept-within}
 use Rattle.depot_map.proofs.Holding.{holds-kept}
+use Rattle.search.proofs.Reached.{listing-same}
 
 pub le-or-lt : (a b : ℕ) → (a ≤ b) ⊎ (b < a)
 le-or-lt a b = go (decLe a b)
@@ -28,6 +29,14 @@ le-or-lt a b = go (decLe a b)
 pub picked : (P : ℕ → Type 0) (t : Bool) (a b : ℕ) → (t ≡ true → P a) → (t ≡ false → P b) → P (cond t a b)
 picked P true a b this that = this refl
 picked P false a b this that = that refl
+
+-- What holds of one number, and of every other.
+pub here-or : (P : ℕ → Type 0) (j : ℕ) → P j → ((k : ℕ) → k ≢ j → P k) → (k : ℕ) → P k
+here-or P j here other k = go (ℕ-discrete k j)
+  where
+    go : Dec (k ≡ j) → P k
+    go (yes e) = subst P (sym e) here
+    go (no d) = other k d
 
 -- What holds at each place of a region after a store to one.
 pub at-set : (P : ℕ → ℕ → Type 0) (w : List ℕ) (b j x : ℕ) → b + j < length w → P j x → ((l : ℕ) → l ≢ j → P l (getD w (b + l) 0)) →
@@ -50,16 +59,9 @@ module _ {lo hi : ℕ} where
         above = λ b z. getD-set-other w a b x 0 (omega arith);
       }
 
-  -- Past the map's part, a change leaves the map; past the lengths and the lines before, it leaves the chains.
+  -- Past the map's part, a change leaves the map. Within the lines before, it leaves the chains and the list.
   pub held-kept : {w v : List ℕ} {n : ℕ} {m : Map} → 8192 ≤ lo → Kept lo hi w v → Held w n m → Held v n m
   held-kept high k h = holds-kept h k high
-
-  pub chained-kept : {w v : List ℕ} {n : ℕ} {m : Map} → hi ≤ 10240 → Kept lo hi w v → Chained w n m → Chained v n m
-  chained-kept low k h =
-      record {
-        heads = λ v v<. k .above (10240 + v) (omega arith) ∙ h .heads v v<;
-        nexts = λ l l<. k .above (10752 + l) (omega arith) ∙ h .nexts l l<;
-      }
 
 -- The node count that a caller holds is the map's.
 pub held : {w : List ℕ} {nodes lines : ℕ} {m : Map} → Holds w nodes lines m → Held w lines m
@@ -71,6 +73,18 @@ module _ {w : List ℕ} {n : ℕ} {m : Map} (h : Held w n m) where
 
   pub line-ok : {l : ℕ} → l < n → LineOk (length (m .nodes)) (lineAt m l)
   line-ok l< = h .formed .line-ok _ (omega arith)
+
+pub chained-kept : {lo hi n : ℕ} {w v : List ℕ} {m : Map} → 9216 ≤ lo → hi ≤ 10240 → Held w n m → Kept lo hi w v → Chained w n m → Chained v n m
+chained-kept low high h k ch =
+    let n≤ = few h in
+    record {
+      heads = λ v v<. k .above (10240 + v) (omega arith) ∙ ch .heads v v<;
+      nexts = λ l l<. ap (λ (x : ℕ). x % 2048) (k .above (10752 + l) (omega arith)) ∙ ch .nexts l l<;
+      listing = (
+        ch .listing .0,
+        listing-same (λ l l<. k .below (8192 + l) (omega arith)) (λ i i<. ap (λ (x : ℕ). x / 2048) (k .above (10752 + i) (omega arith))) (ch .listing .1),
+      );
+    }
 
 pub fill-step : {base n x : ℕ} {w v : List ℕ} → base + n < length v → Filled base n x w v → Filled base (n + 1) x w (set v (base + n) x)
 fill-step {base} {n} {x} {w} {v} fits f =

@@ -1,5 +1,5 @@
 -- The chains of the lines that leave a node: how they are made, and that a walk along one meets every such line.
-use Prim.Native.Nat.{ℕ, zero, suc, _+_, _-_, _*_, _≤_, _<_}
+use Prim.Native.Nat.{ℕ, zero, suc, _+_, _-_, _*_, _/_, _%_, _≤_, _<_}
 use mathlib.Core.Path.{_≡_, sym, _∙_, ap, subst}
 use mathlib.Core.Bool.{cond}
 use mathlib.Core.List.{List}
@@ -13,10 +13,12 @@ use lib.ListN.{length, getD, set, length-set}
 use lib.Seq.{getD-set-other}
 use Rattle.model.specs.Map.{Map}
 use Rattle.model.specs.Lines.{lineAt}
-use Rattle.search.specs.Area.{Held, latest}
+use Rattle.depot_map.specs.Area.{Kept}
+use Rattle.search.specs.Area.{Held, latest, lengthTo, firstLeaving, nextLeaving, listed, far}
 use Rattle.search.specs.Steps.{Filled}
 use Rattle.search.specs.Promises.{Linked}
 use Rattle.depot_map.proofs.Kept.{kept-none, kept-then}
+use Rattle.search.proofs.Reached.{listing-none}
 use Rattle.search.proofs.Frame.{picked, at-set, kept-set, held-kept, line-ok, few}
 
 latest-same : (m : Map) (v i : ℕ) → lineAt m i .start ≡ v → latest m v (i + 1) ≡ i + 1
@@ -24,44 +26,6 @@ latest-same m v i e = rw (add-one i) (ap (λ t. cond t (suc i) (latest m v i)) (
 
 latest-other : (m : Map) (v i : ℕ) → (lineAt m i .start ≡ v → ⊥) → latest m v (i + 1) ≡ latest m v i
 latest-other m v i d = rw (add-one i) (ap (λ t. cond t (suc i) (latest m v i)) (ne-eqb _ v d))
-
-pub link-none : {w v : List ℕ} {n : ℕ} {m : Map} → Held v n m → Filled 10240 512 0 w v → Linked v 0 m v
-link-none h f =
-    let k = h .formed in
-    record {
-      chained = record { heads = λ a a<. f .filled a (omega arith); nexts = λ l l<. absurd (omega arith) };
-      kept = kept-none;
-    }
-
-module _ {u w : List ℕ} {n i : ℕ} {m : Map} (h : Held u n m) (i< : i < n) (k : Linked u i m w) where
-  pub start-at : getD w (1024 + 7 * i + 0) 0 ≡ lineAt m i .start
-  start-at = held-kept (omega arith) (k .kept) h .line-held i 0 i< (omega arith)
-
-  pub start-small : getD w (1024 + 7 * i + 0) 0 < 512
-  start-small = let f = h .formed in omega (arith, start-at, line-ok h i< .start)
-
-  pub link-step : {v : ℕ} → v ≡ getD w (1024 + 7 * i + 0) 0 → Linked u (i + 1) m (set (set w (10752 + i) (getD w (10240 + v) 0)) (10240 + v) (i + 1))
-  link-step {v} at =
-      let x = getD w (10240 + v) 0 in
-      let z = start-small in
-      let n≤ = few h in
-      let s = k .kept .same in
-      let from : v ≡ lineAt m i .start = at ∙ start-at in
-      let e : x ≡ latest m (lineAt m i .start) i = rw from (k .chained .heads _ (line-ok h i< .start)) in
-      record {
-        chained = record {
-          heads = at-set (λ a y. a < length (m .nodes) → y ≡ latest m a (i + 1)) (set w (10752 + i) x) 10240 v (i + 1)
-              (simp length-set (omega arith))
-              (λ a<. sym (latest-same m v i (sym from)))
-              (λ a d a<. getD-set-other w (10752 + i) (10240 + a) x 0 (let f = h .formed in omega arith) ∙ k .chained .heads a a<
-              ∙ sym (latest-other m a i (λ y. d (sym (from ∙ y)))));
-          nexts = λ l l<. getD-set-other (set w (10752 + i) x) (10240 + v) (10752 + l) (i + 1) 0 (omega arith)
-              ∙ at-set (λ a y. a < i + 1 → y ≡ latest m (lineAt m a .start) a) w 10752 i x (omega arith) (λ a<. e)
-              (λ a d a<. k .chained .nexts a (omega arith)) l l<;
-        };
-        kept = kept-then (k .kept)
-            (kept-then (kept-set (10752 + i) x (omega arith) (omega arith)) (kept-set (10240 + v) (i + 1) (omega arith) (omega arith)));
-      }
 
 if-equal : (P : ℕ → Type 0) (m n a b : ℕ) → (m ≡ n → P a) → ((m ≡ n → ⊥) → P b) → P (cond (eqb m n) a b)
 if-equal P m n a b same other = picked P (eqb m n) a b (λ e. same (eqb-true m n e)) (λ e. other (eqb-false m n e))
@@ -91,6 +55,73 @@ latest-all m v (suc i) j j< e =
     (λ l. l)
     (eq-or-lt-of-le {n = j} {m = i} (omega arith)))
     e)
+
+-- The chains of the lines below `i` are made, and no such line is reached.
+pub record Linking (w : List ℕ) (i : ℕ) (m : Map) (v : List ℕ) : Type 0 where
+  pub heads : (a : ℕ) → a < length (m .nodes) → firstLeaving v a ≡ latest m a i
+  pub nexts : (l : ℕ) → l < i → (nextLeaving v l ≡ latest m (lineAt m l .start) l) × (listed v l ≡ 0)
+  pub all : (l : ℕ) → l < i → far ≤ lengthTo v l
+  pub kept : Kept 8192 11776 w v
+
+pub link-none : {w v : List ℕ} {n : ℕ} {m : Map} → Held v n m → Filled 10240 512 0 w v → Linking v 0 m v
+link-none h f =
+    let k = h .formed in
+    record {
+      heads = λ a a<. f .filled a (omega arith);
+      nexts = λ l l<. absurd (omega arith);
+      all = λ l l<. absurd (omega arith);
+      kept = kept-none;
+    }
+
+pub linked : {w v : List ℕ} {n : ℕ} {m : Map} → Linking w n m v → Linked w n m v
+linked k =
+    record {
+      chained = record {
+        heads = k .heads;
+        nexts = λ l l<. k .nexts l l< .0;
+        listing = (0, listing-none (k .all) (λ i i<. k .nexts i i< .1));
+      };
+      kept = k .kept;
+    }
+
+module _ {u w : List ℕ} {n i : ℕ} {m : Map} (h : Held u n m) (i< : i < n) (k : Linking u i m w) where
+  pub start-at : getD w (1024 + 7 * i + 0) 0 ≡ lineAt m i .start
+  start-at = held-kept (omega arith) (k .kept) h .line-held i 0 i< (omega arith)
+
+  pub start-small : getD w (1024 + 7 * i + 0) 0 < 512
+  start-small = let f = h .formed in omega (arith, start-at, line-ok h i< .start)
+
+  pub link-step : {v : ℕ} → v ≡ getD w (1024 + 7 * i + 0) 0 →
+      Linking u (i + 1) m (set (set (set w (10752 + i) (getD w (10240 + v) 0)) (10240 + v) (i + 1)) (8192 + i) 150001)
+  link-step {v} at =
+      let x = getD w (10240 + v) 0 in
+      let w₁ = set w (10752 + i) x in
+      let w₂ = set w₁ (10240 + v) (i + 1) in
+      let z = start-small in
+      let n≤ = few h in
+      let s = k .kept .same in
+      let from : v ≡ lineAt m i .start = at ∙ start-at in
+      let e : x ≡ latest m (lineAt m i .start) i = rw from (k .heads _ (line-ok h i< .start)) in
+      record {
+        heads = λ a a<. getD-set-other w₂ (8192 + i) (10240 + a) 150001 0 (omega arith)
+            ∙ at-set (λ a y. a < length (m .nodes) → y ≡ latest m a (i + 1)) w₁ 10240 v (i + 1)
+            (simp length-set (omega arith))
+            (λ a<. sym (latest-same m v i (sym from)))
+            (λ a d a<. getD-set-other w (10752 + i) (10240 + a) x 0 (let f = h .formed in omega arith) ∙ k .heads a a<
+            ∙ sym (latest-other m a i (λ y. d (sym (from ∙ y))))) a a<;
+        nexts = λ l l<.
+            rw (getD-set-other w₂ (8192 + i) (10752 + l) 150001 0 (omega arith), getD-set-other w₁ (10240 + v) (10752 + l) (i + 1) 0 (omega arith))
+            (at-set (λ a y. a < i + 1 → (y % 2048 ≡ latest m (lineAt m a .start) a) × (y / 2048 ≡ 0)) w 10752 i x (omega arith)
+            (λ a<. let b = latest-le m (lineAt m i .start) i in (omega arith, omega arith))
+            (λ a d a<. k .nexts a (omega arith)) l l<);
+        all = at-set (λ a y. a < i + 1 → far ≤ y) w₂ 8192 i 150001 (simp length-set (omega arith)) (λ a<. omega arith)
+            (λ a d a<.
+            rw (getD-set-other w₁ (10240 + v) (8192 + a) (i + 1) 0 (omega arith), getD-set-other w (10752 + i) (8192 + a) x 0 (omega arith))
+            (k .all a (omega arith)));
+        kept = kept-then (k .kept)
+            (kept-then (kept-set (10752 + i) x (omega arith) (omega arith))
+            (kept-then (kept-set (10240 + v) (i + 1) (omega arith) (omega arith)) (kept-set (8192 + i) 150001 (omega arith) (omega arith))));
+      }
 
 -- The node where line `l` ends.
 module _ {w : List ℕ} {n l v : ℕ} {m : Map} (h : Held w n m) (l< : l < n) (at : v ≡ getD w (1024 + 7 * l + 1) 0) where

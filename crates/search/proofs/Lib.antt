@@ -1,8 +1,13 @@
 -- Laws that the proofs of the functions cite.
 pub mod Plain
 pub mod Follows
+pub mod Reached
 pub mod Frame
 pub mod Leaving
+pub mod Forgetting
+pub mod Lowering
+pub mod Counting
+pub mod Going
 pub mod Lengths
 pub mod Ties
 pub mod Back

@@ -19,6 +19,15 @@ pub data Grown (m : Map) (class first : ℕ) : ℕ → List ℕ → Type 0 where
   more : {l j : ℕ} {ls : List ℕ} →
       Grown m class first l ls → Follows m l j → lineAt m j .frc ≤ class → Grown m class first j (ls ++ j ∷ [])
 
+-- The first and the last line of a way are of its class.
+pub class-first : {m : Map} {c f l : ℕ} {r : List ℕ} → Grown m c f l r → lineAt m f .frc ≤ c
+class-first (one i k) = k
+class-first (more p g k) = class-first p
+
+pub class-last : {m : Map} {c f l : ℕ} {r : List ℕ} → Grown m c f l r → lineAt m l .frc ≤ c
+class-last (one i k) = k
+class-last (more p g k) = k
+
 pub total-more : (m : Map) (ls : List ℕ) (j : ℕ) → total m (ls ++ j ∷ []) ≡ total m ls + lineAt m j .length
 unfolding total
 total-more m ls j = omega (arith, total-append m ls (j ∷ []))

@@ -1,5 +1,6 @@
--- What stands in the work area besides the map: the chains of the lines that leave a node, and what a search has found.
-use Prim.Native.Nat.{ℕ, zero, suc, _+_, _-_, _%_, _≤_, _<_}
+-- What stands in the work area besides the map: the chains of the lines that leave a node, the list of the lines that a search has
+-- reached, and what it has found.
+use Prim.Native.Nat.{ℕ, zero, suc, _+_, _-_, _/_, _%_, _≤_, _<_}
 use mathlib.Core.Path.{_≡_}
 use mathlib.Core.Bool.{cond}
 use mathlib.Core.List.{List, [], _∷_, _++_}
@@ -16,6 +17,7 @@ abbrev pub Held : List ℕ → ℕ → Map → Type 0
 Held w lines m = Holds w (length (m .nodes)) lines m
 
 -- The cells. For each line: the length found to it (past the limit of the search where no way is within it), and the line before it.
+-- While a search is under way 4,096 is added to the latter where the line waits: it is still to be gone on from.
 abbrev pub lengthTo : List ℕ → ℕ → ℕ
 lengthTo w l = getD w (8_192 + l) 0
 
@@ -27,10 +29,18 @@ abbrev pub firstLeaving : List ℕ → ℕ → ℕ
 firstLeaving w v = getD w (10_240 + v) 0
 
 abbrev pub nextLeaving : List ℕ → ℕ → ℕ
-nextLeaving w l = getD w (10_752 + l) 0
+nextLeaving w l = getD w (10_752 + l) 0 % 2_048
 
 abbrev pub nearestLine : List ℕ → ℕ → ℕ
 nearestLine w v = getD w (11_776 + v) 0
+
+-- In the cells of the next lines stands the list of the lines that a search has reached, 2,048 times: 1 + the line at place `i`, or 0.
+abbrev pub listed : List ℕ → ℕ → ℕ
+listed w i = getD w (10_752 + i) 0 / 2_048
+
+-- The length to a line that is not reached: one past the greatest limit.
+abbrev pub far : ℕ
+far = 150_001
 
 -- What a cell says instead of 1 + a line: that there are several.
 abbrev pub several : ℕ
@@ -41,10 +51,27 @@ abbrev pub latest : Map → ℕ → ℕ → ℕ
 latest m v zero = 0
 latest m v (suc i) = cond (eqb (lineAt m i .start) v) (suc i) (latest m v i)
 
+-- The sum of the numbers below `i`, and how many lines are reached.
+abbrev pub sum : (ℕ → ℕ) → ℕ → ℕ
+sum f zero = 0
+sum f (suc i) = sum f i + f i
+
+abbrev pub reached : List ℕ → ℕ → ℕ
+reached w lines = sum (λ l. 1 - lengthTo w l / far) lines
+
+-- The list has so many lines, and every line that is reached is on it.
+pub record Listing (w : List ℕ) (lines count : ℕ) : Type 0 where
+  pub some : (i : ℕ) → i < count → (0 < listed w i) × (listed w i ≤ lines)
+  pub none : (i : ℕ) → count ≤ i → i < lines → listed w i ≡ 0
+  pub every : (l : ℕ) → l < lines → lengthTo w l < far → (i : ℕ) × (i < count) × (listed w i ≡ l + 1)
+  pub room : count ≤ reached w lines
+
 -- The chains of the lines that leave each node: its last line, and from each line to the line before it from the same node.
+-- Beside them stands the list of the lines that the last search reached, so that the next can begin without a look at every line.
 pub record Chained (w : List ℕ) (lines : ℕ) (m : Map) : Type 0 where
   pub heads : (v : ℕ) → v < length (m .nodes) → firstLeaving w v ≡ latest m v lines
   pub nexts : (l : ℕ) → l < lines → nextLeaving w l ≡ latest m (lineAt m l .start) l
+  pub listing : (count : ℕ) × Listing w lines count
 
 -- Line `l` stands before line `j` on a way that is as long as the length found to `j`.
 pub record Tie (m : Map) (w : List ℕ) (l j : ℕ) : Type 0 where
@@ -60,9 +87,9 @@ pub record Before (m : Map) (w : List ℕ) (i j x : ℕ) : Type 0 where
   pub below : x < several → x ≤ i
   pub many : several ≤ x → (a : ℕ) × (b : ℕ) × Tie m w a j × Tie m w b j × (a ≡ b → ⊥)
 
--- That stands in the area for every line.
-abbrev pub Tied : Map → ℕ → List ℕ → Type 0
-Tied m lines w = (j : ℕ) → j < lines → Before m w lines j (lineBefore w j)
+-- That stands in the area for every line within the limit.
+abbrev pub Tied : Map → ℕ → ℕ → List ℕ → Type 0
+Tied m lines limit w = (j : ℕ) → j < lines → lengthTo w j ≤ limit → Before m w lines j (lineBefore w j)
 
 -- The `count` lines up to line `last`, by the line before each that stands in the area.
 abbrev pub linesTo : List ℕ → ℕ → ℕ → List ℕ
@@ -74,9 +101,8 @@ pub record Searched (m : Map) (lines class first limit : ℕ) (w : List ℕ) : T
   pub held : Held w lines m
   pub inside : first < lines
   pub small : limit ≤ greatestLegLength
-  pub capped : (l : ℕ) → l < lines → lengthTo w l ≤ limit + 1
   pub found : (l : ℕ) → l < lines → Distance m class first limit (line l) (lengthTo w l)
-  pub tied : Tied m lines w
+  pub tied : Tied m lines limit w
 
 -- The line that the cell of a node names: the cell is 1 + the line where it alone is nearest, and 2,000 more where another is as near.
 abbrev pub named : ℕ → ℕ

@@ -8,15 +8,17 @@ use Rattle.search.specs.Area.{Chained, Searched, Reaching, linesTo}
 use Rattle.search.specs.declared.ways.Ways.{Ways}
 use Rattle.search.specs.declared.ways.Ways.the-variants.{Nothing, Several, One}
 
--- The chains of the lines below `i` are made, and nothing else is changed.
+-- The chains of the lines below `i` are made, no such line is reached, and of the area only the cells of searches but those of the nearest
+-- lines are changed.
 pub record Linked (w : List ℕ) (i : ℕ) (m : Map) (v : List ℕ) : Type 0 where
   pub chained : Chained v i m
-  pub kept : Kept 10_240 11_776 w v
+  pub kept : Kept 8_192 11_776 w v
 
--- A search from line `first` is done, and of the area only the lengths and the lines before are changed.
+-- A search from line `first` is done, and of the area only the lengths, the lines before and the list are changed: the next can begin.
 pub record Found (m : Map) (lines class first limit : ℕ) (w v : List ℕ) : Type 0 where
   pub searched : Searched m lines class first limit v
-  pub kept : Kept 8_192 10_240 w v
+  pub chained : Chained v lines m
+  pub kept : Kept 8_192 11_776 w v
 
 -- The cell of each node says which of the lines below `i` is nearest to it, and nothing else is changed.
 pub record Ended (m : Map) (i limit : ℕ) (w v : List ℕ) : Type 0 where

@@ -1,15 +1,16 @@
 -- What the steps of a search promise one another.
-use Prim.Native.Nat.{ℕ, zero, suc, _+_, _≤_, _<_}
+use Prim.Native.Nat.{ℕ, _+_, _-_, _*_, _/_, _%_, _≤_, _<_}
 use mathlib.Core.Path.{_≡_}
 use mathlib.Core.Bool.{Bool, true, false}
 use mathlib.Core.List.{List}
+use mathlib.Core.Logic.{_≢_}
 use lib.ListN.{length, getD}
 use Rattle.model.specs.Map.{Map}
 use Rattle.model.specs.Lines.{lineAt, Follows}
 use Rattle.model.specs.Reading.{greatestLegLength}
 use Rattle.depot_map.specs.Area.{Kept}
 use Rattle.search.specs.Ways.{line, Reached}
-use Rattle.search.specs.Area.{Held, Chained, lengthTo, lineBefore, several, Before, Tied}
+use Rattle.search.specs.Area.{Held, Chained, Listing, latest, lengthTo, lineBefore, firstLeaving, nextLeaving, listed, far, several, sum, Tie}
 
 -- The answer of a test.
 abbrev pub Decides : Type 0 → Bool → Type 0
@@ -21,88 +22,132 @@ pub record Filled (base count x : ℕ) (w v : List ℕ) : Type 0 where
   pub filled : (l : ℕ) → l < count → getD v (base + l) 0 ≡ x
   pub kept : Kept base (base + count) w v
 
+-- Line `l` waits: its length came down, and it was not gone on from since.
+abbrev pub Waits : List ℕ → ℕ → Type 0
+Waits w l = 4_096 ≤ lineBefore w l
+
+-- What is noted at line `j`: 0, 1 + a line before it, or several.
+abbrev pub noteAt : List ℕ → ℕ → ℕ
+noteAt w j = lineBefore w j % 4_096
+
+-- By way of line `l` line `j` is as near as the length found to it, or nearer.
+pub record Leads (m : Map) (w : List ℕ) (l j : ℕ) : Type 0 where
+  pub known : l < length (m .lines)
+  pub follows : Follows m l j
+  pub enough : lengthTo w l + lineAt m j .length ≤ lengthTo w j
+
+-- What the note `x` at line `j` rests on.
+pub record Backed (m : Map) (w : List ℕ) (j x : ℕ) : Type 0 where
+  pub one : 0 < x → x < several → Leads m w (x - 1) j
+  pub many : several ≤ x → (a : ℕ) × (b : ℕ) × Leads m w a j × Leads m w b j × (a ≡ b → ⊥)
+
+-- The length to line `j` is no more than by way of line `l`, where that is within the limit.
+abbrev pub Tight : Map → ℕ → ℕ → List ℕ → ℕ → ℕ → Type 0
+Tight m class limit w l j =
+    lineAt m j .frc ≤ class → lengthTo w l + lineAt m j .length ≤ limit → lengthTo w j ≤ lengthTo w l + lineAt m j .length
+
+-- The note `x` is of line `l`, or of several.
+abbrev pub Notes : ℕ → ℕ → Type 0
+Notes l x = (0 < x) × (x < several → l ≡ x - 1)
+
+-- Line `l` is taken into account at line `j`, in its length and in its note.
+pub record Counted (m : Map) (class limit l j : ℕ) (w : List ℕ) : Type 0 where
+  pub tight : Tight m class limit w l j
+  pub noted : lengthTo w j ≤ limit → Tie m w l j → Notes l (noteAt w j)
+
 -- What is searched for.
 pub record Task : Type 0 where
   pub map : Map
   pub first : ℕ
-  pub limit : ℕ
 
-abbrev pub task : Map → ℕ → ℕ → Task
-task m first limit = record { map = m; first = first; limit = limit }
+abbrev pub task : Map → ℕ → Task
+task m first = record { map = m; first = first }
 
--- The search is under way: the length to a line is one past the limit, or that of a way.
-pub record Underway (q : Task) (lines class : ℕ) (w : List ℕ) : Type 0 where
+-- The search is under way: a length within the limit is that of a way, and every line that does not wait is taken into account.
+pub record Underway (q : Task) (lines class limit count : ℕ) (w : List ℕ) : Type 0 where
   pub held : Held w lines (q .map)
   pub chained : Chained w lines (q .map)
-  pub small : q .limit ≤ greatestLegLength
-  pub inside : q .first < lines
-  pub base : lineAt (q .map) (q .first) .frc ≤ class → lengthTo w (q .first) ≤ lineAt (q .map) (q .first) .length
-  pub capped : (l : ℕ) → l < lines → lengthTo w l ≤ q .limit + 1
-  pub real : (l : ℕ) → l < lines → lengthTo w l ≤ q .limit → Reached (q .map) class (q .first) (line l) (lengthTo w l)
+  pub listing : Listing w lines count
+  pub small : limit ≤ greatestLegLength
+  pub real : (l : ℕ) → l < lines → lengthTo w l ≤ limit → Reached (q .map) class (q .first) (line l) (lengthTo w l)
+  pub counted : (l j : ℕ) → l < lines → lengthTo w l ≤ limit → lineBefore w l < 4_096 → Follows (q .map) l j → Counted (q .map) class limit l j w
+  pub backed : (j : ℕ) → j < lines → lengthTo w j ≤ limit → Backed (q .map) w j (noteAt w j)
 
--- The length to line `j` is no more than by way of line `l`.
-abbrev pub Tight : Map → ℕ → List ℕ → ℕ → ℕ → Type 0
-Tight m class w l j = lineAt m j .frc ≤ class → lengthTo w j ≤ lengthTo w l + lineAt m j .length
+-- It falls with each length that does, and with each line that waits no longer.
+abbrev pub weight : List ℕ → ℕ → ℕ
+weight w lines = sum (λ l. 2 * lengthTo w l + lineBefore w l / 4_096) lines
 
--- Where line `l` is within the limit, that is so of every line that can follow it.
-abbrev pub TightFrom : Map → ℕ → ℕ → List ℕ → ℕ → Type 0
-TightFrom m class limit w l = lengthTo w l ≤ limit → (j : ℕ) → Follows m l j → Tight m class w l j
+-- A step took `w` to `v`: the search is under way, with `r` lines on the list, and lengths only came down.
+pub record Stepped (q : Task) (lines class limit : ℕ) (w v : List ℕ) (r : ℕ) : Type 0 where
+  pub underway : Underway q lines class limit r v
+  pub fell : (k : ℕ) → k < lines → lengthTo v k ≤ lengthTo w k
+  pub lighter : weight v lines ≤ weight w lines
+  pub kept : Kept 8_192 11_776 w v
 
--- And that of all lines below `i`.
-abbrev pub Settled : Map → ℕ → ℕ → List ℕ → ℕ → Type 0
-Settled m class limit w i = (l : ℕ) → l < i → TightFrom m class limit w l
+-- What the last search found is forgotten: no line is reached.
+pub record Forgotten (m : Map) (lines : ℕ) (w v : List ℕ) : Type 0 where
+  pub chained : Chained v lines m
+  pub empty : Listing v lines 0
+  pub all : (l : ℕ) → l < lines → far ≤ lengthTo v l
+  pub kept : Kept 8_192 11_776 w v
 
--- The sum of the lengths to the lines below `lines`. It falls with each length that does.
-abbrev pub sum : List ℕ → ℕ → ℕ
-sum w zero = 0
-sum w (suc i) = sum w i + lengthTo w i
+-- The length to the first line is its own, where its class and its length allow that.
+abbrev pub Based : Map → ℕ → ℕ → ℕ → List ℕ → Type 0
+Based m class first limit w =
+    lineAt m first .frc ≤ class → lineAt m first .length ≤ limit → lengthTo w first ≤ lineAt m first .length
 
--- The search from line `first` is about to begin.
-pub record Begun (m : Map) (lines class first limit : ℕ) (w v : List ℕ) : Type 0 where
-  pub underway : Underway (task m first limit) lines class v
-  pub kept : Kept 8_192 9_216 w v
+-- The search from line `first` begins, with `r` lines on the list: one or none.
+pub record Begun (m : Map) (lines class first limit : ℕ) (w v : List ℕ) (r : ℕ) : Type 0 where
+  pub underway : Underway (task m first) lines class limit r v
+  pub based : Based m class first limit v
+  pub waits : (i : ℕ) → i < r → Waits v (listed v i - 1)
+  pub kept : Kept 8_192 11_776 w v
 
--- Some lengths were brought down, and the search is still under way.
-pub record Hinted (q : Task) (lines class : ℕ) (w v : List ℕ) : Type 0 where
-  pub underway : Underway q lines class v
-  pub kept : Kept 8_192 10_240 w v
-
--- A line was put into the queue, or was there: its last line is `r`.
-pub record Queued (lines : ℕ) (w v : List ℕ) (r : ℕ) : Type 0 where
-  pub last : r < lines
-  pub kept : Kept 9_216 10_240 w v
-
--- The first line was taken out of the queue. The next is `r`, where that is a line.
-pub record Taken (lines steps : ℕ) (w v : List ℕ) (r : ℕ) : Type 0 where
-  pub some : r < lines → 0 < steps
-  pub kept : Kept 9_216 10_240 w v
-
--- A step took `w` to `v`, and brought lengths down `r` times. Where it did not, `P` holds.
-pub record Passed (q : Task) (lines class : ℕ) (w v : List ℕ) (r : ℕ) (P : Type 0) : Type 0 where
-  pub underway : Underway q lines class v
-  pub kept : Kept 8_192 10_240 w v
-  pub fell : sum v lines + r ≤ sum w lines
-  pub still : r ≡ 0 → P
+-- The line at place `r` waits; or `r` is past the list, and none on it does.
+pub record Sought (count : ℕ) (w : List ℕ) (r : ℕ) : Type 0 where
+  pub waits : r < count → Waits w (listed w r - 1)
+  pub none : count ≤ r → (i : ℕ) → i < count → lineBefore w (listed w i - 1) < 4_096
 
 -- `r` is `x` with line `l` noted.
 pub record Noted (x l r : ℕ) : Type 0 where
   pub first : x ≡ 0 → r ≡ l + 1
-  pub again : 0 < x → r ≡ several
+  pub same : x ≡ l + 1 → r ≡ l + 1
+  pub again : 0 < x → x ≢ l + 1 → r ≡ several
+  pub low : r ≤ several
 
 -- Line `l` is noted at line `j`.
-pub record Marked (m : Map) (class l j : ℕ) (w v : List ℕ) : Type 0 where
-  pub before : Before m w l j (lineBefore w j) → Before m w (l + 1) j (lineBefore v j)
+pub record TieNoted (l j : ℕ) (w v : List ℕ) : Type 0 where
+  pub note : ℕ
+  pub noted : Noted (noteAt w j) l note
+  pub here : lineBefore v j ≡ lineBefore w j / 4_096 * 4_096 + note
   pub kept : Kept (9_216 + j) (9_216 + j + 1) w v
-  pub tight : Follows m l j → Tight m class w l j
 
--- Line `l` is noted at every line.
-pub record MarkedAll (m : Map) (lines class limit l : ℕ) (w v : List ℕ) : Type 0 where
-  pub befores : (j : ℕ) → j < lines → Before m w l j (lineBefore w j) → Before m w (l + 1) j (lineBefore v j)
-  pub kept : Kept 9_216 10_240 w v
-  pub tight : TightFrom m class limit w l
+-- The length to line `j` is `x` now, with the note `note`; it waits, and it is on the list, which has `r` lines.
+pub record Lowered (j note count x : ℕ) (w v : List ℕ) (r : ℕ) : Type 0 where
+  pub found : lengthTo v j ≡ x
+  pub before : lineBefore v j ≡ 4_096 + note
+  pub others : (k : ℕ) → k < 1_024 → k ≢ j → (lengthTo v k ≡ lengthTo w k) × (lineBefore v k ≡ lineBefore w k)
+  pub heads : (a : ℕ) → a < 512 → firstLeaving v a ≡ firstLeaving w a
+  pub nexts : (k : ℕ) → k < 1_024 → nextLeaving v k ≡ nextLeaving w k
+  pub list : (i : ℕ) → i < 1_024 → i ≢ count → listed v i ≡ listed w i
+  pub known : lengthTo w j < far → (r ≡ count) × (listed v count ≡ listed w count)
+  pub new : far ≤ lengthTo w j → (r ≡ count + 1) × (listed v count ≡ j + 1)
+  pub kept : Kept 8_192 11_776 w v
 
--- Every line is noted at every line.
-pub record Swept (m : Map) (lines class limit : ℕ) (w v : List ℕ) : Type 0 where
-  pub tied : Tied m lines v
-  pub kept : Kept 9_216 10_240 w v
-  pub settled : Settled m class limit v lines
+-- Line `l` is taken into account at line `j`.
+pub record Relaxed (q : Task) (lines class limit l j : ℕ) (w v : List ℕ) (r : ℕ) : Type 0 where
+  pub step : Stepped q lines class limit w v r
+  pub here : Follows (q .map) l j → Counted (q .map) class limit l j v
+  pub from : lengthTo v l ≡ lengthTo w l
+  pub others : (k : ℕ) → k < lines → k ≢ j → (lengthTo v k ≡ lengthTo w k) × (noteAt v k ≡ noteAt w k)
+  pub waits : Waits w l → Waits v l
+
+-- `r` is the chain of the lines to go on to from line `l`, or 0 where that does not wait.
+pub record Ahead (m : Map) (lines l : ℕ) (w : List ℕ) (r : ℕ) : Type 0 where
+  pub waits : Waits w l → r ≡ latest m (lineAt m l .end) lines
+  pub still : lineBefore w l < 4_096 → r ≡ 0
+
+-- The search went on from line `l`, where that waited, and maybe from others.
+pub record WentOn (q : Task) (lines class limit l : ℕ) (w v : List ℕ) (r : ℕ) : Type 0 where
+  pub step : Stepped q lines class limit w v r
+  pub less : Waits w l → weight v lines < weight w lines

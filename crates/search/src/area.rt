@@ -19,7 +19,7 @@ pub const CLASS: usize = 3;
 // The greatest count of nodes.
 pub const NODES: usize = 512;
 
-// A number for each line: the length found to it, and the line before it. While lengths are brought down the latter is its place in the queue.
+// A number for each line: the length found to it, and the line before it.
 pub const LENGTHS: usize = 8_192;
 
 pub const BEFORE: usize = 9_216;
@@ -28,6 +28,15 @@ pub const BEFORE: usize = 9_216;
 pub const HEADS: usize = 10_240;
 
 pub const NEXT: usize = 10_752;
+
+// Times this, the list of the lines that a search has reached stands in the cells of `NEXT`: 1 + the line at each place, or 0.
+pub const LISTED: u32 = 2_048;
+
+// The length to a line that is not reached: one past the greatest limit.
+pub const FAR: u32 = 150_001;
+
+// Added in the cell of the line before: the line waits to be gone on from.
+pub const WAITING: u32 = 4_096;
 
 // A number for each node: the nearest line that ends there.
 pub const NEAREST: usize = 11_776;

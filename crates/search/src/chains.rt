@@ -1,6 +1,9 @@
 // The chains of the lines that leave each node, and which line can follow which.
 use crate::area::END;
+use crate::area::FAR;
 use crate::area::HEADS;
+use crate::area::LENGTHS;
+use crate::area::LISTED;
 use crate::area::NEXT;
 use crate::area::NODES;
 use crate::area::START;
@@ -16,7 +19,7 @@ ghost use Rattle.search.specs.Area.{Held, Chained, latest};
 ghost use Rattle.search.specs.Steps.{Decides};
 ghost use Rattle.search.specs.Promises.{Linked};
 
-// Makes the chains. Called once a map.
+// Makes the chains, and has no line reached. Called once a map.
 pub fn link(work: &mut [u32], lines: usize)
     requires { ⌜ ((m : Map) × Held (now work) lines m) ⌝ }
     ensures { λ _. ⌜ ((m : Map) → Held (now (work .entry)) lines m → Linked (now (work .entry)) lines m (now (work .exit))) ⌝ }
@@ -27,6 +30,7 @@ pub fn link(work: &mut [u32], lines: usize)
         let v = wide(field(work, i, START));
         work[NEXT + i] = work[HEADS + v];
         work[HEADS + v] = (i + 1) as u32;
+        work[LENGTHS + i] = FAR;
         i += 1;
     }
 }
@@ -47,7 +51,7 @@ pub fn next_leaving(work: &[u32], lines: usize, at: usize) -> usize
     ensures { λ r. ⌜ ((m : Map) → Held (now (work .entry)) lines m → Chained (now (work .entry)) lines m
         → r ≡ latest m (lineAt m (at - 1) .start) (at - 1)) ⌝ }
 {
-    wide(work[NEXT + (at - 1)])
+    wide(work[NEXT + (at - 1)] % LISTED)
 }
 
 // Whether line `j` can stand straight after line `l`. Nothing else decides that.

@@ -3,11 +3,11 @@
 // `ways::to_line`, and after `nodes::nearest_lines` by `ways::to_node`; `ways::write_lines` gives the lines of a way.
 use area::CLASS;
 use area::LENGTH;
-use area::LENGTHS;
 use area::field;
-use area::fill;
-use queue::relax_in_order;
-use sweep::sweep;
+use list::bring_down;
+use list::first_waiting;
+use list::forget;
+use relax::relax_from;
 ghost use Prim.Native.Nat.{_≤_, _<_};
 ghost use Rattle.model.specs.Map.{Map};
 ghost use Rattle.model.specs.Reading.{greatestLegLength};
@@ -17,39 +17,39 @@ ghost use Rattle.search.specs.Promises.{Found};
 
 pub mod area;
 pub mod chains;
+mod list;
 pub mod nodes;
-mod queue;
-mod sweep;
+mod relax;
 pub mod ways;
 
-// Sets the length to line `first` where its class and its length allow that, and the length to every other line past the limit.
-fn begin(work: &mut [u32], lines: usize, first: usize, class: u32, limit: u32)
+// Forgets the last search and reaches line `first` where its class and its length allow that: how many lines are on the list now.
+fn begin(work: &mut [u32], lines: usize, first: usize, class: u32, limit: u32) -> usize
     requires { ⌜ ((m : Map) × Held (now work) lines m × Chained (now work) lines m × (first < lines) × (limit ≤ greatestLegLength)) ⌝ }
-    ensures { λ _. ⌜ ((m : Map) → Held (now (work .entry)) lines m → Chained (now (work .entry)) lines m
-        → Begun m lines class first limit (now (work .entry)) (now (work .exit))) ⌝ }
+    ensures { λ r. ⌜ ((m : Map) → Held (now (work .entry)) lines m → Chained (now (work .entry)) lines m
+        → Begun m lines class first limit (now (work .entry)) (now (work .exit)) r) ⌝ }
 {
-    fill(work, LENGTHS, lines, limit + 1);
+    forget(work, lines);
     if class < field(work, first, CLASS) {
-        return;
+        return 0;
     }
     let length = field(work, first, LENGTH);
     if limit < length {
-        return;
+        return 0;
     }
-    work[LENGTHS + first] = length;
+    bring_down(work, first, 0, 0, length)
 }
 
 // The least length to each line that ways from line `first` over lines of FRC at most `class` reach within the limit, and the line before it.
-// The first part only brings lengths down. The sweeps make sure of them: the last finds none to bring down, and seldom is there another.
+// A line that comes nearer waits until it is gone on from. Where none waits the lengths are least.
 pub fn search(work: &mut [u32], lines: usize, first: usize, class: u32, limit: u32)
     requires { ⌜ ((m : Map) × Held (now work) lines m × Chained (now work) lines m × (first < lines) × (limit ≤ greatestLegLength)) ⌝ }
     ensures { λ _. ⌜ ((m : Map) → Held (now (work .entry)) lines m → Chained (now (work .entry)) lines m
         → Found m lines class first limit (now (work .entry)) (now (work .exit))) ⌝ }
 {
-    begin(work, lines, first, class, limit);
-    relax_in_order(work, lines, first, class);
-    let mut fell: u32 = 1;
-    while 0 < fell {
-        fell = sweep(work, lines, class, limit);
+    let mut count = begin(work, lines, first, class, limit);
+    let mut place: usize = 0;
+    while place < count {
+        count = relax_from(work, lines, place, count, class, limit);
+        place = first_waiting(work, lines, count);
     }
 }

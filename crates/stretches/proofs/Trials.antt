@@ -17,7 +17,7 @@ use Rattle.model.proofs.Joining.{to-known, lowest-small}
 use Rattle.depot_map.proofs.Kept.{kept-none, kept-then, kept-within}
 use Rattle.search.specs.Area.{Searched}
 use Rattle.search.specs.Promises.{Found, Ended}
-use Rattle.search.proofs.Frame.{held-kept, chained-kept}
+use Rattle.search.proofs.Frame.{held-kept}
 use Rattle.search.proofs.Carried.{searched-kept, chained-above}
 use Rattle.legs.specs.declared.ends.Leg.{Leg}
 use Rattle.legs.specs.Verdict.{LimitFor, legIn, Ready, Set}
@@ -127,7 +127,7 @@ module _ {m : Map} {lines class first limit : ℕ} {w : List ℕ} (set : Set m l
         worked = record {
           set = record {
             held = held-kept (omega arith) (e .kept) held;
-            chained = chained-above (omega arith) (e .kept) held (chained-kept (omega arith) (f .kept) (set .chained));
+            chained = chained-above (omega arith) (e .kept) held (f .chained);
           };
           kept = kept-then (kept-within (omega arith) (omega arith) (f .kept)) (kept-within (omega arith) (omega arith) (e .kept));
         };

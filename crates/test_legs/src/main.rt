@@ -1,22 +1,31 @@
-// Judges the legs of cases.bin, each on its own map, and prints a row for each: none, several, or one with its first and last line, its length and its
-// count of lines. What it prints is held to what the unrelated implementation says (oracle/pack.py).
+// Judges the legs of cases.bin, each on its own map, and prints a row for each: none, several, or one with its first and last line, its length, its
+// count of lines and the lines themselves. What it prints is held to what the unrelated implementation says (oracle/pack.py).
 use cases::Part;
 use cases::word_at;
+use console::print;
+use console::print_each;
 use depot_map::MapRead;
 use depot_map::read_map;
+use fields::leg::longest_leg;
 use legs::ends::Arrival;
 use legs::ends::Attributes;
 use legs::ends::Leg;
+use legs::ends::Reading;
 use legs::ends::Verdict;
 use legs::verdict;
 use libc::STDOUT_FILENO;
 use model::number_of;
 use search::chains::link;
+use search::search;
+use search::ways::Ways;
+use search::ways::to_line;
+use search::ways::write_lines;
 ghost use mathlib.Core.Path.{_≡_};
 ghost use Prim.Native.Nat.{_≤_, _<_};
 ghost use lib.ListN.{length};
 ghost use Rattle.model.specs.Map.{Map};
 ghost use Rattle.depot_map.specs.Area.{Holds};
+ghost use Rattle.legs.specs.Verdict.{Set};
 
 fn attributes_at(words: &[u8], at: usize) -> Attributes
     requires { ⌜ at < 1_000 ⌝ }
@@ -48,11 +57,6 @@ fn leg_of(words: &[u8]) -> Leg {
     }
 }
 
-fn print(word: &[u8], n: u64) {
-    io::write_all(STDOUT_FILENO, word);
-    io::print_decimal(STDOUT_FILENO, n);
-}
-
 fn print_verdict(found: Verdict) {
     match found {
         Verdict::Unread => {
@@ -73,25 +77,64 @@ fn print_verdict(found: Verdict) {
 // The verdict on a leg of the map that the work area holds. A leg from or to no node has no reading.
 fn judge(work: &mut [u32], nodes: u32, lines: u32, leg: Leg) -> Verdict
     requires { ⌜ ((m : Map) × Holds (now work) nodes lines m) ⌝ }
+    ensures { λ _. ⌜ ((m : Map) → Holds (now (work .entry)) nodes lines m → Set m lines (now (work .exit))) ⌝ }
 {
+    link(work, lines as usize);
     if nodes as usize <= leg.from {
         return Verdict::Unread;
     }
     if nodes as usize <= leg.to {
         return Verdict::Unread;
     }
-    link(work, lines as usize);
     verdict(work, lines as usize, leg)
 }
 
-// Prints the verdict on a leg, or why its map is refused.
+// Writes the lines of a leg's reading by a search from its first line, and answers how many they are: 0 where the search finds no such reading.
+fn write_reading(work: &mut [u32], lines: u32, leg: Leg, reading: Reading, out: &mut [u32]) -> usize
+    requires { ⌜ ((m : Map) × Set m lines (now work)) × (1_024 ≤ length (now out)) ⌝ }
+    ensures { λ r. ⌜ r ≤ 1_024 ⌝ }
+{
+    let first = reading.first;
+    let last = reading.last;
+    if lines as usize <= first {
+        return 0;
+    }
+    if lines as usize <= last {
+        return 0;
+    }
+    let limit = longest_leg(leg.distance);
+    search(work, lines as usize, first, leg.lowest, limit);
+    match to_line(work, lines as usize, first, last, limit) {
+        Ways::Nothing => 0,
+        Ways::Several(_) => 0,
+        Ways::One(end, _, count) => {
+            write_lines(work, end, &mut out[..count]);
+            count
+        }
+    }
+}
+
+// Prints the verdict on a leg, and the lines of its reading where there is one.
+fn show_leg(work: &mut [u32], nodes: u32, lines: u32, leg: Leg)
+    requires { ⌜ ((m : Map) × Holds (now work) nodes lines m) ⌝ }
+{
+    let found = judge(work, nodes, lines, leg);
+    print_verdict(found);
+    let Verdict::One(reading) = found else {
+        return;
+    };
+    let mut out = [0; 1024];
+    let n = write_reading(work, lines, leg, reading, &mut out);
+    io::write_all(STDOUT_FILENO, b":");
+    print_each(b" ", &out[..n]);
+}
+
+// Prints what is found of a leg, or why its map is refused.
 fn show(map: &[u8], words: &[u8], work: &mut [u32])
     requires { ⌜ 12_288 ≤ length (now work) ⌝ }
 {
     match read_map(map, work) {
-        MapRead::Whole(nodes, lines) => {
-            print_verdict(judge(work, nodes, lines, leg_of(words)));
-        }
+        MapRead::Whole(nodes, lines) => show_leg(work, nodes, lines, leg_of(words)),
         MapRead::Refused(why) => {
             print(b"refused ", number_of(why) as u64);
         }
@@ -125,6 +168,6 @@ fn run(bytes: &[u8], work: &mut [u32])
 fn main() {
     let mut bytes = cases::megabyte();
     let mut work = [0; 12288];
-    let n = cases::load(b"cases.bin", &mut bytes);
+    let n = console::load(b"cases.bin", &mut bytes);
     run(&bytes[..n], &mut work);
 }

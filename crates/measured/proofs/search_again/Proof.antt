@@ -6,7 +6,7 @@ use mathlib.Core.Path.{_≡_, refl}
 use lib.ListN.{length}
 use Rattle.model.specs.Map.{Map}
 use Rattle.search.specs.Area.{Held, Chained}
-use Rattle.search.proofs.Frame.{held-kept, chained-kept}
+use Rattle.search.proofs.Frame.{held-kept}
 use Rattle.measured.proofs.search_again.Statement.{statement}
 use Rattle.measured.proofs.search_again.Tie as tie
 
@@ -52,7 +52,7 @@ loop-again : tie.Need-loop-again Inv-loop μ-loop
 loop-again c =
     let v = c .before .before .before .before .before .loop .inv in
     let f = c .before .before .search .ensures (v .0) (v .1) (v .2) in
-    (v .0, held-kept (omega arith) (f .kept) (v .1), chained-kept (omega arith) (f .kept) (v .2), omega (arith, f .kept .same, v .3))
+    (v .0, held-kept (omega arith) (f .kept) (v .1), f .chained, omega (arith, f .kept .same, v .3))
 
 same-length-3 : tie.Need-same-length-3 Inv-loop μ-loop
 same-length-3 c = search needs

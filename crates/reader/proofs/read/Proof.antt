@@ -4,7 +4,8 @@ use borrow.Author.Needs.{needs}
 use mathlib.Core.Path.{sym, _∙_}
 use lib.Seq.{length-take-le}
 use Rattle.model.specs.Outcome.{workLength}
-use Rattle.reader.proofs.Answers.{area-short, called, cleared-same}
+use Rattle.model.proofs.Cleared.{cleared-same}
+use Rattle.reader.proofs.Answers.{area-short, called}
 use Rattle.reader.proofs.read.Statement.{statement}
 use Rattle.reader.proofs.read.Tie as tie
 

@@ -1,15 +1,12 @@
 -- `begin` meets its contract: the first line is past its class, past the limit, or its own length is the length to it.
-use Rattle.search.proofs.Lengths.{begun-shut, begun-far, begun}
+use Rattle.search.proofs.Going.{begun-shut, begun-far, begun}
 use native.Mathlib.Omega.{arith}
 use borrow.Author.Needs.{needs}
 use Rattle.search.proofs.begin.Statement.{statement}
 use Rattle.search.proofs.begin.Tie as tie
 
-add-fill : tie.Need-add-fill
-add-fill c = search needs
-
-fill-requires : tie.Need-fill-requires
-fill-requires c κs = search needs
+forget-requires : tie.Need-forget-requires
+forget-requires c κs = search needs
 
 field-requires : tie.Need-field-requires
 field-requires c κs = search needs
@@ -22,7 +19,7 @@ returns c =
     λ m h ch.
     let p = c .before .before .before .before .before .before .before .before .pre in
     let e = c .before .field .ensures in
-    begun-shut h ch (p .3) (p .4) (c .before .before .before .before .before .fill .ensures) (let t = c .if1 .taken in omega arith)
+    begun-shut h (p .3) (p .4) (c .before .before .before .before .before .forget .ensures m h ch) (let t = c .if1 .taken in omega arith)
 
 field-requires-2 : tie.Need-field-requires-2
 field-requires-2 c κs = search needs
@@ -35,16 +32,10 @@ returns-2 c =
     λ m h ch.
     let p = c .before .before .before .before .before .before .before .before .before .before .before .pre in
     let e = c .before .field2 .ensures in
-    begun-far h ch (p .3) (p .4) (c .before .before .before .before .before .before .before .before .fill .ensures) (let t = c .if2 .taken in omega arith)
+    begun-far h (p .3) (p .4) (c .before .before .before .before .before .before .before .before .forget .ensures m h ch) (let t = c .if2 .taken in omega arith)
 
-add-work : tie.Need-add-work
-add-work c = search needs
-
-mul-work : tie.Need-mul-work
-mul-work c = search needs
-
-slice-write-work : tie.Need-slice-write-work
-slice-write-work c = search needs
+bring-down-requires : tie.Need-bring-down-requires
+bring-down-requires c κs = search needs
 
 same-length-3 : tie.Need-same-length-3
 same-length-3 c = search needs
@@ -52,24 +43,21 @@ same-length-3 c = search needs
 returns-3 : tie.Need-returns-3
 returns-3 c =
     λ m h ch.
-    let p = c .before .before .before .before .before .before .before .before .before .before .before .pre in
-    let e = c .before .before .before .before .field .ensures in
-    begun h ch (p .3) (p .4) (c .before .before .before .before .before .before .before .before .fill .ensures) (let t = c .before .before .before .if1 .left in omega arith) (c .before .field2 .ensures) (c .if2 .left)
+    let p = c .before .before .before .before .before .before .before .before .before .before .before .before .before .before .before .pre in
+    let e = c .before .before .before .before .before .before .before .before .field .ensures in
+    begun h (p .3) (p .4) (c .before .before .before .before .before .before .before .before .before .before .before .before .forget .ensures m h ch) (let t = c .before .before .before .before .before .before .before .if1 .left in omega arith) (c .before .before .before .before .before .field2 .ensures) (c .before .before .before .before .if2 .left) (c .before .before .bring-down .ensures)
 
 pub begin-spec : {M : Type 1} → statement M
 begin-spec =
     tie.close
     (tie.spec
-    add-fill
-    fill-requires
+    forget-requires
     field-requires
     same-length
     returns
     field-requires-2
     same-length-2
     returns-2
-    add-work
-    mul-work
-    slice-write-work
+    bring-down-requires
     same-length-3
     returns-3)

@@ -1,88 +1,89 @@
--- `search` meets its contract: the sweeps go on until one finds nothing to bring down, and each that does brings the sum of the lengths down.
-use Rattle.search.proofs.Lengths.{settled, Sweeps, sweeps-step, hint-then, hint-kept}
-use Rattle.depot_map.proofs.Kept.{kept-none, kept-then, kept-within}
-use Rattle.model.specs.Map.{Map}
-use Rattle.search.specs.Area.{Held, Chained}
-use Rattle.search.specs.Steps.{Task, Underway, Hinted, sum, task}
-use Prim.Native.Nat.{_+_}
+-- `search` meets its contract: it goes on until no line waits, and each turn makes the lengths or the lines that wait less.
 use mathlib.Core.Path.{_∙_}
+use Rattle.search.specs.Steps.{Task, task, Underway, weight, Stepped, Sought, Based}
+use Rattle.depot_map.proofs.Kept.{kept-then}
+use Rattle.search.proofs.Frame.{few}
+use Rattle.search.proofs.Counting.{stepped-none, stepped-then}
+use Rattle.search.proofs.Lengths.{settled, tied}
 use native.Mathlib.Omega.{arith}
 use borrow.Author.Needs.{needs}
 use Rattle.search.proofs.search.Statement.{statement}
 use Rattle.search.proofs.search.Tie as tie
 
 abbrev Inv-loop : tie.InvT-loop
-Inv-loop work₀ lines first class limit fell₀ work fell =
-    (q : Task) → Underway q lines class work₀ → Sweeps q lines class limit work₀ work fell
+Inv-loop work₀ lines first class limit count₀ place₀ work count place =
+    Sought count work place × ((q : Task) → Underway q lines class limit count₀ work₀ → Stepped q lines class limit work₀ work count)
 
 abbrev μ-loop : tie.MeasureT-loop
-μ-loop work₀ lines first class limit fell₀ work fell = sum work lines + fell
+μ-loop work₀ lines first class limit count₀ place₀ work count place = weight work lines
 
--- Where the sweeps begin.
-hinted : (c : tie.After-relax-in-order Inv-loop μ-loop) (m : Map) →
+-- The search is under way at the start of each turn.
+state : (c : tie.In-loop Inv-loop μ-loop) →
     let a = c .before .before .before .before .before .before .before .args in
-    Held (a .work .now) (a .lines) m → Chained (a .work .now) (a .lines) m →
-    Hinted (task m (a .first) (a .limit)) (a .lines) (a .class) (a .work .now) (c .relax-in-order .last .0)
-hinted c m h ch =
-    let b = c .before .before .before .before .begin .ensures m h ch in
-    let a = c .relax-in-order .ensures (task m _ _) (b .underway) in
-    record { underway = a .underway; kept = kept-then (kept-within (omega arith) (omega arith) (b .kept)) (a .kept) }
+    let k = c .before .loop in
+    (q : Task) × Underway q (a .lines) (a .class) (a .limit) (k .count) (k .work)
+state c =
+    let p = c .before .before .before .before .before .before .before .pre in
+    let q = task (p .0) (c .before .before .before .before .before .before .before .args .first) in
+    (q, c .before .loop .inv .1 q (c .before .before .before .before .begin .ensures (p .0) (p .1) (p .2) .underway) .underway)
 
 begin-requires : tie.Need-begin-requires Inv-loop μ-loop
 begin-requires c κs = search needs
 
-relax-in-order-requires : tie.Need-relax-in-order-requires Inv-loop μ-loop
-relax-in-order-requires c κs =
-    let p = c .before .before .before .before .before .before .pre in
-    (_, c .before .before .before .begin .ensures (p .0) (p .1) (p .2) .underway, p .3)
-
 loop-holds : tie.Need-loop-holds Inv-loop μ-loop
-loop-holds c = λ q g. record { hinted = hint-kept g kept-none; tied = λ z. absurd (omega arith); settled = λ z. absurd (omega arith) }
+loop-holds c =
+    let p = c .before .before .before .before .before .pre in
+    let b = c .before .before .begin .ensures (p .0) (p .1) (p .2) in
+    (record { waits = λ z. b .waits 0 z; none = λ z i i<. absurd (omega arith) }, λ q g. stepped-none g)
 
-sweep-requires : tie.Need-sweep-requires Inv-loop μ-loop
-sweep-requires c κs =
-    let p = c .before .before .before .before .before .before .before .before .before .before .before .before .pre in
-    let a = c .before .before .before .before .before .before .before .before .before .before .before .before .args in
-    let q = task (p .0) (a .first) (a .limit) in
-    (q, c .before .before .loop .inv q (hinted (c .before .before .before .before .before) (p .0) (p .1) (p .2) .underway) .hinted .underway, omega arith)
+relax-from-requires : tie.Need-relax-from-requires Inv-loop μ-loop
+relax-from-requires c κs = (c .before .loop-test .taken, state (c .before))
+
+first-waiting-requires : tie.Need-first-waiting-requires Inv-loop μ-loop
+first-waiting-requires c κs =
+    let s = state (c .before .before .before .before .before) in
+    let g = c .before .before .before .relax-from .ensures (s .0) (s .1) .step .underway in
+    (few (g .held), g .held .full, g .listing)
 
 loop-less : tie.Need-loop-less Inv-loop μ-loop
 loop-less c =
-    let p = c .before .before .before .before .before .before .before .before .before .before .before .before .before .before .before .pre in
-    let a = c .before .before .before .before .before .before .before .before .before .before .before .before .before .before .before .args in
-    let q = task (p .0) (a .first) (a .limit) in
-    let s = c .before .before .before .before .before .loop .inv q (hinted (c .before .before .before .before .before .before .before .before) (p .0) (p .1) (p .2) .underway) in
-    let m = c .before .before .sweep .ensures q (s .hinted .underway) in
-    omega arith
+    let s = state (c .before .before .before .before .before .before) in
+    c .before .before .before .before .relax-from .ensures (s .0) (s .1) .less (c .before .before .before .before .before .before .before .loop .inv .0 .waits (c .before .before .before .before .before .before .loop-test .taken))
 
 loop-again : tie.Need-loop-again Inv-loop μ-loop
-loop-again c =
-    λ q g.
-    let s = c .before .before .before .before .before .loop .inv q g in
-    sweeps-step s (c .before .before .sweep .ensures q (s .hinted .underway))
+loop-again c = (
+  c .first-waiting .ensures,
+  λ q g.
+      let s = c .before .before .before .before .before .before .before .loop .inv .1 q g in
+      stepped-then s (c .before .before .before .before .relax-from .ensures q (s .underway) .step),
+)
 
 same-length : tie.Need-same-length Inv-loop μ-loop
 same-length c =
-    let p = c .before .before .before .before .before .before .before .before .before .before .before .pre in
-    let a = hinted (c .before .before .before .before) (p .0) (p .1) (p .2) in
-    c .before .loop .inv _ (a .underway) .hinted .kept .same ∙ a .kept .same
+    let p = c .before .before .before .before .before .before .before .pre in
+    let b = c .before .before .before .before .begin .ensures (p .0) (p .1) (p .2) in
+    c .before .loop .inv .1 _ (b .underway) .kept .same ∙ b .kept .same
 
 returns : tie.Need-returns Inv-loop μ-loop
 returns c =
     λ m h ch.
-    let a = hinted (c .before .before .before .before) m h ch in
-    let s = c .before .loop .inv _ (a .underway) in
-    let g = s .hinted .underway in
+    let a = c .before .before .before .before .before .before .before .args in
+    let inside = c .before .before .before .before .before .before .before .pre .3 in
+    let b = c .before .before .before .before .begin .ensures m h ch in
+    let l = c .before .loop .inv in
+    let s = l .1 _ (b .underway) in
+    let g = s .underway in
+    let based : Based m (a .class) (a .first) (a .limit) (c .before .loop .work) = λ ok near. omega (arith, b .based ok near, s .fell _ inside) in
     record {
       searched = record {
         held = g .held;
-        inside = g .inside;
+        inside = inside;
         small = g .small;
-        capped = g .capped;
-        found = settled g (s .settled (omega arith));
-        tied = s .tied (omega arith);
+        found = settled g based (l .0) (c .loop-test .left);
+        tied = tied g based (l .0) (c .loop-test .left);
       };
-      kept = hint-then a (s .hinted) .kept;
+      chained = g .chained;
+      kept = kept-then (b .kept) (s .kept);
     }
 
 pub search-spec : {M : Type 1} → statement M
@@ -92,9 +93,9 @@ search-spec =
     Inv-loop
     μ-loop
     begin-requires
-    relax-in-order-requires
     loop-holds
-    sweep-requires
+    relax-from-requires
+    first-waiting-requires
     loop-less
     loop-again
     same-length

@@ -1,32 +1,49 @@
 -- `judge` is safe: the work area holds the map, and after `link` its chains.
 use native.Mathlib.Omega.{arith}
 use borrow.Author.Needs.{needs}
+use Prim.Native.Nat.{ℕ}
+use mathlib.Core.List.{List}
+use Rattle.model.specs.Map.{Map}
+use Rattle.depot_map.specs.Area.{Holds}
+use Rattle.search.specs.Promises.{Linked}
 use Rattle.search.proofs.Frame.{held, held-kept}
+use Rattle.legs.specs.Verdict.{Set}
 use Rattle.test_legs.proofs.judge.Statement.{statement}
 use Rattle.test_legs.proofs.judge.Tie as tie
 
-returns : tie.Need-returns
-returns c = search needs
-
-returns-2 : tie.Need-returns-2
-returns-2 c = search needs
+-- After `link` the area is ready for searches.
+linked : {w v : List ℕ} {nodes lines : ℕ} {m : Map} → Holds w nodes lines m → Linked w lines m v → Set m lines v
+linked h l = record { held = held-kept (omega arith) (l .kept) (held h); chained = l .chained }
 
 link-requires : tie.Need-link-requires
-link-requires c κs = let p = c .before .before .before .before .before .before .pre in (p .0, held (p .1))
-
-verdict-requires : tie.Need-verdict-requires
-verdict-requires c κs =
-    let p = c .before .before .before .before .before .before .before .before .before .before .pre in
-    let h = held (p .1) in
-    let l = c .before .before .before .link .ensures (p .0) h in
-    (p .0, record { held = held-kept (omega arith) (l .kept) h; chained = l .chained }, omega (arith, c .before .before .before .before .before .before .before .if1 .left, p .1 .node-count), omega (arith, c .before .before .before .before .before .if2 .left, p .1 .node-count))
+link-requires c κs = let p = c .before .before .pre in (p .0, held (p .1))
 
 same-length : tie.Need-same-length
 same-length c = search needs
 
+returns : tie.Need-returns
+returns c m h = linked h (c .before .before .before .before .link .ensures m (held h))
+
+same-length-2 : tie.Need-same-length-2
+same-length-2 c = search needs
+
+returns-2 : tie.Need-returns-2
+returns-2 c m h = linked h (c .before .before .before .before .before .before .link .ensures m (held h))
+
+verdict-requires : tie.Need-verdict-requires
+verdict-requires c κs =
+    let p = c .before .before .before .before .before .before .before .before .before .before .pre in
+    let h = p .1 in
+    (p .0, linked h (c .before .before .before .before .before .before .before .link .ensures (p .0) (held h)), omega (arith, c .before .before .before .if1 .left, h .node-count), omega (arith, c .before .if2 .left, h .node-count))
+
+same-length-3 : tie.Need-same-length-3
+same-length-3 c = search needs
+
 returns-3 : tie.Need-returns-3
-returns-3 c = search needs
+returns-3 c m h =
+    c .before .before .verdict .ensures m (linked h (c .before .before .before .before .before .before .before .before .before .before .link .ensures m (held h)))
+    (omega (arith, c .before .before .before .before .before .before .if1 .left, h .node-count)) (omega (arith, c .before .before .before .before .if2 .left, h .node-count)) .set
 
 pub judge-spec : {M : Type 1} → statement M
 judge-spec =
-    tie.close (tie.spec returns returns-2 link-requires verdict-requires same-length returns-3)
+    tie.close (tie.spec link-requires same-length returns same-length-2 returns-2 verdict-requires same-length-3 returns-3)

@@ -13,13 +13,10 @@ enum-known-nodes c = search needs
 leg-of-requires : tie.Need-leg-of-requires
 leg-of-requires c κs = search needs
 
-judge-requires : tie.Need-judge-requires
-judge-requires c κs =
+show-leg-requires : tie.Need-show-leg-requires
+show-leg-requires c κs =
     let w = read-whole (c .before .before .before .before .before .before .before .read-map .ensures) (c .before .before .before .nodes .given .1) in
     (w .map, w .held)
-
-print-verdict-requires : tie.Need-print-verdict-requires
-print-verdict-requires c κs = search needs
 
 enum-known-why : tie.Need-enum-known-why
 enum-known-why c = search needs
@@ -55,8 +52,7 @@ show-spec =
     read-map-requires
     enum-known-nodes
     leg-of-requires
-    judge-requires
-    print-verdict-requires
+    show-leg-requires
     enum-known-why
     slice-aggregate-print
     number-of-requires

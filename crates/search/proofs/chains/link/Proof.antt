@@ -1,8 +1,7 @@
 -- `link` meets its contract: after `i` turns the chains of the lines below `i` are made.
-use Rattle.search.proofs.Leaving.{link-none, link-step, start-small}
+use Rattle.search.proofs.Leaving.{Linking, link-none, link-step, linked, start-small}
 use Rattle.depot_map.proofs.Kept.{kept-then, kept-within}
 use Rattle.search.proofs.Frame.{held-kept, few}
-use Rattle.search.specs.Promises.{Linked}
 use Rattle.search.specs.Area.{Held}
 use Rattle.model.specs.Map.{Map}
 use lib.ListN.{length, getD, length-set}
@@ -15,7 +14,7 @@ use Rattle.search.proofs.chains.link.Tie as tie
 
 abbrev Inv-loop : tie.InvT-loop
 Inv-loop work₀ lines i₀ work i =
-    (i ≤ lines) × (length work ≡ length work₀) × ((m : Map) → Held work₀ lines m → Linked work₀ i m work)
+    (i ≤ lines) × (length work ≡ length work₀) × ((m : Map) → Held work₀ lines m → Linking work₀ i m work)
 
 abbrev μ-loop : tie.MeasureT-loop
 μ-loop work₀ lines i₀ work i = lines - i
@@ -85,6 +84,15 @@ mul-work-3 c = let k = turn (c .before) in omega arith
 slice-write-work-2 : tie.Need-slice-write-work-2 Inv-loop μ-loop
 slice-write-work-2 c = let k = turn (c .before) in simp length-set (omega arith)
 
+add-work-5 : tie.Need-add-work-5 Inv-loop μ-loop
+add-work-5 c = let k = turn (c .before) in omega arith
+
+mul-work-4 : tie.Need-mul-work-4 Inv-loop μ-loop
+mul-work-4 c = let k = turn (c .before) in omega arith
+
+slice-write-work-3 : tie.Need-slice-write-work-3 Inv-loop μ-loop
+slice-write-work-3 c = let k = turn (c .before) in simp length-set (omega arith)
+
 add-i : tie.Need-add-i Inv-loop μ-loop
 add-i c = let k = turn (c .before) in omega arith
 
@@ -107,7 +115,7 @@ returns c =
     let k = c .before .before .before .before .fill .ensures .kept in
     let e : _≡_ {A = ℕ} (c .before .loop .i) (c .before .before .before .before .before .before .before .args .lines) = omega arith in
     let s = rw e at (c .before .loop .inv .2 m (held-kept (omega arith) k h)) in
-    record { chained = s .chained; kept = kept-then (kept-within (omega arith) (omega arith) k) (s .kept) }
+    record { chained = linked s .chained; kept = kept-then (kept-within (omega arith) (omega arith) k) (s .kept) }
 
 pub link-spec : {M : Type 1} → statement M
 link-spec =
@@ -130,6 +138,9 @@ link-spec =
     add-work-4
     mul-work-3
     slice-write-work-2
+    add-work-5
+    mul-work-4
+    slice-write-work-3
     add-i
     loop-less
     loop-again

@@ -1,0 +1,31 @@
+// Reads map.bin and ref.bin in the folder it is run in, and prints what the reader answers (paper 01, "The tie at the ridge").
+use console::load;
+use console::print_each;
+use console::show;
+use libc::STDOUT_FILENO;
+use model::ReadAnswer;
+use reader::read;
+
+// Prints the answer for a map and a reference, and on a row each the lines that it counts.
+fn run(map: &[u8], reference: &[u8]) {
+    let mut work = [0; 12288];
+    let mut lines = [0; 1024];
+    let answer = read(map, reference, &mut work, &mut lines);
+    show(answer);
+    if let ReadAnswer::Read(count, _, _) = answer {
+        print_each(b"\n", &lines[..count]);
+    }
+    io::write_all(STDOUT_FILENO, b"\n");
+}
+
+// A file that is longer than its buffer is cut, and still gets the answer of its whole contents.
+// A map that is read to its end has 17,412 bytes at most: 2 for each count, 8 for each of 512 nodes, 13 for each of 1,024 lines. So in 65,536 bytes there
+// is a faulty number that starts before byte 17,412, or there are bytes left over. A number that goes on to the end of the buffer has over 5 bytes, and is
+// faulty however it ends. Either way what comes behind the buffer does not count. A reference of 512 bytes is too long, and so is any longer one.
+fn main() {
+    let mut map = io::large_buffer();
+    let mut reference = [0; 512];
+    let map_length = load(b"map.bin", &mut map);
+    let reference_length = load(b"ref.bin", &mut reference);
+    run(&map[..map_length], &reference[..reference_length]);
+}

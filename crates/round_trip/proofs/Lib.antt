@@ -1,0 +1,2 @@
+-- Demand 3 over the definitions and the two contracts make the claim about calls.
+pub mod Handed

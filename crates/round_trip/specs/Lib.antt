@@ -1,0 +1,2 @@
+-- Demand 3 as a claim about calls.
+pub mod Trip

@@ -1,0 +1,74 @@
+// The list of the lines that a search has reached, in the order in which it reached them. Some of them wait to be gone on from.
+use crate::area::BEFORE;
+use crate::area::FAR;
+use crate::area::LENGTHS;
+use crate::area::LISTED;
+use crate::area::NEXT;
+use crate::area::WAITING;
+use crate::area::wide;
+ghost use mathlib.Core.Path.{_≡_};
+ghost use Prim.Native.Nat.{ℕ, _≤_, _<_};
+ghost use lib.ListN.{length};
+ghost use Rattle.model.specs.Map.{Map};
+ghost use Rattle.model.specs.Outcome.{workLength};
+ghost use Rattle.search.specs.Area.{Held, Chained, Listing, listed, lengthTo, far};
+ghost use Rattle.search.specs.Steps.{Forgotten, Sought, Lowered};
+
+// 1 + the line at place `i` of the list, or 0 past its end.
+pub fn line_at(work: &[u32], i: usize) -> usize
+    requires { ⌜ (i < 1_024) × (workLength ≤ length (now work)) ⌝ }
+    ensures { λ r. ⌜ r ≡ listed (now (work .entry)) i ⌝ }
+{
+    wide(work[NEXT + i] / LISTED)
+}
+
+// Forgets what the last search found: no line is reached, and the list is empty.
+pub fn forget(work: &mut [u32], lines: usize)
+    requires { ⌜ ((m : Map) × Held (now work) lines m × Chained (now work) lines m) ⌝ }
+    ensures { λ _. ⌜ ((m : Map) → Held (now (work .entry)) lines m → Chained (now (work .entry)) lines m
+        → Forgotten m lines (now (work .entry)) (now (work .exit))) ⌝ }
+{
+    let mut i = 0;
+    while i < lines {
+        let x = line_at(work, i);
+        if x == 0 {
+            return;
+        }
+        work[LENGTHS + (x - 1)] = FAR;
+        work[NEXT + i] = work[NEXT + i] % LISTED;
+        i += 1;
+    }
+}
+
+// The length to line `j` comes down to `to`, with `note` for the line before it. It waits, and is put on the list of `count` lines unless it is there:
+// how many lines there are now.
+pub fn bring_down(work: &mut [u32], j: usize, note: u32, count: usize, to: u32) -> usize
+    requires { ⌜ (j < 1_024) × (note < 2_000) × (workLength ≤ length (now work)) × (count ≤ 1_024) ⌝ }
+    requires { ⌜ (far ≤ lengthTo (now work) j → count < 1_024) ⌝ }
+    ensures { λ r. ⌜ Lowered j note count to (now (work .entry)) (now (work .exit)) r ⌝ }
+{
+    let found = work[LENGTHS + j];
+    work[LENGTHS + j] = to;
+    work[BEFORE + j] = WAITING + note;
+    if found < FAR {
+        return count;
+    }
+    work[NEXT + count] = work[NEXT + count] % LISTED + LISTED * (j + 1) as u32;
+    count + 1
+}
+
+// The place of the first line of the list that waits; `count` where none does.
+pub fn first_waiting(work: &[u32], lines: usize, count: usize) -> usize
+    requires { ⌜ (lines ≤ 1_024) × (workLength ≤ length (now work)) × Listing (now work) lines count ⌝ }
+    ensures { λ r. ⌜ Sought count (now (work .entry)) r ⌝ }
+{
+    let mut i = 0;
+    while i < count {
+        let l = line_at(work, i) - 1;
+        if WAITING <= work[BEFORE + l] {
+            return i;
+        }
+        i += 1;
+    }
+    count
+}

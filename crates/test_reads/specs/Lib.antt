@@ -1,0 +1,2 @@
+-- What stands in the buffers that a call is lent.
+pub mod Marks

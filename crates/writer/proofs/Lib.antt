@@ -1,0 +1,2 @@
+-- Laws of the writer's answers.
+pub mod Answers

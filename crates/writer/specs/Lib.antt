@@ -1,0 +1,2 @@
+-- What the writer's parts answer.
+pub mod Answer

@@ -1,0 +1,119 @@
+// The writer of references (paper 01): `write`, and its parts in the order in which they are asked.
+use depot_map::MapRead;
+use depot_map::area::WORK_LENGTH;
+use depot_map::area::clear;
+use depot_map::read_map;
+use model::Refusal;
+use model::WriteAnswer;
+use search::chains::link;
+use stretches::cuts::Cut;
+use stretches::cuts::choose;
+use stretches::leg_tests::test_legs;
+use stretches::put::put;
+use stretches::stretch::Checked;
+use stretches::stretch::check;
+ghost use Prim.Native.Nat.{_≤_};
+ghost use lib.ListN.{length};
+ghost use Rattle.model.specs.Map.{Map, decode};
+ghost use Rattle.model.specs.Lines.{Connected};
+ghost use Rattle.model.specs.Stretch.{checkStretch};
+ghost use Rattle.model.specs.Outcome.{WriteOn, WriteStretch, WriteMap, workLength};
+ghost use Rattle.model.specs.Call.{WriteCall};
+ghost use Rattle.legs.specs.Verdict.{Set};
+ghost use Rattle.stretches.specs.Stretch.{stretchOf};
+ghost use Rattle.stretches.specs.Put.{Inside};
+ghost use Rattle.stretches.specs.Written.{WrittenOn};
+ghost use Rattle.writer.specs.Answer.{Answered};
+
+// A number for each leg of a stretch of up to 64 lines, and one for each of its positions.
+const LEG_TESTS: usize = 4_160;
+
+const CUTS: usize = 65;
+
+// The answer for what remains of a stretch.
+fn on_part(
+    work: &mut [u32],
+    lines: usize,
+    part: &[u32],
+    pos: u32,
+    neg: u32,
+    bytes: &mut [u8],
+) -> WriteAnswer
+    requires { ⌜ length (now part) ≤ 64 ⌝ }
+    requires { ⌜ ((m : Map) × Set m lines (now work) × Connected m (now part) × Inside m (stretchOf (now part) pos neg)) ⌝ }
+    ensures { λ r. ⌜ ((m : Map) → Set m lines (now (work .entry)) → Connected m (now (part .entry)) → Inside m (stretchOf (now (part .entry)) pos neg)
+        → WrittenOn m (stretchOf (now (part .entry)) pos neg) (now (bytes .entry)) (now (bytes .exit)) r) ⌝ }
+{
+    let mut table = [0; LEG_TESTS];
+    test_legs(work, lines, part, &mut table);
+    let mut cuts = [0; CUTS];
+    match choose(&table, part.len(), &mut cuts) {
+        Cut::Nowhere => WriteAnswer::Refused(Refusal::NoChoice),
+        Cut::Legs(legs) => put(work, lines, part, &cuts, legs, pos, neg, bytes),
+    }
+}
+
+// The answer on a map that stands in the work area, ready for searches.
+fn on_stretch(
+    work: &mut [u32],
+    lines: usize,
+    stretch: &[u32],
+    pos: u32,
+    neg: u32,
+    bytes: &mut [u8],
+) -> WriteAnswer
+    requires { ⌜ ((m : Map) × Set m lines (now work)) ⌝ }
+    ensures { λ r. ⌜ ((m : Map) → Set m lines (now (work .entry))
+        → Answered (WriteStretch m (checkStretch m (stretchOf (now (stretch .entry)) pos neg)) (length (now (bytes .entry)))) (now (bytes .entry)) (now (bytes .exit)) r) ⌝ }
+{
+    match check(work, lines, stretch, pos, neg) {
+        Checked::Remains(left) => {
+            let from = left.from;
+            let to = left.to;
+            on_part(work, lines, &stretch[from..to], left.pos, left.neg, bytes)
+        }
+        Checked::Refused(why) => WriteAnswer::Refused(why),
+    }
+}
+
+// The answer where the work area is large enough.
+fn on_map(
+    map: &[u8],
+    stretch: &[u32],
+    pos: u32,
+    neg: u32,
+    work: &mut [u32],
+    bytes: &mut [u8],
+) -> WriteAnswer
+    requires { ⌜ workLength ≤ length (now work) ⌝ }
+    ensures { λ r. ⌜ Answered (WriteMap (decode (now (map .entry))) (stretchOf (now (stretch .entry)) pos neg) (length (now (bytes .entry)))) (now (bytes .entry)) (now (bytes .exit)) r ⌝ }
+{
+    match read_map(map, work) {
+        MapRead::Whole(_, count) => {
+            let lines = count as usize;
+            link(work, lines);
+            on_stretch(work, lines, stretch, pos, neg, bytes)
+        }
+        MapRead::Refused(why) => WriteAnswer::Refused(why),
+    }
+}
+
+// Writes a stretch of lines with its offsets, in decimetres, on a map. An answer that it is written has the count of bytes, which stand first in
+// `bytes`. The work area needs 12,288 numbers. They are 0 afterwards.
+pub fn write(
+    map: &[u8],
+    stretch: &[u32],
+    pos: u32,
+    neg: u32,
+    work: &mut [u32],
+    bytes: &mut [u8],
+) -> WriteAnswer
+    ensures { λ r. ⌜ WriteCall (now (map .entry)) (stretchOf (now (stretch .entry)) pos neg) (now (work .entry)) (now (bytes .entry)) r (now (work .exit)) (now (bytes .exit)) ⌝ }
+{
+    if work.len() < WORK_LENGTH {
+        return WriteAnswer::Refused(Refusal::WorkAreaShort);
+    }
+    let given = on_map(map, stretch, pos, neg, &mut work[..WORK_LENGTH], bytes);
+    clear(work);
+    given
+}

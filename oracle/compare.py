@@ -1,0 +1,75 @@
+"""Compares the plain Rust implementation (bench) with this one, on cases of every kind or of one.
+
+Usage: python3 oracle/compare.py ANSWER COUNT [--kind KIND] [--seed N]. ANSWER is the program of bench/src/bin/answer.rs.
+Cases with different answers are printed, and the status is 1.
+"""
+
+import argparse
+import subprocess
+import sys
+
+from cases import KINDS
+
+
+def hexadecimal(data):
+    return data.hex() or "-"
+
+
+def marks_words(marks):
+    return [] if marks is None else [marks.frc, marks.fow, marks.sector]
+
+
+def map_call(case):
+    return [hexadecimal(case.map_bytes)]
+
+
+def leg_call(case):
+    leg = case.leg
+    return [hexadecimal(case.map_bytes), leg.start_node, leg.end_node, *marks_words(leg.first_marks),
+            leg.lowest_frc, leg.distance_byte, *marks_words(leg.last_marks)]
+
+
+def read_call(case):
+    given = case.given
+    return [hexadecimal(given.map_bytes), hexadecimal(given.reference), given.work_length, given.line_room]
+
+
+def write_call(case):
+    given = case.given
+    return [hexadecimal(given.map_bytes), given.pos, given.neg, given.work_length, given.byte_room, *given.lines]
+
+
+CALLS = {"map": map_call, "leg": leg_call, "read": read_call, "write": write_call}
+
+
+def differences(answer_program, kind, seed, count):
+    """The cases of a kind that the program answers otherwise, each with that answer."""
+    cases = KINDS[kind](seed, count)
+    calls = "".join(" ".join(map(str, [kind, *CALLS[kind](case)])) + "\n" for case in cases)
+    ran = subprocess.run([answer_program], input=calls, check=True, capture_output=True, text=True)
+    answers = ran.stdout.splitlines()
+    if len(answers) != len(cases):
+        raise RuntimeError(f"{len(cases)} calls, {len(answers)} answers")
+    # The expected outcome stands last in a case's row.
+    return [(case, answer) for case, answer in zip(cases, answers) if answer != case.row()[-1]]
+
+
+def main():
+    parser = argparse.ArgumentParser(description="Compare the plain Rust implementation with the oracle.")
+    parser.add_argument("answer")
+    parser.add_argument("count", type=int)
+    parser.add_argument("--kind", choices=KINDS)
+    parser.add_argument("--seed", type=int, default=1)
+    arguments = parser.parse_args()
+    differ = False
+    for kind in [arguments.kind] if arguments.kind else KINDS:
+        found = differences(arguments.answer, kind, arguments.seed, arguments.count)
+        print(f"{kind}: {arguments.count} cases, {len(found)} differ")
+        for case, answer in found:
+            print(" | ".join(case.row() + [answer]))
+            differ = True
+    sys.exit(1 if differ else 0)
+
+
+if __name__ == "__main__":
+    main()
