@@ -18,7 +18,8 @@ use Rattle.model.specs.Outcome.{WriteOutcome, written, workLength, WriteStretch
 use Rattle.model.specs.Call.{bytesAfter, WriteAnswers, bytes, refusal}
 use Rattle.model.specs.Host.{hostStretch, HostWritten, hostWritten, hostBytesAfter, HostWriteCall}
 use Rattle.model.proofs.Demand3.{written-bytes}
-use Rattle.openlr.specs.Host.{stretchLines, stretchOf, WriteFrom}
+use Rattle.stretches.specs.Stretch.{stretchOf}
+use Rattle.openlr.specs.Host.{stretchLines, WriteFrom}
 
 -- ---- long stretches
 

@@ -8,8 +8,9 @@ use Rattle.model.specs.declared.WriteAnswer.{WriteAnswer}
 use Rattle.model.specs.Stretch.{Stretch}
 use Rattle.model.specs.Outcome.{ReadOutcome, workLength, Reads, WriteOutcome, Writes}
 use Rattle.model.specs.Call.{ReadAnswers, linesAfter, WriteAnswers, bytesAfter}
-use Rattle.model.specs.Host.{HostRead, hostStretch}
+use Rattle.model.specs.Host.{HostRead, HostWritten, hostStretch}
 use Rattle.openlr.specs.declared.Lines.{Lines}
+use Rattle.openlr.specs.declared.Written.{Written}
 
 -- `struct openlr_lines`.
 unfoldable pub asRead : Lines → HostRead
@@ -24,13 +25,13 @@ asRead r =
       negGreatest = r .«neg_greatest»;
     }
 
+-- `struct openlr_written`.
+unfoldable pub asWritten : Written → HostWritten
+asWritten r = record { refusal = r .refusal; bytes = r .bytes }
+
 -- The line numbers of a stretch that is given as bytes.
 abbrev pub stretchLines : List ℕ → List ℕ
 stretchLines bytes = hostStretch bytes 0 0 .lines
-
--- A stretch of these lines.
-abbrev pub stretchOf : List ℕ → ℕ → ℕ → Stretch
-stretchOf lines pos neg = record { lines = lines; pos = pos; neg = neg }
 
 -- A call of the reader that holds its work area itself: the answer, and the line numbers before and after it.
 pub record ReadInto (mb ref lines : List ℕ) (a : ReadAnswer) (lines′ : List ℕ) : Type 0 where
