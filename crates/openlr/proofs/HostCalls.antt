@@ -1,0 +1,92 @@
+-- A host's calls, put together from those of the reader and the writer.
+use Prim.Native.Nat.{ℕ, _/_, _≤_, min}
+use mathlib.Core.Path.{_≡_, sym, ap, subst, _∙_}
+use mathlib.Core.List.{List, _++_}
+use native.Mathlib.Omega.{arith}
+use lib.ListN.{length, take, drop, length-append}
+use lib.Seq.{take-at, take-append-le, length-take-le}
+use Rattle.model.specs.declared.Refusal.{Refusal}
+use Rattle.model.specs.declared.Span.{Span}
+use Rattle.model.specs.declared.ReadAnswer.{ReadAnswer}
+use Rattle.model.specs.declared.ReadAnswer.the-variants.{Read, Refused}
+use Rattle.model.specs.Refusal.{refusalOf}
+use Rattle.model.specs.Outcome.{ReadOutcome, read, workLength, Reads}
+use Rattle.model.specs.Call.{placed, linesAfter, ReadAnswers, lines, refusal}
+use Rattle.model.specs.Host.{wordBytes, hostRoom, HostRead, hostRead, hostLinesAfter, HostReadCall}
+use Rattle.openlr.specs.Host.{ReadInto}
+
+-- ---- the reader
+
+-- The room for line numbers, where the host's buffer and the numbers are lent.
+pub room-is : (ns bs : List ℕ) (room : ℕ) → room ≡ min (length bs / 4) (length ns) → length ns ≡ 1_024 → length (take room ns) ≡ hostRoom (length bs)
+unfolding hostRoom
+room-is ns bs room e n = length-take-le room ns (omega (arith, e)) ∙ e ∙ ap (min (length bs / 4)) n
+
+told-read : {a : ReadAnswer} {o : ReadOutcome} {count : ℕ} {pos neg : Span} → ReadAnswers a o → a ≡ Read count pos neg →
+    (ls : List ℕ) × (o ≡ read ls pos neg) × (count ≡ length ls)
+told-read (lines {ls = ls}) e = (ls, cc, cc)
+told-read refusal e = absurd (let z : _≡_ {A = ℕ} 0 1 = cc in omega arith)
+
+told-refused : {a : ReadAnswer} {o : ReadOutcome} {why : Refusal} → ReadAnswers a o → a ≡ Refused why → o ≡ ReadOutcome.refused (refusalOf why)
+told-refused lines e = absurd (let z : _≡_ {A = ℕ} 0 1 = cc in omega arith)
+told-refused refusal e = cc
+
+-- What the host gets where a reference is read.
+abbrev accepted : ℕ → Span → Span → HostRead
+accepted count pos neg =
+    record {
+      refusal = 0;
+      place = 0;
+      lines = count;
+      posLeast = pos .least;
+      posGreatest = pos .greatest;
+      negLeast = neg .least;
+      negGreatest = neg .greatest;
+    }
+
+module _ {mb ref front front′ : List ℕ} {a : ReadAnswer} (d : ReadInto mb ref front a front′) where
+  module _ {count : ℕ} {pos neg : Span} (e : a ≡ Read count pos neg) (kept : length front′ ≡ length front) where
+    ls : List ℕ
+    ls = told-read (d .answers) e .0
+
+    outcome-is : d .outcome ≡ read ls pos neg
+    unfolding ls
+    outcome-is = told-read (d .answers) e .1
+
+    count-is : count ≡ length ls
+    unfolding ls
+    count-is = told-read (d .answers) e .2
+
+    stands : front′ ≡ ls ++ drop (length ls) front
+    unfolding placed linesAfter
+    stands = d .lines-after ∙ ap (λ (o : ReadOutcome). linesAfter o front) outcome-is
+
+    pub count-fits : count ≤ length front
+    count-fits = omega (arith, count-is, kept, ap (length {A = ℕ}) stands, length-append ls (drop (length ls) front))
+
+    first : (rest : List ℕ) → take count (front′ ++ rest) ≡ ls
+    first rest =
+        take-append-le count front′ rest (omega (arith, count-fits, kept)) ∙ ap (take count) stands ∙ take-at ls (drop (length ls) front) count (sym count-is)
+
+    pub host-read : {room room′ : List ℕ} (rest : List ℕ) → length front ≡ hostRoom (length room) → room′ ≡ placed (wordBytes (take count (front′ ++ rest))) room →
+        HostReadCall mb ref room (accepted count pos neg) room′
+    unfolding hostRead hostLinesAfter
+    host-read {room = room} rest size put =
+        record {
+          outcome = d .outcome;
+          reads = subst (λ (n : ℕ). Reads mb ref workLength n (d .outcome)) size (d .reads);
+          answers = ap (λ (n : ℕ). accepted n pos neg) count-is ∙ ap hostRead (sym outcome-is);
+          lines-after = put ∙ ap (λ (l : List ℕ). placed (wordBytes l) room) (first rest) ∙ ap (λ (o : ReadOutcome). hostLinesAfter o room) (sym outcome-is);
+        }
+
+  pub host-not-read : {why : Refusal} {room : List ℕ} {r : HostRead} → a ≡ Refused why → length front ≡ hostRoom (length room) →
+      r ≡ hostRead (ReadOutcome.refused (refusalOf why)) → HostReadCall mb ref room r room
+  unfolding hostLinesAfter
+  host-not-read {room = room} e size given =
+      let outcome-is = told-refused (d .answers) e in
+      record {
+        outcome = d .outcome;
+        reads = subst (λ (n : ℕ). Reads mb ref workLength n (d .outcome)) size (d .reads);
+        answers = given ∙ ap hostRead (sym outcome-is);
+        lines-after = ap (λ (o : ReadOutcome). hostLinesAfter o room) (sym outcome-is);
+      }

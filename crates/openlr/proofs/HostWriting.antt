@@ -1,0 +1,99 @@
+-- A host's calls of the writer. More than 65 line numbers of a stretch say no more than its first 65: it is refused for its length alone.
+use Prim.Native.Nat.{ℕ, _≤_, _<_}
+use mathlib.Core.Path.{_≡_, refl, sym, ap, subst, _∙_}
+use mathlib.Core.Bool.{Bool, true, false}
+use mathlib.Core.List.{List}
+use native.Mathlib.Omega.{arith}
+use lib.ListN.{length, take}
+use lib.Seq.{take-all, length-take-le}
+use lib.Dec.{ltb}
+use borrow.Author.Tests.{ltb-true, ltb-false, lt-ltb, ne-eqb}
+use Rattle.model.specs.declared.Refusal.{Refusal}
+use Rattle.model.specs.declared.WriteAnswer.{WriteAnswer}
+use Rattle.model.specs.declared.WriteAnswer.the-variants.{Written, Refused}
+use Rattle.model.specs.Map.{Map, MapAnswer, whole, decode}
+use Rattle.model.specs.Refusal.{refusalOf}
+use Rattle.model.specs.Stretch.{Stretch, StretchAnswer, checkStretch, greatestStretch}
+use Rattle.model.specs.Outcome.{WriteOutcome, written, workLength, WriteStretch, WriteMap, WriteWork, Writes}
+use Rattle.model.specs.Call.{bytesAfter, WriteAnswers, bytes, refusal}
+use Rattle.model.specs.Host.{hostStretch, HostWritten, hostWritten, hostBytesAfter, HostWriteCall}
+use Rattle.model.proofs.Demand3.{written-bytes}
+use Rattle.stretches.specs.Stretch.{stretchOf}
+use Rattle.openlr.specs.Host.{stretchLines, WriteFrom}
+
+-- ---- long stretches
+
+over-long : (m : Map) (s : Stretch) → greatestStretch < length (s .lines) → checkStretch m s ≡ StretchAnswer.refused 7
+unfolding checkStretch
+over-long m s long = rw (ne-eqb (length (s .lines)) 0 (λ e. absurd (omega arith)), lt-ltb greatestStretch (length (s .lines)) long) refl
+
+first-65 : (m : Map) (ls : List ℕ) (pos neg : ℕ) → checkStretch m (stretchOf (take 65 ls) pos neg) ≡ checkStretch m (stretchOf ls pos neg)
+first-65 m ls pos neg = go (ltb 65 (length ls)) refl
+  where
+    go : (b : Bool) → ltb 65 (length ls) ≡ b → checkStretch m (stretchOf (take 65 ls) pos neg) ≡ checkStretch m (stretchOf ls pos neg)
+    go true e =
+        let long = ltb-true 65 (length ls) e in
+        over-long m (stretchOf (take 65 ls) pos neg) (omega (arith, length-take-le 65 ls (omega arith))) ∙ sym (over-long m (stretchOf ls pos neg) (omega arith))
+    go false e = ap (λ (l : List ℕ). checkStretch m (stretchOf l pos neg)) (take-all 65 ls (ltb-false 65 (length ls) e))
+
+-- Stretches with the same checks have the same outcomes.
+module _ (mb : List ℕ) (s t : Stretch) (same : (m : Map) → checkStretch m s ≡ checkStretch m t) (room : ℕ) (o : WriteOutcome) where
+  on-map : (a : MapAnswer) → WriteMap a s room o → WriteMap a t room o
+  on-map (whole m) h = subst (λ (x : StretchAnswer). WriteStretch m x room o) (same m) h
+  on-map (MapAnswer.refused n) h = h
+
+  on-work : (b : Bool) → WriteWork b mb s room o → WriteWork b mb t room o
+  on-work true h = h
+  on-work false h = on-map (decode mb) h
+
+-- The line numbers taken from a host's bytes stand for its stretch.
+pub stretch-stands : (mb stretch ns : List ℕ) (pos neg work room : ℕ) (o : WriteOutcome) → ns ≡ take 65 (stretchLines stretch) →
+    Writes mb (stretchOf ns pos neg) work room o → Writes mb (hostStretch stretch pos neg) work room o
+unfolding hostStretch
+stretch-stands mb stretch ns pos neg work room o e h =
+    on-work mb (stretchOf ns pos neg) (hostStretch stretch pos neg)
+    (λ m. ap (λ (l : List ℕ). checkStretch m (stretchOf l pos neg)) e ∙ first-65 m (stretchLines stretch) pos neg) room o (ltb work workLength) h
+
+-- ---- the answer
+
+told-written : {a : WriteAnswer} {o : WriteOutcome} {count : ℕ} → WriteAnswers a o → a ≡ Written count →
+    (bs : List ℕ) × (o ≡ written bs) × (count ≡ length bs)
+told-written (bytes {bs = bs}) e = (bs, refl, cc)
+told-written refusal e = absurd (let z : _≡_ {A = ℕ} 0 1 = cc in omega arith)
+
+told-refused : {a : WriteAnswer} {o : WriteOutcome} {why : Refusal} → WriteAnswers a o → a ≡ Refused why → o ≡ WriteOutcome.refused (refusalOf why)
+told-refused bytes e = absurd (let z : _≡_ {A = ℕ} 0 1 = cc in omega arith)
+told-refused refusal e = cc
+
+module _ {mb ns room room′ : List ℕ} {pos neg : ℕ} {a : WriteAnswer} (d : WriteFrom mb (stretchOf ns pos neg) room a room′) where
+  -- A reference has 459 bytes at most.
+  pub count-small : {count : ℕ} → a ≡ Written count → count ≤ 459
+  count-small e =
+      let t = told-written (d .answers) e in
+      let w = written-bytes mb (t .0) (stretchOf ns pos neg) workLength (length room) (subst (λ (o : WriteOutcome). Writes mb (stretchOf ns pos neg) workLength (length room) o) (t .1) (d .writes)) in
+      omega (arith, t .2, w .2)
+
+  same-bytes : (o : WriteOutcome) → bytesAfter o room ≡ hostBytesAfter o room
+  unfolding bytesAfter hostBytesAfter
+  same-bytes (written bs) = refl
+  same-bytes (WriteOutcome.refused r) = refl
+
+  module _ (stretch : List ℕ) (taken : ns ≡ take 65 (stretchLines stretch)) where
+    host-call : {r : HostWritten} → r ≡ hostWritten (d .outcome) → HostWriteCall mb stretch pos neg room r room′
+    host-call given =
+        record {
+          outcome = d .outcome;
+          writes = stretch-stands mb stretch ns pos neg workLength (length room) (d .outcome) taken (d .writes);
+          answers = given;
+          bytes-after = d .bytes-after ∙ same-bytes (d .outcome);
+        }
+
+    pub host-written : {count : ℕ} → a ≡ Written count → HostWriteCall mb stretch pos neg room (record { refusal = 0; bytes = count }) room′
+    unfolding hostWritten
+    host-written e =
+        let t = told-written (d .answers) e in
+        host-call (ap (λ (n : ℕ). record { refusal = 0; bytes = n }) (t .2) ∙ ap hostWritten (sym (t .1)))
+
+    pub host-not-written : {why : Refusal} {r : HostWritten} → a ≡ Refused why → r ≡ hostWritten (WriteOutcome.refused (refusalOf why)) →
+        HostWriteCall mb stretch pos neg room r room′
+    host-not-written e given = host-call (given ∙ ap hostWritten (sym (told-refused (d .answers) e)))

@@ -1,0 +1,2 @@
+-- How the C structs are the definitions' records.
+pub mod Host

@@ -1,0 +1,148 @@
+// The functions that a C program calls (paper 01, "The product"). include/openlr.h has them for C.
+use depot_map::area::WORK_LENGTH;
+use model::ReadAnswer;
+use model::Refusal;
+use model::WriteAnswer;
+use model::number_of;
+use model::place_of;
+use words::WORD_BYTES;
+use words::lesser;
+use words::put_words;
+use words::take_stretch;
+ghost use mathlib.Core.Path.{_≡_};
+ghost use Prim.Native.Nat.{ℕ};
+ghost use mathlib.Core.List.{List};
+ghost use lib.ListN.{length, take};
+ghost use Rattle.model.specs.Refusal.{refusalOf};
+ghost use Rattle.model.specs.Outcome.{ReadOutcome};
+ghost use Rattle.model.specs.Host.{hostRead, HostReadCall, HostWriteCall};
+ghost use Rattle.stretches.specs.Stretch.{stretchOf};
+ghost use Rattle.openlr.specs.Host.{asRead, asWritten, stretchLines, ReadInto, WriteFrom};
+
+mod words;
+
+// The most line numbers that a host is given.
+const MOST_LINES: usize = 1_024;
+
+// How many line numbers are taken from a stretch: one more than it may have, so that a longer one is refused.
+const STRETCH_NUMBERS: usize = 65;
+
+// What the host gets from the reader; `struct openlr_lines` in C. 0 where a number says nothing.
+#[repr(C)]
+pub struct Lines {
+    pub refusal: u32,
+    pub place: u32,
+    pub lines: u32,
+    pub pos_least: u32,
+    pub pos_greatest: u32,
+    pub neg_least: u32,
+    pub neg_greatest: u32,
+}
+
+// What the host gets from the writer; `struct openlr_written` in C.
+#[repr(C)]
+pub struct Written {
+    pub refusal: u32,
+    pub bytes: u32,
+}
+
+// What the host gets where the reader refuses.
+fn no_lines(why: Refusal) -> Lines
+    ensures { λ r. ⌜ asRead r ≡ hostRead (ReadOutcome.refused (refusalOf why)) ⌝ }
+{
+    let number = number_of(why);
+    let place = place_of(why);
+    Lines {
+        refusal: number,
+        place: place,
+        lines: 0,
+        pos_least: 0,
+        pos_greatest: 0,
+        neg_least: 0,
+        neg_greatest: 0,
+    }
+}
+
+// Reads with a work area of its own.
+fn read_into(map: &[u8], reference: &[u8], numbers: &mut [u32]) -> ReadAnswer
+    ensures { λ r. ⌜ ReadInto (now (map .entry)) (now (reference .entry)) (now (numbers .entry)) r (now (numbers .exit)) ⌝ }
+{
+    let mut work = [0u32; WORK_LENGTH];
+    reader::read(map, reference, &mut work, numbers)
+}
+
+// Reads with line numbers in `numbers`, and puts them into `lines`, four bytes each, low byte first.
+fn read_lines(map: &[u8], reference: &[u8], numbers: &mut [u32], lines: &mut [u8]) -> Lines
+    requires { ⌜ length (now numbers) ≡ 1_024 ⌝ }
+    ensures { λ r. ⌜ HostReadCall (now (map .entry)) (now (reference .entry)) (now (lines .entry)) (asRead r) (now (lines .exit)) ⌝ }
+{
+    let room = lesser(lines.len() / WORD_BYTES, numbers.len());
+    match read_into(map, reference, &mut numbers[..room]) {
+        ReadAnswer::Read(count, pos, neg) => {
+            put_words(&numbers[..count], lines);
+            Lines {
+                refusal: 0,
+                place: 0,
+                lines: count as u32,
+                pos_least: pos.least,
+                pos_greatest: pos.greatest,
+                neg_least: neg.least,
+                neg_greatest: neg.greatest,
+            }
+        }
+        ReadAnswer::Refused(why) => no_lines(why),
+    }
+}
+
+// Reads a reference on a map.
+#[no_mangle]
+pub extern "C" fn openlr_read(map: &[u8], reference: &[u8], lines: &mut [u8]) -> Lines
+    ensures { λ r. ⌜ HostReadCall (now (map .entry)) (now (reference .entry)) (now (lines .entry)) (asRead r) (now (lines .exit)) ⌝ }
+{
+    let mut numbers = [0u32; MOST_LINES];
+    read_lines(map, reference, &mut numbers, lines)
+}
+
+// Writes with a work area of its own.
+fn write_from(map: &[u8], stretch: &[u32], pos: u32, neg: u32, bytes: &mut [u8]) -> WriteAnswer
+    ensures { λ r. ⌜ WriteFrom (now (map .entry)) (stretchOf (now (stretch .entry)) pos neg) (now (bytes .entry)) r (now (bytes .exit)) ⌝ }
+{
+    let mut work = [0u32; WORK_LENGTH];
+    writer::write(map, stretch, pos, neg, &mut work, bytes)
+}
+
+// Writes the stretch whose line numbers were taken from a host's bytes.
+fn write_taken(map: &[u8], numbers: &[u32], pos: u32, neg: u32, bytes: &mut [u8]) -> Written
+    ensures { λ r. ⌜ ((stretch : List ℕ) → now (numbers .entry) ≡ take 65 (stretchLines stretch)
+        → HostWriteCall (now (map .entry)) stretch pos neg (now (bytes .entry)) (asWritten r) (now (bytes .exit))) ⌝ }
+{
+    match write_from(map, numbers, pos, neg, bytes) {
+        WriteAnswer::Written(count) => Written {
+            refusal: 0,
+            bytes: count as u32,
+        },
+        WriteAnswer::Refused(why) => {
+            let number = number_of(why);
+            Written {
+                refusal: number,
+                bytes: 0,
+            }
+        }
+    }
+}
+
+// Writes a reference for a stretch on a map. `stretch` has the line numbers, four bytes each, low byte first.
+#[no_mangle]
+pub extern "C" fn openlr_write(
+    map: &[u8],
+    stretch: &[u8],
+    pos: u32,
+    neg: u32,
+    bytes: &mut [u8],
+) -> Written
+    ensures { λ r. ⌜ HostWriteCall (now (map .entry)) (now (stretch .entry)) pos neg (now (bytes .entry)) (asWritten r) (now (bytes .exit)) ⌝ }
+{
+    let mut numbers = [0u32; STRETCH_NUMBERS];
+    let count = take_stretch(stretch, &mut numbers);
+    write_taken(map, &numbers[..count], pos, neg, bytes)
+}

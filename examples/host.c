@@ -1,0 +1,85 @@
+/* A host: writes a reference for a stretch of lines on a map, reads it back, and prints both.
+
+     host MAP POS NEG LINE ..
+
+   MAP is the name of a map's file, POS and NEG are the offsets in decimetres, and the rest are line numbers. */
+#include "openlr.h"
+
+#include <errno.h>
+#include <stdio.h>
+#include <stdlib.h>
+
+/* 512 nodes of 8 bytes, 1,024 lines of 13, and two counts of 2. */
+enum { LONGEST_MAP = 17412, LONGEST_REFERENCE = 459, MOST_LINES = 1024 };
+
+/* The bytes of a file, or SIZE_MAX where it cannot be read or is longer than a map can be. */
+static size_t load(const char *name, uint8_t *bytes, size_t room) {
+    FILE *file = fopen(name, "rb");
+    if (file == NULL) return SIZE_MAX;
+    size_t count = fread(bytes, 1, room, file);
+    int whole = !ferror(file) && fgetc(file) == EOF;
+    fclose(file);
+    return whole ? count : SIZE_MAX;
+}
+
+/* A decimal number of 32 bits. */
+static int number(const char *text, uint32_t *value) {
+    char *end;
+    errno = 0;
+    unsigned long long parsed = strtoull(text, &end, 10);
+    if (errno != 0 || end == text || *end != '\0' || text[0] == '-' || parsed > UINT32_MAX) return 0;
+    *value = (uint32_t)parsed;
+    return 1;
+}
+
+static void put_line(uint8_t *bytes, uint32_t line) {
+    for (int i = 0; i < 4; i++) bytes[i] = (uint8_t)(line >> 8 * i);
+}
+
+static uint32_t line_at(const uint8_t *bytes) {
+    uint32_t line = 0;
+    for (int i = 0; i < 4; i++) line |= (uint32_t)bytes[i] << 8 * i;
+    return line;
+}
+
+int main(int argc, char **argv) {
+    static uint8_t map[LONGEST_MAP], stretch[4 * MOST_LINES], reference[LONGEST_REFERENCE], lines[4 * MOST_LINES];
+    uint32_t pos, neg;
+    if (argc < 4 || argc - 4 > MOST_LINES || !number(argv[2], &pos) || !number(argv[3], &neg)) {
+        fprintf(stderr, "usage: host MAP POS NEG LINE ..\n");
+        return 2;
+    }
+    size_t map_len = load(argv[1], map, sizeof map);
+    if (map_len == SIZE_MAX) {
+        fprintf(stderr, "host: cannot read the map %s\n", argv[1]);
+        return 2;
+    }
+    size_t count = (size_t)argc - 4;
+    for (size_t i = 0; i < count; i++) {
+        uint32_t line;
+        if (!number(argv[4 + i], &line)) {
+            fprintf(stderr, "host: %s is no line number\n", argv[4 + i]);
+            return 2;
+        }
+        put_line(stretch + 4 * i, line);
+    }
+
+    struct openlr_written written = openlr_write(map, map_len, stretch, 4 * count, pos, neg, reference, sizeof reference);
+    if (written.refusal != 0) {
+        printf("writer: refused %u\n", (unsigned)written.refusal);
+        return 1;
+    }
+    printf("reference");
+    for (uint32_t i = 0; i < written.bytes; i++) printf(" %02X", reference[i]);
+    printf("\n");
+
+    struct openlr_lines read = openlr_read(map, map_len, reference, written.bytes, lines, sizeof lines);
+    if (read.refusal != 0) {
+        printf("reader: refused %u %u\n", (unsigned)read.refusal, (unsigned)read.place);
+        return 1;
+    }
+    printf("lines %u pos %u %u neg %u %u\n", (unsigned)read.lines, (unsigned)read.pos_least, (unsigned)read.pos_greatest, (unsigned)read.neg_least,
+           (unsigned)read.neg_greatest);
+    for (uint32_t i = 0; i < read.lines; i++) printf("%u\n", (unsigned)line_at(lines + 4 * i));
+    return 0;
+}

@@ -1,0 +1,33 @@
+/* The map of the scope paper's ridge, and a way to fail. */
+#ifndef RIDGE_H
+#define RIDGE_H
+
+#include "openlr.h"
+
+#include <stdio.h>
+#include <stdlib.h>
+#include <string.h>
+
+#define EXPECT(e)                                                    \
+    do {                                                             \
+        if (!(e)) {                                                  \
+            fprintf(stderr, "%s:%d: not so: %s\n", __FILE__, __LINE__, #e); \
+            exit(1);                                                 \
+        }                                                            \
+    } while (0)
+
+/* Nodes 0 to 3 at (0, 0), (1000, 0), (1000, 1000), (2000, 0); lines 0 to 3, all FRC 3 and FOW 3. */
+static const uint8_t ridge[] = {
+    4,                                                                                      /* nodes */
+    0x80, 0xD1, 0xCA, 0x08, 0xC0, 0xA8, 0xA5, 0x04,                                         /* 18,000,000 and 9,000,000 */
+    0xE8, 0xD8, 0xCA, 0x08, 0xC0, 0xA8, 0xA5, 0x04,                                         /* 18,001,000 and 9,000,000 */
+    0xE8, 0xD8, 0xCA, 0x08, 0xA8, 0xB0, 0xA5, 0x04,                                         /* 18,001,000 and 9,001,000 */
+    0xD0, 0xE0, 0xCA, 0x08, 0xC0, 0xA8, 0xA5, 0x04,                                         /* 18,002,000 and 9,000,000 */
+    4,                                                                                      /* lines */
+    0, 1, 0xE8, 0x07, 3, 3, 90, 0x8E, 0x02,                                                 /* 0 to 1, 1000, 90, 270 */
+    1, 3, 0xE8, 0x07, 3, 3, 90, 0x8E, 0x02,                                                 /* 1 to 3, 1000, 90, 270 */
+    1, 2, 0xF4, 0x03, 3, 3, 0, 0xB4, 0x01,                                                  /* 1 to 2, 500, 0, 180 */
+    2, 3, 0xF4, 0x03, 3, 3, 0x87, 0x01, 0x90, 0x02,                                         /* 2 to 3, 500, 135, 272 */
+};
+
+#endif
