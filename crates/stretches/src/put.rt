@@ -14,6 +14,7 @@ use legs::attributes::BEARING_BACK;
 use legs::ends::Attributes;
 use model::Refusal;
 use model::WriteAnswer;
+use references::reference::Reference;
 use search::area::START;
 use search::area::wide;
 ghost use mathlib.Core.Path.{_≡_};
@@ -30,14 +31,6 @@ ghost use Rattle.stretches.specs.Stretch.{Known, stretchOf};
 ghost use Rattle.stretches.specs.Cuts.{legsFrom};
 ghost use Rattle.stretches.specs.Point.{bytesOfPoint, PointIs};
 ghost use Rattle.stretches.specs.Put.{putAt, legAt, CutInto, Inside, startBytes, offsetPart, flagged, lastBytes, endBytes, Puts};
-
-// The status byte, which comes first.
-const STATUS: u8 = 0x0B;
-
-// Where the first point's P stands, and how far on that of the next point.
-const FIRST_P: usize = 7;
-
-const MIDDLE_POINT: usize = 7;
 
 // The flags of the two offsets in R.
 const POSITIVE: u32 = 64;
@@ -62,7 +55,7 @@ fn put_start(work: &[u32], lines: usize, stretch: &[u32], bytes: &mut [u8])
     let v = node_of(work, lines, stretch, 0, START);
     let lon = longitude_code(coordinate(work, lines, v, 0));
     let lat = latitude_code(coordinate(work, lines, v, 1));
-    bytes[0] = STATUS;
+    bytes[0] = Reference::STATUS;
     put3(bytes, 1, lon);
     put3(bytes, 4, lat);
 }
@@ -135,7 +128,11 @@ fn put_points(
     let mut t: usize = 0;
     while t < legs {
         let point = leg_point(work, lines, stretch, cuts, legs, t);
-        put_point(bytes, FIRST_P + MIDDLE_POINT * t, point);
+        put_point(
+            bytes,
+            Reference::FIRST_P + Reference::MIDDLE_POINT * t,
+            point,
+        );
         t += 1;
     }
 }
@@ -202,7 +199,7 @@ fn put_end(
         → now (bytes .exit) ≡ putAt (7 + 7 * legs) (endBytes m (now (stretch .entry)) (legAt (now (stretch .entry)) cs 0)
         (legAt (now (stretch .entry)) cs (legs - 1)) pos neg) (now (bytes .entry))) ⌝ }
 {
-    let at = FIRST_P + MIDDLE_POINT * legs;
+    let at = Reference::FIRST_P + Reference::MIDDLE_POINT * legs;
     let a = attributes_of(work, lines, stretch, stretch.len() - 1, BEARING_BACK);
     let first = leg_length(work, lines, stretch, cuts, legs, 0);
     let last = leg_length(work, lines, stretch, cuts, legs, legs - 1);
@@ -229,7 +226,11 @@ pub fn put(
         → Puts (stretchBytes m (legsFrom (now (stretch .entry)) 0 cs) (stretchOf (now (stretch .entry)) pos neg))
         (now (bytes .entry)) (now (bytes .exit)) r) ⌝ }
 {
-    let length = FIRST_P + MIDDLE_POINT * legs + 2 + wide(flag(pos, 1)) + wide(flag(neg, 1));
+    let length = Reference::FIRST_P
+        + Reference::MIDDLE_POINT * legs
+        + 2
+        + wide(flag(pos, 1))
+        + wide(flag(neg, 1));
     if bytes.len() < length {
         return WriteAnswer::Refused(Refusal::BytesShort);
     }
