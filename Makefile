@@ -1,6 +1,10 @@
 # `make` reads the ridge example, `make test` runs the gate, `make bench` measures against plain Rust (`make bench ROWS=read`: of one kind),
-# `make compare` compares plain Rust with the oracle.
-.PHONY: ridge test bench compare
+# `make compare` compares plain Rust with the oracle, `make host` runs a C host on the ridge, `make test-host` tests the C functions.
+.PHONY: ridge test bench compare archive host test-host
+
+C_FLAGS = -std=c11 -pedantic -Wall -Wextra -Werror -Iinclude
+SANITIZED = -g -fsanitize=address,undefined -fno-sanitize-recover=all
+ARCHIVE = target/staticlib/libopenlr.a
 
 ridge: target/bin/openlr_show
 	cd examples/ridge && ../../target/bin/openlr_show
@@ -18,3 +22,21 @@ bench:
 compare:
 	cargo build --release --offline --quiet --manifest-path bench/Cargo.toml --bin answer
 	python3 oracle/compare.py bench/target/release/answer 2000
+
+archive:
+	rt staticlib openlr >&2
+	mkdir -p target/host
+
+host: archive
+	$(CC) $(C_FLAGS) -O2 -o target/host/host examples/host.c $(ARCHIVE)
+	target/host/host examples/ridge/map.bin 500 0 0 1
+
+test-host: archive
+	$(CC) $(C_FLAGS) $(SANITIZED) -o target/host/read tests/host_read.c $(ARCHIVE)
+	$(CC) $(C_FLAGS) $(SANITIZED) -o target/host/write tests/host_write.c $(ARCHIVE)
+	$(CC) $(C_FLAGS) $(SANITIZED) -o target/host/answer tests/answer.c $(ARCHIVE)
+	$(CC) $(C_FLAGS) $(SANITIZED) -o target/host/host examples/host.c $(ARCHIVE)
+	target/host/read
+	target/host/write
+	target/host/host examples/ridge/map.bin 500 0 0 1 | diff - tests/host_ridge.txt
+	python3 oracle/check_host.py target/host/answer 500

@@ -23,8 +23,7 @@ array-share-prefix-numbers c = search needs
 slice-aggregate-write-taken : tie.Need-slice-aggregate-write-taken
 slice-aggregate-write-taken c =
     let t = c .before .before .take-stretch in
-    let size : length (t .last .1 .0) ≡ 65 = t .kept .1 .0 in
-    sym (length-take-le (t .result) (t .last .1 .0) (omega (arith, size, t .ensures .0)))
+    sym (length-take-le (t .result) (t .last .1 .0) (omega (arith, t .kept .1 .0, t .ensures .0)))
 
 write-taken-requires : tie.Need-write-taken-requires
 write-taken-requires c κs = search needs

@@ -1,0 +1,75 @@
+"""Holds the C functions to this implementation, on cases of the reader and of the writer.
+
+Usage: python3 oracle/check_host.py PROGRAM COUNT [--seed N]. PROGRAM is that of tests/answer.c. Calls with different answers are printed, and the status is 1.
+"""
+
+import argparse
+import subprocess
+import sys
+from dataclasses import replace
+
+from cases import one_row, read_cases, write_cases
+from read_recipes import read_outcome
+from reader import LEAST_WORK_LENGTH
+from write_recipes import write_outcome
+
+# "A list of over 1,024 lines is refusal 20."
+MOST_LINES = 1_024
+
+
+def hexadecimal(data):
+    return data.hex() or "-"
+
+
+def line_bytes(lines):
+    """Each line number as four bytes, low byte first."""
+    return b"".join(line.to_bytes(4, "little") for line in lines)
+
+
+def read_calls(seed, count):
+    """Rows for the program and expected answers. "A line buffer holds a quarter of its bytes, rounded down": up to three bytes more change nothing."""
+    for index, case in enumerate(read_cases(seed, count)):
+        given = replace(case.given, work_length=LEAST_WORK_LENGTH, line_room=min(case.given.line_room, MOST_LINES))
+        room = 4 * case.given.line_room + index % 4
+        yield f"read {hexadecimal(given.map_bytes)} {hexadecimal(given.reference)} {room}", one_row(read_outcome(given))
+
+
+def write_calls(seed, count):
+    """Likewise. Every fourth stretch has one to three bytes too many, "a byte list whose length is no multiple of four"."""
+    for index, case in enumerate(write_cases(seed, count)):
+        given = replace(case.given, work_length=LEAST_WORK_LENGTH)
+        stretch = line_bytes(given.lines)
+        if index % 4 == 3:
+            stretch += bytes(index // 4 % 3 + 1)
+            given = replace(given, lines=())
+        numbers = f"{given.pos} {given.neg} {given.byte_room}"
+        yield f"write {hexadecimal(given.map_bytes)} {hexadecimal(stretch)} {numbers}", one_row(write_outcome(given))
+
+
+def differences(program, calls):
+    """The calls that the program answers otherwise, each with what is expected and the answer."""
+    ran = subprocess.run([program], input="".join(row + "\n" for row, _ in calls), check=True, capture_output=True, text=True)
+    answers = ran.stdout.splitlines()
+    if len(answers) != len(calls):
+        raise RuntimeError(f"{len(calls)} calls, {len(answers)} answers")
+    return [(row, expected, answer) for (row, expected), answer in zip(calls, answers) if answer != expected]
+
+
+def main():
+    parser = argparse.ArgumentParser(description="Hold the C functions to the oracle.")
+    parser.add_argument("program")
+    parser.add_argument("count", type=int)
+    parser.add_argument("--seed", type=int, default=1)
+    arguments = parser.parse_args()
+    differ = False
+    for kind, make_calls in (("read", read_calls), ("write", write_calls)):
+        found = differences(arguments.program, list(make_calls(arguments.seed, arguments.count)))
+        print(f"{kind}: {arguments.count} calls from C, {len(found)} differ")
+        for row in found:
+            print(" | ".join(row))
+            differ = True
+    sys.exit(1 if differ else 0)
+
+
+if __name__ == "__main__":
+    main()

@@ -1,0 +1,86 @@
+/* The writer as a C program sees it: the layout of its answer, the bytes, and the byte buffer. What is expected is the scope paper's. */
+#include "ridge.h"
+
+_Static_assert(sizeof(struct openlr_written) == 8, "two numbers of 32 bits");
+_Static_assert(_Alignof(struct openlr_written) == 4, "aligned as one of them");
+_Static_assert(offsetof(struct openlr_written, refusal) == 0, "first");
+_Static_assert(offsetof(struct openlr_written, bytes) == 4, "second");
+
+enum { UNTOUCHED = 0xEE };
+
+static int untouched(const uint8_t *bytes, size_t from, size_t to) {
+    for (size_t i = from; i < to; i++)
+        if (bytes[i] != UNTOUCHED) return 0;
+    return 1;
+}
+
+/* Lines 0 and 1 with positive offset 500, for buffers up to longer than the reference. */
+static void ridge_bytes(void) {
+    static const uint8_t stretch[] = {0, 0, 0, 0, 1, 0, 0, 0};
+    static const uint8_t expected[] = {0x0B, 0, 0, 0, 0, 0, 0, 0x1B, 0x68, 0x01, 0x03, 0xE8, 0, 0, 0x1B, 0x68, 0x01, 0x03, 0xE8, 0, 0, 0x1B, 0x58, 0x80};
+    for (size_t room = 0; room <= sizeof expected + 3; room++) {
+        uint8_t *bytes = malloc(room + 1);
+        EXPECT(bytes != NULL);
+        memset(bytes, UNTOUCHED, room);
+        bytes[room] = 0x55;
+        struct openlr_written a = openlr_write(ridge, sizeof ridge, stretch, sizeof stretch, 500, 0, bytes, room);
+        if (room < sizeof expected) {
+            EXPECT(a.refusal == 11 && a.bytes == 0 && untouched(bytes, 0, room));
+        } else {
+            EXPECT(a.refusal == 0 && a.bytes == sizeof expected);
+            EXPECT(memcmp(bytes, expected, sizeof expected) == 0 && untouched(bytes, sizeof expected, room));
+        }
+        EXPECT(bytes[room] == 0x55);
+        free(bytes);
+    }
+}
+
+/* An offset of 1500 skips one line of 1000 whole, the first or the last by which of the two it is, and leaves 500, whose byte is 80. */
+static void offsets(void) {
+    static const uint8_t stretch[] = {0, 0, 0, 0, 1, 0, 0, 0};
+    static const uint8_t second[] = {1, 0, 0, 0};
+    uint8_t both[64], alone[64];
+    struct openlr_written a = openlr_write(ridge, sizeof ridge, stretch, sizeof stretch, 1500, 0, both, sizeof both);
+    struct openlr_written b = openlr_write(ridge, sizeof ridge, second, sizeof second, 500, 0, alone, sizeof alone);
+    EXPECT(a.refusal == 0 && b.refusal == 0 && a.bytes == b.bytes && memcmp(both, alone, a.bytes) == 0);
+    EXPECT(both[15] == 0x58 && both[16] == 0x80);
+    a = openlr_write(ridge, sizeof ridge, stretch, sizeof stretch, 0, 1500, both, sizeof both);
+    EXPECT(a.refusal == 0 && both[15] == 0x38 && both[16] == 0x80);
+}
+
+static void refused(const uint8_t *stretch, size_t length, uint32_t pos, uint32_t neg, uint32_t number) {
+    uint8_t bytes[459];
+    memset(bytes, UNTOUCHED, sizeof bytes);
+    struct openlr_written a = openlr_write(ridge, sizeof ridge, stretch, length, pos, neg, bytes, sizeof bytes);
+    EXPECT(a.refusal == number && a.bytes == 0 && untouched(bytes, 0, sizeof bytes));
+}
+
+static void refusals(void) {
+    static const uint8_t good[] = {0, 0, 0, 0, 1, 0, 0, 0};
+    static const uint8_t gap[] = {1, 0, 0, 0, 0, 0, 0, 0};
+    static const uint8_t none[] = {4, 0, 0, 0};
+    static const uint8_t high_byte[] = {0, 0, 0, 1};
+    static const uint8_t zeros[4 * 2000];
+    for (size_t length = 0; length < 8; length++)
+        if (length != 4) refused(good, length, 0, 0, 7);
+    refused(none, sizeof none, 0, 0, 7);
+    refused(high_byte, sizeof high_byte, 0, 0, 7);
+    refused(zeros, 4 * 64, 0, 0, 8);
+    refused(zeros, 4 * 65, 0, 0, 7);
+    refused(zeros, 4 * 66, 0, 0, 7);
+    refused(zeros, sizeof zeros, 0, 0, 7);
+    refused(gap, sizeof gap, 0, 0, 8);
+    refused(good, sizeof good, 1000, 1000, 9);
+    refused(good, sizeof good, UINT32_MAX, UINT32_MAX, 9);
+    uint8_t bytes[4];
+    struct openlr_written a = openlr_write(ridge, sizeof ridge - 1, good, 7, 0, 0, bytes, sizeof bytes);
+    EXPECT(a.refusal == 2 && a.bytes == 0);
+}
+
+int main(void) {
+    ridge_bytes();
+    offsets();
+    refusals();
+    puts("openlr_write: as a C program expects");
+    return 0;
+}
