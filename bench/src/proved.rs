@@ -114,12 +114,54 @@ fn read() -> Option<Read> {
     None
 }
 
+/// The count of bytes is 16 or more, the number of a refusal 11 or less.
+fn write(
+    map_bytes: &[u8],
+    stretch: &[u32],
+    offsets: (u32, u32),
+    work_area: &mut [u32],
+    byte_buffer: &mut [u8],
+) -> Result<usize, ProvedRefusal> {
+    extern "C" {
+        fn measured_write(
+            map: *const u8,
+            map_len: usize,
+            stretch: *const u32,
+            stretch_len: usize,
+            pos: u32,
+            neg: u32,
+            work: *mut u32,
+            work_len: usize,
+            bytes: *mut u8,
+            bytes_len: usize,
+        ) -> usize;
+    }
+    let answer = unsafe {
+        measured_write(
+            map_bytes.as_ptr(),
+            map_bytes.len(),
+            stretch.as_ptr(),
+            stretch.len(),
+            offsets.0,
+            offsets.1,
+            work_area.as_mut_ptr(),
+            work_area.len(),
+            byte_buffer.as_mut_ptr(),
+            byte_buffer.len(),
+        )
+    };
+    if answer < 16 {
+        return Err((answer as u32, None));
+    }
+    Ok(answer)
+}
+
 /// The proved functions that there are.
 pub fn functions() -> ProvedFunctions {
     ProvedFunctions {
         decode: Some(decode),
         search: Some(search),
         read: read(),
-        write: None,
+        write: Some(write),
     }
 }

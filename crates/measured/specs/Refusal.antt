@@ -1,4 +1,4 @@
--- Refusals by their numbers, 0 where there is none: of a map, and of a call of the reader.
+-- Refusals by their numbers, 0 where there is none: of a map, and of a call of the reader. And what a call of the writer comes to, as a number.
 use Prim.Native.Nat.{ℕ}
 use mathlib.Core.Path.{_≡_}
 use mathlib.Core.Bool.{cond}
@@ -7,9 +7,13 @@ use lib.Dec.{ltb}
 use Rattle.model.specs.Map.{MapAnswer, whole, decode}
 use Rattle.model.specs.Outcome.{workLength}
 use Rattle.model.specs.Refusal.{numberOf, refusalOf}
-use Rattle.model.specs.Call.{ReadCall}
+use Rattle.model.specs.Stretch.{Stretch}
+use Rattle.model.specs.Call.{ReadCall, WriteCall}
 use Rattle.model.specs.declared.ReadAnswer.{ReadAnswer}
 use Rattle.model.specs.declared.ReadAnswer.the-variants.{Read, Refused}
+use Rattle.model.specs.declared.WriteAnswer.{WriteAnswer}
+use Rattle.model.specs.declared.WriteAnswer.the-variants.{Written}
+use Rattle.model.specs.declared.WriteAnswer.the-variants as writer
 
 unfoldable pub refusedBy : MapAnswer → ℕ
 refusedBy (whole m) = 0
@@ -27,3 +31,13 @@ pub record ReadNumber (mb ref work lines : List ℕ) (n : ℕ) (work′ lines′
   pub answer : ReadAnswer
   pub call : ReadCall mb ref work lines answer work′ lines′
   pub same : n ≡ answerNumber answer
+
+unfoldable pub writtenNumber : WriteAnswer → ℕ
+writtenNumber (Written n) = n
+writtenNumber (writer.Refused why) = numberOf (refusalOf why)
+
+-- A call of the writer whose answer has this number.
+pub record WriteNumber (mb : List ℕ) (s : Stretch) (work bytes : List ℕ) (n : ℕ) (work′ bytes′ : List ℕ) : Type 0 where
+  pub answer : WriteAnswer
+  pub call : WriteCall mb s work bytes answer work′ bytes′
+  pub same : n ≡ writtenNumber answer

@@ -4,15 +4,18 @@ use depot_map::area::WORK_LENGTH;
 use depot_map::read_map;
 use fields::leg::GREATEST_LEG_LENGTH;
 use model::ReadAnswer;
+use model::WriteAnswer;
 use model::number_of;
 use reader::read;
 use search::chains::link;
 use search::search;
+use writer::write;
 ghost use mathlib.Core.Path.{_≡_};
 ghost use lib.ListN.{length};
 ghost use Rattle.model.specs.Map.{Map};
 ghost use Rattle.depot_map.specs.Area.{Holds};
-ghost use Rattle.measured.specs.Refusal.{mapRefusal, ReadNumber};
+ghost use Rattle.stretches.specs.Stretch.{stretchOf};
+ghost use Rattle.measured.specs.Refusal.{mapRefusal, ReadNumber, WriteNumber};
 
 // Reads a map into the work area: the number of the refusal, or 0.
 #[no_mangle]
@@ -83,5 +86,23 @@ pub extern "C" fn measured_read(
     match read(map, reference, work, lines) {
         ReadAnswer::Read(_, _, _) => 0,
         ReadAnswer::Refused(why) => number_of(why),
+    }
+}
+
+// Writes a stretch: the count of bytes, which is 16 or more, or the number of the refusal, which is 11 or less.
+#[no_mangle]
+pub extern "C" fn measured_write(
+    map: &[u8],
+    stretch: &[u32],
+    pos: u32,
+    neg: u32,
+    work: &mut [u32],
+    bytes: &mut [u8],
+) -> usize
+    ensures { λ r. ⌜ WriteNumber (now (map .entry)) (stretchOf (now (stretch .entry)) pos neg) (now (work .entry)) (now (bytes .entry)) r (now (work .exit)) (now (bytes .exit)) ⌝ }
+{
+    match write(map, stretch, pos, neg, work, bytes) {
+        WriteAnswer::Written(count) => count,
+        WriteAnswer::Refused(why) => number_of(why) as usize,
     }
 }
