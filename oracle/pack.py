@@ -7,16 +7,20 @@ import argparse
 import sys
 from pathlib import Path
 
-from cases import leg_cases, map_cases, random_source, read_cases, stretch_leg
+from cases import leg_cases, map_cases, random_source, read_cases, stretch_leg, write_cases
 from depot_map import map_numbers, map_to_bytes
 from legs import LegSearch, list_length
 from outcome import Refused, outcome_text
 from read_recipes import changed_in_a_byte, composed_from, read_outcome
+from reader import LEAST_WORK_LENGTH, read
 from recipes import until_found
 from sample_maps import full_size_sample
+from write_recipes import many_on_full_size, write_outcome
 
 CRATES = Path(__file__).parent.parent / "crates"
 SUM_MODULUS = 4_294_967_291
+# The lengths of the buffers that test_writes has for lines and for bytes.
+WRITES_LINE_ROOM, WRITES_BYTE_ROOM = 80, 480
 
 
 def packed(parts):
@@ -111,25 +115,25 @@ def full_map_reads(maps, references):
             yield given, read_outcome(given)
 
 
-def small_map_reads(count):
-    for case in read_cases(seed=1, count=count):
+def on_small_maps(cases):
+    for case in cases:
         if not case.label.startswith("full size"):
             yield case.given, case.expected
 
 
-def by_map(reads):
-    """The same reads, each once, those on one map one after another."""
+def by_map(calls):
+    """The same calls, each once, those on one map one after another."""
     groups = {}
-    for given, outcome in reads:
+    for given, outcome in calls:
         groups.setdefault(given.map_bytes, {})[given] = outcome
-    return [read for group in groups.values() for read in group.items()]
+    return [call for group in groups.values() for call in group.items()]
 
 
 def test_reads():
     """A case has three parts: a map, a reference, and three numbers. These are the lengths of the work area and
     of the line buffer, and 1 where the map is that of the case before; its own part is empty then."""
     parts, rows, map_before = [], [], None
-    for given, outcome in by_map([*small_map_reads(2_960), *full_map_reads(maps=10, references=40)]):
+    for given, outcome in by_map([*on_small_maps(read_cases(seed=1, count=2_960)), *full_map_reads(maps=10, references=40)]):
         same = given.map_bytes == map_before
         map_before = given.map_bytes
         parts += [b"" if same else given.map_bytes, given.reference,
@@ -138,7 +142,39 @@ def test_reads():
     return packed(parts), rows
 
 
-PROGRAMS = {"test_maps": test_maps, "test_legs": test_legs, "test_reads": test_reads}
+def write_row(given, outcome):
+    """The answer, what stands in the work area and in the byte buffer behind the bytes, and how those bytes are read."""
+    if isinstance(outcome, Refused):
+        return read_row(outcome)
+    reference = outcome.reference
+    read_back = read(given.map_bytes, reference, LEAST_WORK_LENGTH, line_room=WRITES_LINE_ROOM)
+    return (f"bytes {len(reference)} sum {number_sum(reference)} work cleared rest kept"
+            f" read {outcome_text(read_back).split(chr(10))[0]} sum {number_sum(read_back.lines)}")
+
+
+def full_map_writes(maps, stretches):
+    for turn in range(maps):
+        for given in many_on_full_size(random_source("full-size writes", 1, turn), stretches):
+            yield given, write_outcome(given)
+
+
+def test_writes():
+    """A case has three parts: a map, a stretch, and five numbers. These are the offsets, the lengths of the work area
+    and of the byte buffer, and 1 where the map is that of the case before; its own part is empty then."""
+    parts, rows, map_before = [], [], None
+    for given, outcome in by_map([*on_small_maps(write_cases(seed=1, count=2_300)),
+                                  *full_map_writes(maps=10, stretches=20)]):
+        if len(given.lines) > WRITES_LINE_ROOM or given.byte_room > WRITES_BYTE_ROOM:
+            raise RuntimeError("the program's buffers are too short for this case")
+        same = given.map_bytes == map_before
+        map_before = given.map_bytes
+        parts += [b"" if same else given.map_bytes, words(given.lines),
+                  words([given.pos, given.neg, given.work_length, given.byte_room, int(same)])]
+        rows.append(write_row(given, outcome))
+    return packed(parts), rows
+
+
+PROGRAMS = {"test_maps": test_maps, "test_legs": test_legs, "test_reads": test_reads, "test_writes": test_writes}
 
 
 def files():
