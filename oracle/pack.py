@@ -95,12 +95,22 @@ def test_legs():
     return packed(parts), rows
 
 
-def read_row(outcome):
+def refusal_row(outcome):
+    """A refusal leaves the buffers as they were, and refusal 1 the work area too."""
+    return f"{outcome_text(outcome)} work {'kept' if outcome.number == 1 else 'cleared'} rest kept"
+
+
+def lines_text(outcome):
+    """The count of lines and the spans, as the printing program shows them, and a sum over the lines."""
+    first_row = outcome_text(outcome).split("\n")[0]
+    return f"{first_row} sum {number_sum(outcome.lines)}"
+
+
+def read_row(given, outcome):
     """The answer, and what stands in the work area and in the line buffer behind the lines handed back."""
-    text = outcome_text(outcome).split("\n")[0]
     if isinstance(outcome, Refused):
-        return f"{text} work {'kept' if outcome.number == 1 else 'cleared'} rest kept"
-    return f"{text} sum {number_sum(outcome.lines)} work cleared rest kept"
+        return refusal_row(outcome)
+    return f"{lines_text(outcome)} work cleared rest kept"
 
 
 def full_map_reads(maps, references):
@@ -129,27 +139,33 @@ def by_map(calls):
     return [call for group in groups.values() for call in group.items()]
 
 
-def test_reads():
-    """A case has three parts: a map, a reference, and three numbers. These are the lengths of the work area and
-    of the line buffer, and 1 where the map is that of the case before; its own part is empty then."""
+def packed_calls(calls, subject, numbers, row):
+    """A case has three parts: a map, what is read or written on it, and numbers. The last number is 1 where the map
+    is that of the case before; its own part is empty then."""
     parts, rows, map_before = [], [], None
-    for given, outcome in by_map([*on_small_maps(read_cases(seed=1, count=2_960)), *full_map_reads(maps=10, references=40)]):
+    for given, outcome in by_map(calls):
         same = given.map_bytes == map_before
         map_before = given.map_bytes
-        parts += [b"" if same else given.map_bytes, given.reference,
-                  words([given.work_length, given.line_room, int(same)])]
-        rows.append(read_row(outcome))
+        parts += [b"" if same else given.map_bytes, subject(given), words([*numbers(given), int(same)])]
+        rows.append(row(given, outcome))
     return packed(parts), rows
 
 
+def test_reads():
+    """The subject is a reference; the numbers are the lengths of the work area and of the line buffer."""
+    calls = [*on_small_maps(read_cases(seed=1, count=2_960)), *full_map_reads(maps=10, references=40)]
+    return packed_calls(calls, lambda given: given.reference,
+                        lambda given: [given.work_length, given.line_room], read_row)
+
+
 def write_row(given, outcome):
-    """The answer, what stands in the work area and in the byte buffer behind the bytes, and how those bytes are read."""
+    """The answer, what stands in the work area and in the byte buffer behind the bytes, and how they are read."""
     if isinstance(outcome, Refused):
-        return read_row(outcome)
+        return refusal_row(outcome)
     reference = outcome.reference
-    read_back = read(given.map_bytes, reference, LEAST_WORK_LENGTH, line_room=WRITES_LINE_ROOM)
+    read_back = read(given.map_bytes, reference, LEAST_WORK_LENGTH, WRITES_LINE_ROOM)
     return (f"bytes {len(reference)} sum {number_sum(reference)} work cleared rest kept"
-            f" read {outcome_text(read_back).split(chr(10))[0]} sum {number_sum(read_back.lines)}")
+            f" read {lines_text(read_back)}")
 
 
 def full_map_writes(maps, stretches):
@@ -159,19 +175,13 @@ def full_map_writes(maps, stretches):
 
 
 def test_writes():
-    """A case has three parts: a map, a stretch, and five numbers. These are the offsets, the lengths of the work area
-    and of the byte buffer, and 1 where the map is that of the case before; its own part is empty then."""
-    parts, rows, map_before = [], [], None
-    for given, outcome in by_map([*on_small_maps(write_cases(seed=1, count=2_300)),
-                                  *full_map_writes(maps=10, stretches=20)]):
-        if len(given.lines) > WRITES_LINE_ROOM or given.byte_room > WRITES_BYTE_ROOM:
-            raise RuntimeError("the program's buffers are too short for this case")
-        same = given.map_bytes == map_before
-        map_before = given.map_bytes
-        parts += [b"" if same else given.map_bytes, words(given.lines),
-                  words([given.pos, given.neg, given.work_length, given.byte_room, int(same)])]
-        rows.append(write_row(given, outcome))
-    return packed(parts), rows
+    """The subject is a stretch, four bytes a line; the numbers are the offsets, and the lengths of the work area and of
+    the byte buffer."""
+    calls = [*on_small_maps(write_cases(seed=1, count=2_300)), *full_map_writes(maps=10, stretches=20)]
+    if any(len(given.lines) > WRITES_LINE_ROOM or given.byte_room > WRITES_BYTE_ROOM for given, _ in calls):
+        raise RuntimeError("the program's buffers are too short for a case")
+    return packed_calls(calls, lambda given: words(given.lines),
+                        lambda given: [given.pos, given.neg, given.work_length, given.byte_room], write_row)
 
 
 PROGRAMS = {"test_maps": test_maps, "test_legs": test_legs, "test_reads": test_reads, "test_writes": test_writes}

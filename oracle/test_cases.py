@@ -163,7 +163,8 @@ class Coverage(unittest.TestCase):
 
     def write_details(self, recipe):
         """The cases of a recipe, each with its detail."""
-        return [(case.label.split(": ", 1)[1], case) for case in self.write_cases if case.label.startswith(recipe + ": ")]
+        return [(case.label.split(": ", 1)[1], case) for case in self.write_cases
+                if case.label.startswith(recipe + ": ")]
 
     def test_differences_one_past_are_refused_or_cut(self):
         seen = {}

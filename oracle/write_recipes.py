@@ -86,7 +86,7 @@ def longest_reference(rng, turn):
     lines = tuple(builder.line(start, end, rng.choice([75_001, 149_999, 150_000]))
                   for start, end in zip(nodes, nodes[1:]))
     pos, neg = [(1, 1), (75_000, 75_000), (75_001, 1), (0, 1), (0, 0)][turn % 5]
-    byte_room = AMPLE_BYTES - turn // 5 % 2
+    byte_room = (AMPLE_BYTES, AMPLE_BYTES - 1, AMPLE_BYTES + 21)[turn // 5 % 3]
     return f"room for {byte_room} bytes", WriteInput(map_to_bytes(builder.build()), lines, pos, neg,
                                                      byte_room=byte_room)
 
@@ -187,7 +187,7 @@ def no_usable_choice(rng, turn):
 
 
 def point_in_mid_leg(rng, turn):
-    """Hops with two ways of equal marks and equal lengths, over a node each: only a point at that node tells them apart."""
+    """Hops with two ways of equal marks and lengths, over a node each: only a point there tells them apart."""
     builder = MapBuilder()
     row = builder.row_of_nodes(2 + turn % 4)
     stretch = []
@@ -203,7 +203,7 @@ def point_in_mid_leg(rng, turn):
 
 
 def legs_at_longest(rng, turn):
-    """Lines in a row, the first two to five of which make 149,999, 150,000 or 150,001; past 150,000 a point more is needed."""
+    """Lines in a row, the first two to five of which make 149,999 to 150,001; past 150,000 a point is needed."""
     total = (149_999, 150_000, 150_001)[turn % 3]
     cuts = sorted(rng.sample(range(1, total), 1 + turn // 3 % 4))
     lengths = [end - start for start, end in zip([0, *cuts], [*cuts, total])]
@@ -216,7 +216,7 @@ def legs_at_longest(rng, turn):
 
 
 def differences_at_ends(rng, turn):
-    """One or two lines whose ends differ by a number at an end of 16 bits, or one past; two lines may have a point between."""
+    """One or two lines whose ends differ by a number at an end of 16 bits, or one past. Two may have one between."""
     difference = (-32_769, -32_768, -32_767, 32_766, 32_767, 32_768)[turn % 6]
     builder = MapBuilder()
     places = [0, difference] if turn // 6 % 2 else [0, difference // 2, difference]

@@ -142,39 +142,39 @@ fn run_parts(map: &[u8], part: &[u8], words: &[u8], work: &mut [u32])
 
 // Each case has three parts: a map, a stretch, and five numbers of four bytes each. These are the two offsets, the lengths of the work area and of the
 // byte buffer, and 1 where the map is that of the case before.
-fn run(cases: &[u8], work: &mut [u32])
+fn run(file: &[u8], work: &mut [u32])
     requires { ⌜ length (now work) < 1_000_000 ⌝ }
 {
     let mut at: usize = 0;
     let mut map_from: usize = 0;
     let mut map_to: usize = 0;
     loop {
-        let Part::At(from, middle) = cases::part_at(cases, at) else {
+        let Part::At(from, middle) = cases::part_at(file, at) else {
             return;
         };
-        let Part::At(start, end) = cases::part_at(cases, middle) else {
+        let Part::At(start, end) = cases::part_at(file, middle) else {
             return;
         };
-        let Part::At(words, to) = cases::part_at(cases, end) else {
+        let Part::At(words, to) = cases::part_at(file, end) else {
             return;
         };
         at = to;
-        if word_at(&cases[words..to], 16) == 0 {
+        if word_at(&file[words..to], 16) == 0 {
             map_from = from;
             map_to = middle;
         }
         run_parts(
-            &cases[map_from..map_to],
-            &cases[start..end],
-            &cases[words..to],
+            &file[map_from..map_to],
+            &file[start..end],
+            &file[words..to],
             work,
         );
     }
 }
 
 fn main() {
-    let mut cases = cases::megabyte();
+    let mut file = cases::megabyte();
     let mut work = [0; 12300];
-    let n = console::load(b"cases.bin", &mut cases);
-    run(&cases[..n], &mut work);
+    let n = console::load(b"cases.bin", &mut file);
+    run(&file[..n], &mut work);
 }

@@ -12,28 +12,28 @@ use Rattle.test_writes.proofs.run.Statement.{statement}
 use Rattle.test_writes.proofs.run.Tie as tie
 
 abbrev Inv-loop : tie.InvT-loop
-Inv-loop cases work₀ at₀ map-from₀ map-to₀ work at map-from map-to =
-    (at ≤ length cases) × (length work ≡ length work₀) × (length work₀ < 1_000_000) × (map-from ≤ map-to) × (map-to ≤ length cases)
+Inv-loop file work₀ at₀ map-from₀ map-to₀ work at map-from map-to =
+    (at ≤ length file) × (length work ≡ length work₀) × (length work₀ < 1_000_000) × (map-from ≤ map-to) × (map-to ≤ length file)
 
 abbrev μ-loop : tie.MeasureT-loop
-μ-loop cases work₀ at₀ map-from₀ map-to₀ work at map-from map-to = length cases - at
+μ-loop file work₀ at₀ map-from₀ map-to₀ work at map-from map-to = length file - at
 
 -- What `part_at` says of the three parts of a case.
 first : (c : tie.After-known-told3 Inv-loop μ-loop) →
-    PartIs (now (c .before .before .before .before .before .before .before .before .before .before .before .before .before .before .before .args .cases)) (c .before .before .before .before .before .before .before .before .before .before .before .before .loop .at) (At (c .before .before .before .before .before .before .before .before .before .from .given .0 .0) (c .before .before .before .before .before .before .before .before .before .from .given .0 .1 .0))
+    PartIs (now (c .before .before .before .before .before .before .before .before .before .before .before .before .before .before .before .args .file)) (c .before .before .before .before .before .before .before .before .before .before .before .before .loop .at) (At (c .before .before .before .before .before .before .before .before .before .from .given .0 .0) (c .before .before .before .before .before .before .before .before .before .from .given .0 .1 .0))
 first c = rw (c .before .before .before .before .before .before .before .before .before .from .given .1) at (c .before .before .before .before .before .before .before .before .before .before .before .part-at .ensures)
 
 second : (c : tie.After-known-told3 Inv-loop μ-loop) →
-    PartIs (now (c .before .before .before .before .before .before .before .before .before .before .before .before .before .before .before .args .cases)) (c .before .before .before .before .before .before .before .before .before .from .given .0 .1 .0) (At (c .before .before .before .before .before .start .given .0 .0) (c .before .before .before .before .before .start .given .0 .1 .0))
+    PartIs (now (c .before .before .before .before .before .before .before .before .before .before .before .before .before .before .before .args .file)) (c .before .before .before .before .before .before .before .before .before .from .given .0 .1 .0) (At (c .before .before .before .before .before .start .given .0 .0) (c .before .before .before .before .before .start .given .0 .1 .0))
 second c = rw (c .before .before .before .before .before .start .given .1) at (c .before .before .before .before .before .before .before .part-at2 .ensures)
 
 third : (c : tie.After-known-told3 Inv-loop μ-loop) →
-    PartIs (now (c .before .before .before .before .before .before .before .before .before .before .before .before .before .before .before .args .cases)) (c .before .before .before .before .before .start .given .0 .1 .0) (At (c .before .words .given .0 .0) (c .before .words .given .0 .1 .0))
+    PartIs (now (c .before .before .before .before .before .before .before .before .before .before .before .before .before .before .before .args .file)) (c .before .before .before .before .before .start .given .0 .1 .0) (At (c .before .words .given .0 .0) (c .before .words .given .0 .1 .0))
 third c = rw (c .before .words .given .1) at (c .before .before .before .part-at3 .ensures)
 
 -- The map of the case, or the one before it.
 mapped : (c : tie.After-row-known2 Inv-loop μ-loop) →
-    (c .before .before .if1 .map-from ≤ c .before .before .if1 .map-to) × (c .before .before .if1 .map-to ≤ length (now (c .before .before .before .before .before .before .before .before .before .before .before .before .before .before .before .before .before .before .before .before .args .cases)))
+    (c .before .before .if1 .map-from ≤ c .before .before .if1 .map-to) × (c .before .before .if1 .map-to ≤ length (now (c .before .before .before .before .before .before .before .before .before .before .before .before .before .before .before .before .before .before .before .before .args .file)))
 mapped c =
     let v = c .before .before .before .before .before .before .before .before .before .before .before .before .before .before .before .before .before .loop .inv in
     ⊎-elim (λ w. omega (arith, first (c .before .before .before .before .before))) (λ w. omega (arith, v .3, v .4)) (c .before .before .if1 .came)
