@@ -177,7 +177,7 @@ def full_map_writes(maps, stretches):
 def test_writes():
     """The subject is a stretch, four bytes a line; the numbers are the offsets, and the lengths of the work area and of
     the byte buffer."""
-    calls = [*on_small_maps(write_cases(seed=1, count=2_300)), *full_map_writes(maps=10, stretches=20)]
+    calls = [*on_small_maps(write_cases(seed=1, count=2_400)), *full_map_writes(maps=10, stretches=20)]
     if any(len(given.lines) > WRITES_LINE_ROOM or given.byte_room > WRITES_BYTE_ROOM for given, _ in calls):
         raise RuntimeError("the program's buffers are too short for a case")
     return packed_calls(calls, lambda given: words(given.lines),

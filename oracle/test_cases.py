@@ -14,7 +14,7 @@ from outcome import Refused, ReferenceWritten, StretchRead
 from reference import take_apart
 
 # Enough for each recipe to go through its edges at least once.
-MAP_CASES, LEG_CASES, READ_CASES, WRITE_CASES = 420, 420, 740, 620
+MAP_CASES, LEG_CASES, READ_CASES, WRITE_CASES = 420, 420, 740, 640
 
 
 def refusal_in_label(label):
@@ -190,6 +190,12 @@ class Coverage(unittest.TestCase):
             if sum(line.length for line in read_map(case.given.map_bytes).lines) == total:
                 points.setdefault(total, set()).add(len(take_apart(case.expected.reference).points))
         self.assertEqual(points, {149_999: {2}, 150_000: {2}, 150_001: {3}})
+
+    def test_fewest_points_before_the_longest_first_leg(self):
+        made = self.write_details("fewest points")
+        for detail, case in made:
+            self.assertEqual(len(take_apart(case.expected.reference).points), 3 + int(detail.split()[0]))
+        self.assertEqual({detail.split()[0] for detail, _ in made}, {"0", "1", "2"})
 
     def test_all_but_one_line_skipped(self):
         made = self.write_details("all but one line skipped")

@@ -216,7 +216,7 @@ def legs_at_longest(rng, turn):
 
 
 def differences_at_ends(rng, turn):
-    """One or two lines whose ends differ by a number at an end of 16 bits, or one past. Two may have one between."""
+    """One or two lines whose ends differ by a number at an end of 16 bits, or one past. Two may be cut."""
     difference = (-32_769, -32_768, -32_767, 32_766, 32_767, 32_768)[turn % 6]
     builder = MapBuilder()
     places = [0, difference] if turn // 6 % 2 else [0, difference // 2, difference]
@@ -242,6 +242,25 @@ def all_but_one_line_skipped(rng, turn):
     return f"{count} lines", WriteInput(map_to_bytes(builder.build()), lines, pos, neg)
 
 
+def fewest_points(rng, turn):
+    """The first leg with most lines, 0 to 2, leaves two more legs; 0 and 1 leave one.
+
+    From the start of line 3 to the end of line 4 there is another way, with the same marks and longer by 1. So lines
+    2 to 5 can be one leg, and 3 to 5 cannot. Up to two lines that need a leg each come before.
+    """
+    lead = turn % 3
+    lengths = [150_000] * lead + [rng.choice([100_000, 120_000]), 10_000, 10_000, rng.choice([40_000, 45_000])]
+    lengths += [1_000, 1_000]
+    builder = MapBuilder()
+    nodes = builder.row_of_nodes(len(lengths) + 1)
+    aside = builder.node(0, 1_000)
+    lines = tuple(builder.line(start, end, length) for start, end, length in zip(nodes, nodes[1:], lengths))
+    builder.line(nodes[-4], aside, lengths[-3])
+    builder.line(aside, nodes[-2], lengths[-2] + 1)
+    pos, neg = rng.choice([0, 1, lengths[0] - 1]), rng.choice([0, 1, lengths[-1] - 1])
+    return f"{lead} lines before", WriteInput(map_to_bytes(builder.build()), lines, pos, neg)
+
+
 WRITE_RECIPES = {
     "stretch": plain_stretch,
     "offsets at line ends": offsets_at_edges,
@@ -255,6 +274,7 @@ WRITE_RECIPES = {
     "legs at the longest": legs_at_longest,
     "differences at the ends of 16 bits": differences_at_ends,
     "all but one line skipped": all_but_one_line_skipped,
+    "fewest points": fewest_points,
     "refusal 1": work_area_too_short(accepted_input, {"map_bytes": b""}, {"lines": ()}, {"byte_room": 0}),
     "refusal 2": damaged_map(2),
     "refusal 3": damaged_map(3),
