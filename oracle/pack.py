@@ -7,16 +7,20 @@ import argparse
 import sys
 from pathlib import Path
 
-from cases import leg_cases, map_cases, random_source, read_cases, stretch_leg
+from cases import leg_cases, map_cases, random_source, read_cases, stretch_leg, write_cases
 from depot_map import map_numbers, map_to_bytes
 from legs import LegSearch, list_length
 from outcome import Refused, outcome_text
 from read_recipes import changed_in_a_byte, composed_from, read_outcome
+from reader import LEAST_WORK_LENGTH, read
 from recipes import until_found
 from sample_maps import full_size_sample
+from write_recipes import many_on_full_size, write_outcome
 
 CRATES = Path(__file__).parent.parent / "crates"
 SUM_MODULUS = 4_294_967_291
+# The lengths of the buffers that test_writes has for lines and for bytes.
+WRITES_LINE_ROOM, WRITES_BYTE_ROOM = 80, 480
 
 
 def packed(parts):
@@ -91,12 +95,22 @@ def test_legs():
     return packed(parts), rows
 
 
-def read_row(outcome):
+def refusal_row(outcome):
+    """A refusal leaves the buffers as they were, and refusal 1 the work area too."""
+    return f"{outcome_text(outcome)} work {'kept' if outcome.number == 1 else 'cleared'} rest kept"
+
+
+def lines_text(outcome):
+    """The count of lines and the spans, as the printing program shows them, and a sum over the lines."""
+    first_row = outcome_text(outcome).split("\n")[0]
+    return f"{first_row} sum {number_sum(outcome.lines)}"
+
+
+def read_row(given, outcome):
     """The answer, and what stands in the work area and in the line buffer behind the lines handed back."""
-    text = outcome_text(outcome).split("\n")[0]
     if isinstance(outcome, Refused):
-        return f"{text} work {'kept' if outcome.number == 1 else 'cleared'} rest kept"
-    return f"{text} sum {number_sum(outcome.lines)} work cleared rest kept"
+        return refusal_row(outcome)
+    return f"{lines_text(outcome)} work cleared rest kept"
 
 
 def full_map_reads(maps, references):
@@ -111,34 +125,66 @@ def full_map_reads(maps, references):
             yield given, read_outcome(given)
 
 
-def small_map_reads(count):
-    for case in read_cases(seed=1, count=count):
+def on_small_maps(cases):
+    for case in cases:
         if not case.label.startswith("full size"):
             yield case.given, case.expected
 
 
-def by_map(reads):
-    """The same reads, each once, those on one map one after another."""
+def by_map(calls):
+    """The same calls, each once, those on one map one after another."""
     groups = {}
-    for given, outcome in reads:
+    for given, outcome in calls:
         groups.setdefault(given.map_bytes, {})[given] = outcome
-    return [read for group in groups.values() for read in group.items()]
+    return [call for group in groups.values() for call in group.items()]
 
 
-def test_reads():
-    """A case has three parts: a map, a reference, and three numbers. These are the lengths of the work area and
-    of the line buffer, and 1 where the map is that of the case before; its own part is empty then."""
+def packed_calls(calls, subject, numbers, row):
+    """A case has three parts: a map, what is read or written on it, and numbers. The last number is 1 where the map
+    is that of the case before; its own part is empty then."""
     parts, rows, map_before = [], [], None
-    for given, outcome in by_map([*small_map_reads(2_960), *full_map_reads(maps=10, references=40)]):
+    for given, outcome in by_map(calls):
         same = given.map_bytes == map_before
         map_before = given.map_bytes
-        parts += [b"" if same else given.map_bytes, given.reference,
-                  words([given.work_length, given.line_room, int(same)])]
-        rows.append(read_row(outcome))
+        parts += [b"" if same else given.map_bytes, subject(given), words([*numbers(given), int(same)])]
+        rows.append(row(given, outcome))
     return packed(parts), rows
 
 
-PROGRAMS = {"test_maps": test_maps, "test_legs": test_legs, "test_reads": test_reads}
+def test_reads():
+    """The subject is a reference; the numbers are the lengths of the work area and of the line buffer."""
+    calls = [*on_small_maps(read_cases(seed=1, count=2_960)), *full_map_reads(maps=10, references=40)]
+    return packed_calls(calls, lambda given: given.reference,
+                        lambda given: [given.work_length, given.line_room], read_row)
+
+
+def write_row(given, outcome):
+    """The answer, what stands in the work area and in the byte buffer behind the bytes, and how they are read."""
+    if isinstance(outcome, Refused):
+        return refusal_row(outcome)
+    reference = outcome.reference
+    read_back = read(given.map_bytes, reference, LEAST_WORK_LENGTH, WRITES_LINE_ROOM)
+    return (f"bytes {len(reference)} sum {number_sum(reference)} work cleared rest kept"
+            f" read {lines_text(read_back)}")
+
+
+def full_map_writes(maps, stretches):
+    for turn in range(maps):
+        for given in many_on_full_size(random_source("full-size writes", 1, turn), stretches):
+            yield given, write_outcome(given)
+
+
+def test_writes():
+    """The subject is a stretch, four bytes a line; the numbers are the offsets, and the lengths of the work area and of
+    the byte buffer."""
+    calls = [*on_small_maps(write_cases(seed=1, count=2_400)), *full_map_writes(maps=10, stretches=20)]
+    if any(len(given.lines) > WRITES_LINE_ROOM or given.byte_room > WRITES_BYTE_ROOM for given, _ in calls):
+        raise RuntimeError("the program's buffers are too short for a case")
+    return packed_calls(calls, lambda given: words(given.lines),
+                        lambda given: [given.pos, given.neg, given.work_length, given.byte_room], write_row)
+
+
+PROGRAMS = {"test_maps": test_maps, "test_legs": test_legs, "test_reads": test_reads, "test_writes": test_writes}
 
 
 def files():

@@ -8,12 +8,13 @@ from pathlib import Path
 
 import cases
 from damages import LINE_FIELDS
+from depot_map import read_map
 from legs import Readings, list_length
 from outcome import Refused, ReferenceWritten, StretchRead
 from reference import take_apart
 
 # Enough for each recipe to go through its edges at least once.
-MAP_CASES, LEG_CASES, READ_CASES, WRITE_CASES = 420, 420, 740, 500
+MAP_CASES, LEG_CASES, READ_CASES, WRITE_CASES = 420, 420, 740, 640
 
 
 def refusal_in_label(label):
@@ -159,6 +160,48 @@ class Coverage(unittest.TestCase):
                 for point in take_apart(case.expected.reference).points[1:]:
                     differences |= {point.longitude, point.latitude}
         self.assertLessEqual({-32_768, 32_767, 0}, differences)
+
+    def write_details(self, recipe):
+        """The cases of a recipe, each with its detail."""
+        return [(case.label.split(": ", 1)[1], case) for case in self.write_cases
+                if case.label.startswith(recipe + ": ")]
+
+    def test_differences_one_past_are_refused_or_cut(self):
+        seen = {}
+        for detail, case in self.write_details("differences at the ends of 16 bits"):
+            outcome = case.expected.number if isinstance(case.expected, Refused) else len(case.expected.reference)
+            seen.setdefault(int(detail.split()[1]), set()).add((len(case.given.lines), outcome))
+        for difference in (-32_769, 32_768):
+            self.assertEqual(seen[difference], {(1, 10), (2, 23)}, difference)
+        for difference in (-32_768, -32_767, 32_766, 32_767):
+            self.assertEqual(seen[difference], {(1, 16), (2, 16)}, difference)
+
+    def test_two_equal_ways_need_a_point_between(self):
+        made = self.write_details("point in mid-leg")
+        for detail, case in made:
+            # At least a point in each hop, besides the two at the ends.
+            self.assertGreaterEqual(len(take_apart(case.expected.reference).points), 2 + int(detail.split()[0]))
+        self.assertEqual({detail.split()[0] for detail, _ in made}, {"1", "2", "3", "4"})
+
+    def test_past_the_longest_leg_a_point_more_is_needed(self):
+        points = {}
+        for detail, case in self.write_details("legs at the longest"):
+            total = int(detail.split()[2])
+            if sum(line.length for line in read_map(case.given.map_bytes).lines) == total:
+                points.setdefault(total, set()).add(len(take_apart(case.expected.reference).points))
+        self.assertEqual(points, {149_999: {2}, 150_000: {2}, 150_001: {3}})
+
+    def test_fewest_points_before_the_longest_first_leg(self):
+        made = self.write_details("fewest points")
+        for detail, case in made:
+            self.assertEqual(len(take_apart(case.expected.reference).points), 3 + int(detail.split()[0]))
+        self.assertEqual({detail.split()[0] for detail, _ in made}, {"0", "1", "2"})
+
+    def test_all_but_one_line_skipped(self):
+        made = self.write_details("all but one line skipped")
+        for _, case in made:
+            self.assertEqual(len(take_apart(case.expected.reference).points), 2)
+        self.assertEqual({len(case.given.lines) for _, case in made}, {2, 3, 63, 64})
 
     def test_edges_of_leg_lengths(self):
         lengths = {list_length(case.depot_map, case.expected.lines) for case in self.leg_cases

@@ -8,7 +8,7 @@ from legs import list_length
 from outcome import ReferenceWritten
 from reader import LEAST_WORK_LENGTH
 from recipes import any_sample, until_found, work_area_exactly_enough, work_area_too_short
-from sample_maps import MapBuilder, far_sample, full_size_sample, ring_sample
+from sample_maps import NODE_STEP, MapBuilder, far_sample, full_size_sample, random_walk, ring_sample
 from writer import MOST_STRETCH_LINES, write
 
 AMPLE_BYTES = 459
@@ -86,7 +86,7 @@ def longest_reference(rng, turn):
     lines = tuple(builder.line(start, end, rng.choice([75_001, 149_999, 150_000]))
                   for start, end in zip(nodes, nodes[1:]))
     pos, neg = [(1, 1), (75_000, 75_000), (75_001, 1), (0, 1), (0, 0)][turn % 5]
-    byte_room = AMPLE_BYTES - turn // 5 % 2
+    byte_room = (AMPLE_BYTES, AMPLE_BYTES - 1, AMPLE_BYTES + 21)[turn // 5 % 3]
     return f"room for {byte_room} bytes", WriteInput(map_to_bytes(builder.build()), lines, pos, neg,
                                                      byte_room=byte_room)
 
@@ -95,6 +95,16 @@ def full_size(rng, turn):
     sample = full_size_sample(rng)
     pos, neg = edge_offsets(rng, sample.depot_map, sample.stretch) if turn % 2 else (0, 0)
     return sample.label, WriteInput(map_to_bytes(sample.depot_map), sample.stretch, pos, neg)
+
+
+def many_on_full_size(rng, count):
+    """Inputs on one full-size map: walks of 1 to 64 lines, every other one with offsets."""
+    depot_map = full_size_sample(rng).depot_map
+    map_bytes = map_to_bytes(depot_map)
+    for number in range(count):
+        lines = random_walk(rng, depot_map, rng.choice([1, 2, 4, 8, 16, MOST_STRETCH_LINES]))
+        pos, neg = edge_offsets(rng, depot_map, lines) if number % 2 else (0, 0)
+        yield WriteInput(map_bytes, lines, pos, neg)
 
 
 def bytes_exactly_enough(rng, turn):
@@ -176,6 +186,81 @@ def no_usable_choice(rng, turn):
     return "equal lines side by side", WriteInput(map_to_bytes(builder.build()), lines, byte_room=turn % 459)
 
 
+def point_in_mid_leg(rng, turn):
+    """Hops with two ways of equal marks and lengths, over a node each: only a point there tells them apart."""
+    builder = MapBuilder()
+    row = builder.row_of_nodes(2 + turn % 4)
+    stretch = []
+    for start, end in zip(row, row[1:]):
+        total = rng.choice([2, 586, 1_000, 149_999, 150_000])
+        first_lengths = [rng.randrange(1, total) for _ in range(2)]
+        ways = []
+        for side, first_length in enumerate(first_lengths):
+            middle = builder.node(NODE_STEP * start + NODE_STEP // 2, 1_000 * (side + 1))
+            ways.append((builder.line(start, middle, first_length), builder.line(middle, end, total - first_length)))
+        stretch += rng.choice(ways)
+    return f"{len(row) - 1} hops", WriteInput(map_to_bytes(builder.build()), tuple(stretch))
+
+
+def legs_at_longest(rng, turn):
+    """Lines in a row, the first two to five of which make 149,999 to 150,001; past 150,000 a point is needed."""
+    total = (149_999, 150_000, 150_001)[turn % 3]
+    cuts = sorted(rng.sample(range(1, total), 1 + turn // 3 % 4))
+    lengths = [end - start for start, end in zip([0, *cuts], [*cuts, total])]
+    lengths += [[], [1], [total - 1], [1, 149_999, 1]][turn // 12 % 4]
+    builder = MapBuilder()
+    nodes = builder.row_of_nodes(len(lengths) + 1)
+    lines = tuple(builder.line(start, end, length) for start, end, length in zip(nodes, nodes[1:], lengths))
+    pos, neg = [(0, 0), (lengths[0] - 1, 0), (0, lengths[-1] - 1)][rng.randrange(3)]
+    return f"legs of {total}", WriteInput(map_to_bytes(builder.build()), lines, pos, neg)
+
+
+def differences_at_ends(rng, turn):
+    """One or two lines whose ends differ by a number at an end of 16 bits, or one past. Two may be cut."""
+    difference = (-32_769, -32_768, -32_767, 32_766, 32_767, 32_768)[turn % 6]
+    builder = MapBuilder()
+    places = [0, difference] if turn // 6 % 2 else [0, difference // 2, difference]
+    start = rng.choice([0, -1_000_000, 1_000_000])
+    aside = rng.choice([0, 7])
+    nodes = [builder.node(*((start + place, start + aside) if turn // 12 % 2 else (start + aside, start + place)))
+             for place in places]
+    lines = tuple(builder.line(start, end, rng.choice([1, 1_000])) for start, end in zip(nodes, nodes[1:]))
+    return f"difference {difference}", WriteInput(map_to_bytes(builder.build()), lines)
+
+
+def all_but_one_line_skipped(rng, turn):
+    """A stretch of up to 64 lines and offsets that cover all of it but one line, or that line but one decimetre."""
+    builder = MapBuilder()
+    count = (2, 3, 63, 64)[turn % 4]
+    nodes = builder.row_of_nodes(count + 1)
+    lengths = [rng.choice([1, 2, 1_000, 150_000]) for _ in range(count)]
+    lines = tuple(builder.line(start, end, length) for start, end, length in zip(nodes, nodes[1:], lengths))
+    kept = (0, count - 1, rng.randrange(count))[turn // 4 % 3]
+    room = lengths[kept] - 1
+    more = rng.choice([0, room, rng.randrange(room + 1)])
+    pos, neg = sum(lengths[:kept]) + more, sum(lengths[kept + 1:]) + rng.choice([0, room - more])
+    return f"{count} lines", WriteInput(map_to_bytes(builder.build()), lines, pos, neg)
+
+
+def fewest_points(rng, turn):
+    """The first leg with most lines, 0 to 2, leaves two more legs; 0 and 1 leave one.
+
+    From the start of line 3 to the end of line 4 there is another way, with the same marks and longer by 1. So lines
+    2 to 5 can be one leg, and 3 to 5 cannot. Up to two lines that need a leg each come before.
+    """
+    lead = turn % 3
+    lengths = [150_000] * lead + [rng.choice([100_000, 120_000]), 10_000, 10_000, rng.choice([40_000, 45_000])]
+    lengths += [1_000, 1_000]
+    builder = MapBuilder()
+    nodes = builder.row_of_nodes(len(lengths) + 1)
+    aside = builder.node(0, 1_000)
+    lines = tuple(builder.line(start, end, length) for start, end, length in zip(nodes, nodes[1:], lengths))
+    builder.line(nodes[-4], aside, lengths[-3])
+    builder.line(aside, nodes[-2], lengths[-2] + 1)
+    pos, neg = rng.choice([0, 1, lengths[0] - 1]), rng.choice([0, 1, lengths[-1] - 1])
+    return f"{lead} lines before", WriteInput(map_to_bytes(builder.build()), lines, pos, neg)
+
+
 WRITE_RECIPES = {
     "stretch": plain_stretch,
     "offsets at line ends": offsets_at_edges,
@@ -185,6 +270,11 @@ WRITE_RECIPES = {
     "work area long enough": work_area_exactly_enough(accepted_input),
     "longest reference": longest_reference,
     "full size": full_size,
+    "point in mid-leg": point_in_mid_leg,
+    "legs at the longest": legs_at_longest,
+    "differences at the ends of 16 bits": differences_at_ends,
+    "all but one line skipped": all_but_one_line_skipped,
+    "fewest points": fewest_points,
     "refusal 1": work_area_too_short(accepted_input, {"map_bytes": b""}, {"lines": ()}, {"byte_room": 0}),
     "refusal 2": damaged_map(2),
     "refusal 3": damaged_map(3),

@@ -79,3 +79,23 @@ pub fn sum_of(numbers: &[u32], from: usize, to: usize, sum: u64) -> u64
     }
     total
 }
+
+// The sum over the first `to` bytes.
+pub fn sum_of_bytes(bytes: &[u8], to: usize) -> u64
+    requires { ⌜ to ≤ length (now bytes) ⌝ }
+    ensures { λ r. ⌜ r < 4_294_967_291 ⌝ }
+{
+    let mut total: u64 = 0;
+    let mut i: usize = 0;
+    while i < to {
+        total = added(total, wide(bytes[i]) as u32);
+        i += 1;
+    }
+    total
+}
+
+pub fn lesser(a: usize, b: usize) -> usize
+    ensures { λ r. ⌜ (r ≤ a) × (r ≤ b) ⌝ }
+{
+    if a < b { a } else { b }
+}

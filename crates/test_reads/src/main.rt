@@ -1,92 +1,20 @@
 // Reads the references of cases.bin, each on its own map, and prints a row for each: the answer, a sum over the lines handed back, what the call left of
 // the work area, and whether the rest of the line buffer is as it was. What it prints is held to what the unrelated implementation says (oracle/pack.py).
 use cases::Part;
+use cases::lesser;
 use cases::sum_of;
 use cases::word_at;
 use console::print;
 use console::show;
 use libc::STDOUT_FILENO;
+use marks::fill;
+use marks::is_kept;
+use marks::show_rest;
+use marks::show_work;
 use model::ReadAnswer;
 use reader::read;
-ghost use mathlib.Core.Path.{_≡_};
-ghost use Prim.Native.Nat.{_≤_, _<_};
-ghost use mathlib.Core.Bool.{true};
+ghost use Prim.Native.Nat.{_<_};
 ghost use lib.ListN.{length};
-ghost use Rattle.test_reads.specs.Marks.{markOf, Marked, Cleared};
-
-// What stands at place `i` of a buffer before a call. It is no line's number and not 0.
-fn mark(i: usize) -> u32
-    requires { ⌜ i < 1_000_000 ⌝ }
-    ensures { λ r. ⌜ r ≡ markOf i ⌝ }
-{
-    3_000_000_000 + i as u32
-}
-
-fn fill(buffer: &mut [u32])
-    requires { ⌜ length (now buffer) < 1_000_000 ⌝ }
-    ensures { λ _. ⌜ Marked (now (buffer .exit)) 0 (length (now (buffer .exit))) ⌝ }
-{
-    let mut i: usize = 0;
-    while i < buffer.len() {
-        buffer[i] = mark(i);
-        i += 1;
-    }
-}
-
-// Whether a buffer is as `fill` left it from place `from` on.
-fn is_kept(buffer: &[u32], from: usize) -> bool
-    requires { ⌜ length (now buffer) < 1_000_000 ⌝ }
-    ensures { λ r. ⌜ (r ≡ true → Marked (now (buffer .entry)) from (length (now (buffer .entry)))) ⌝ }
-{
-    let mut i = from;
-    while i < buffer.len() {
-        if buffer[i] != mark(i) {
-            return false;
-        }
-        i += 1;
-    }
-    true
-}
-
-// Whether the first 12,288 numbers are 0 and the rest is as `fill` left it.
-fn is_cleared(work: &[u32]) -> bool
-    requires { ⌜ length (now work) < 1_000_000 ⌝ }
-    ensures { λ r. ⌜ (r ≡ true → Cleared (now (work .entry))) ⌝ }
-{
-    if work.len() < 12288 {
-        return false;
-    }
-    let mut i: usize = 0;
-    while i < 12288 {
-        if work[i] != 0 {
-            return false;
-        }
-        i += 1;
-    }
-    is_kept(work, 12288)
-}
-
-fn show_work(work: &[u32])
-    requires { ⌜ length (now work) < 1_000_000 ⌝ }
-{
-    if is_kept(work, 0) {
-        io::write_all(STDOUT_FILENO, b" work kept");
-    } else if is_cleared(work) {
-        io::write_all(STDOUT_FILENO, b" work cleared");
-    } else {
-        io::write_all(STDOUT_FILENO, b" work changed");
-    }
-}
-
-fn show_rest(lines: &[u32], from: usize)
-    requires { ⌜ length (now lines) < 1_000_000 ⌝ }
-{
-    if is_kept(lines, from) {
-        io::write_all(STDOUT_FILENO, b" rest kept\n");
-    } else {
-        io::write_all(STDOUT_FILENO, b" rest changed\n");
-    }
-}
 
 // How many lines an answer hands back.
 fn count_of(answer: ReadAnswer) -> usize {
@@ -94,12 +22,6 @@ fn count_of(answer: ReadAnswer) -> usize {
         ReadAnswer::Read(count, _, _) => count,
         ReadAnswer::Refused(_) => 0,
     }
-}
-
-fn lesser(a: usize, b: usize) -> usize
-    ensures { λ r. ⌜ (r ≤ a) × (r ≤ b) ⌝ }
-{
-    if a < b { a } else { b }
 }
 
 // Prints a row. The sum is over the lines handed back; a count beyond the buffer shows by itself.
@@ -112,7 +34,8 @@ fn show_row(answer: ReadAnswer, work: &[u32], lines: &[u32])
         print(b" sum ", sum_of(lines, 0, count, 0));
     }
     show_work(work);
-    show_rest(lines, count);
+    show_rest(is_kept(lines, count));
+    io::write_all(STDOUT_FILENO, b"\n");
 }
 
 // Fills the buffers, reads into them and prints the row.

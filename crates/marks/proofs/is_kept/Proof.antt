@@ -4,13 +4,13 @@ use borrow.Author.Needs.{needs}
 use Prim.Native.Nat.{_-_, _≤_}
 use lib.ListN.{length}
 use mathlib.Core.Path.{_∙_}
-use Rattle.test_reads.specs.Marks.{Marked}
-use Rattle.test_reads.proofs.Marks.{marked-next, said-no}
-use Rattle.test_reads.proofs.is_kept.Statement.{statement}
-use Rattle.test_reads.proofs.is_kept.Tie as tie
+use Rattle.marks.specs.Marks.{markOf, Marked}
+use Rattle.marks.proofs.Marks.{marked-next, said-no}
+use Rattle.marks.proofs.is_kept.Statement.{statement}
+use Rattle.marks.proofs.is_kept.Tie as tie
 
 abbrev Inv-loop : tie.InvT-loop
-Inv-loop buffer from i₀ i = (from ≤ i) × Marked buffer from i
+Inv-loop buffer from i₀ i = (from ≤ i) × Marked markOf buffer from i
 
 abbrev μ-loop : tie.MeasureT-loop
 μ-loop buffer from i₀ i = length buffer - i
@@ -37,7 +37,7 @@ loop-less : tie.Need-loop-less Inv-loop μ-loop
 loop-less c = search needs
 
 loop-again : tie.Need-loop-again Inv-loop μ-loop
-loop-again c = (search needs, marked-next (c .before .before .before .before .before .before .args .buffer .now) _ _ (c .before .before .before .before .loop .inv .1) (c .if1 .left ∙ c .before .mark .ensures))
+loop-again c = (search needs, marked-next markOf (c .before .before .before .before .before .before .args .buffer .now) _ _ (c .before .before .before .before .loop .inv .1) (c .if1 .left ∙ c .before .mark .ensures))
 
 returns-2 : tie.Need-returns-2 Inv-loop μ-loop
 returns-2 c = λ e k b f. c .before .loop .inv .1 k (omega arith) f

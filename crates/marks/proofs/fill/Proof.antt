@@ -4,13 +4,13 @@ use borrow.Author.Needs.{needs}
 use Prim.Native.Nat.{_-_, _≤_}
 use mathlib.Core.Path.{_≡_}
 use lib.ListN.{length}
-use Rattle.test_reads.specs.Marks.{Marked}
-use Rattle.test_reads.proofs.Marks.{marked-set}
-use Rattle.test_reads.proofs.fill.Statement.{statement}
-use Rattle.test_reads.proofs.fill.Tie as tie
+use Rattle.marks.specs.Marks.{markOf, Marked}
+use Rattle.marks.proofs.Marks.{marked-set}
+use Rattle.marks.proofs.fill.Statement.{statement}
+use Rattle.marks.proofs.fill.Tie as tie
 
 abbrev Inv-loop : tie.InvT-loop
-Inv-loop buffer₀ i₀ buffer i = (i ≤ length buffer₀) × (length buffer ≡ length buffer₀) × Marked buffer 0 i
+Inv-loop buffer₀ i₀ buffer i = (i ≤ length buffer₀) × (length buffer ≡ length buffer₀) × Marked markOf buffer 0 i
 
 abbrev μ-loop : tie.MeasureT-loop
 μ-loop buffer₀ i₀ buffer i = length buffer₀ - i
@@ -34,7 +34,7 @@ loop-less : tie.Need-loop-less Inv-loop μ-loop
 loop-less c = search needs
 
 loop-again : tie.Need-loop-again Inv-loop μ-loop
-loop-again c = (search needs, search needs, marked-set (c .before .before .loop .buffer) _ _ (omega arith) (c .mark .ensures) (c .before .before .loop .inv .2))
+loop-again c = (search needs, search needs, marked-set markOf (c .before .before .loop .buffer) _ _ (omega arith) (c .mark .ensures) (c .before .before .loop .inv .2))
 
 same-length : tie.Need-same-length Inv-loop μ-loop
 same-length c = search needs

@@ -5,9 +5,9 @@ use Prim.Native.Nat.{ℕ, _-_, _≤_, _<_}
 use mathlib.Core.Path.{_≡_}
 use lib.ListN.{length, getD}
 use borrow.Author.Count.{below-more}
-use Rattle.test_reads.proofs.Marks.{said-no}
-use Rattle.test_reads.proofs.is_cleared.Statement.{statement}
-use Rattle.test_reads.proofs.is_cleared.Tie as tie
+use Rattle.marks.proofs.Marks.{said-no}
+use Rattle.marks.proofs.is_cleared.Statement.{statement}
+use Rattle.marks.proofs.is_cleared.Tie as tie
 
 abbrev Inv-loop : tie.InvT-loop
 Inv-loop work i₀ i = (i ≤ 12_288) × ((k : ℕ) → k < i → getD work k 0 ≡ 0)

@@ -1,0 +1,111 @@
+// Marks that a test program puts into the buffers that it lends, and what a call left of them.
+use libc::STDOUT_FILENO;
+ghost use mathlib.Core.Path.{_≡_};
+ghost use Prim.Native.Nat.{_<_};
+ghost use mathlib.Core.Bool.{true};
+ghost use lib.ListN.{length};
+ghost use Rattle.marks.specs.Marks.{markOf, byteMarkOf, Marked, Cleared};
+
+// What stands at place `i` of a buffer before a call. It is no line's number and not 0.
+fn mark(i: usize) -> u32
+    requires { ⌜ i < 1_000_000 ⌝ }
+    ensures { λ r. ⌜ r ≡ markOf i ⌝ }
+{
+    3_000_000_000 + i as u32
+}
+
+// The same for a buffer of bytes. Bytes next to each other differ.
+fn byte_mark(i: usize) -> u8
+    ensures { λ r. ⌜ r ≡ byteMarkOf i ⌝ }
+{
+    (i % 251) as u8
+}
+
+pub fn fill(buffer: &mut [u32])
+    requires { ⌜ length (now buffer) < 1_000_000 ⌝ }
+    ensures { λ _. ⌜ Marked markOf (now (buffer .exit)) 0 (length (now (buffer .exit))) ⌝ }
+{
+    let mut i: usize = 0;
+    while i < buffer.len() {
+        buffer[i] = mark(i);
+        i += 1;
+    }
+}
+
+pub fn fill_bytes(buffer: &mut [u8])
+    ensures { λ _. ⌜ Marked byteMarkOf (now (buffer .exit)) 0 (length (now (buffer .exit))) ⌝ }
+{
+    let mut i: usize = 0;
+    while i < buffer.len() {
+        buffer[i] = byte_mark(i);
+        i += 1;
+    }
+}
+
+// Whether a buffer is as `fill` left it from place `from` on.
+pub fn is_kept(buffer: &[u32], from: usize) -> bool
+    requires { ⌜ length (now buffer) < 1_000_000 ⌝ }
+    ensures { λ r. ⌜ (r ≡ true → Marked markOf (now (buffer .entry)) from (length (now (buffer .entry)))) ⌝ }
+{
+    let mut i = from;
+    while i < buffer.len() {
+        if buffer[i] != mark(i) {
+            return false;
+        }
+        i += 1;
+    }
+    true
+}
+
+// Whether a buffer is as `fill_bytes` left it from place `from` on.
+pub fn bytes_kept(buffer: &[u8], from: usize) -> bool
+    ensures { λ r. ⌜ (r ≡ true → Marked byteMarkOf (now (buffer .entry)) from (length (now (buffer .entry)))) ⌝ }
+{
+    let mut i = from;
+    while i < buffer.len() {
+        if buffer[i] != byte_mark(i) {
+            return false;
+        }
+        i += 1;
+    }
+    true
+}
+
+// Whether the first 12,288 numbers are 0 and the rest is as `fill` left it.
+pub fn is_cleared(work: &[u32]) -> bool
+    requires { ⌜ length (now work) < 1_000_000 ⌝ }
+    ensures { λ r. ⌜ (r ≡ true → Cleared (now (work .entry))) ⌝ }
+{
+    if work.len() < 12288 {
+        return false;
+    }
+    let mut i: usize = 0;
+    while i < 12288 {
+        if work[i] != 0 {
+            return false;
+        }
+        i += 1;
+    }
+    is_kept(work, 12288)
+}
+
+pub fn show_work(work: &[u32])
+    requires { ⌜ length (now work) < 1_000_000 ⌝ }
+{
+    if is_kept(work, 0) {
+        io::write_all(STDOUT_FILENO, b" work kept");
+    } else if is_cleared(work) {
+        io::write_all(STDOUT_FILENO, b" work cleared");
+    } else {
+        io::write_all(STDOUT_FILENO, b" work changed");
+    }
+}
+
+// Whether the rest of a buffer, behind what a call hands back in it, is as it was.
+pub fn show_rest(kept: bool) {
+    if kept {
+        io::write_all(STDOUT_FILENO, b" rest kept");
+    } else {
+        io::write_all(STDOUT_FILENO, b" rest changed");
+    }
+}
