@@ -70,19 +70,26 @@ pub fn write_two_and_read(
     pos: u32,
     neg: u32,
     second: &[u32],
-    ahead: u32,
-    behind: u32,
+    second_pos: u32,
+    second_neg: u32,
     writing: &mut [u32],
     bytes: &mut [u8],
     others: &mut [u8],
     reading: &mut [u32],
     lines: &mut [u32],
 ) -> Pair
-    ensures { λ r. ⌜ PairTells (now (map .entry)) (stretchOf (now (first .entry)) pos neg) (stretchOf (now (second .entry)) ahead behind) (now (writing .entry)) (now (writing .exit)) (now (bytes .entry)) (now (bytes .exit)) (now (others .entry)) (now (others .exit)) (now (reading .entry)) (now (reading .exit)) (now (lines .entry)) (now (lines .exit)) r ⌝ }
+    ensures { λ r. ⌜ PairTells (now (map .entry)) (stretchOf (now (first .entry)) pos neg) (stretchOf (now (second .entry)) «second_pos» «second_neg») (now (writing .entry)) (now (writing .exit)) (now (bytes .entry)) (now (bytes .exit)) (now (others .entry)) (now (others .exit)) (now (reading .entry)) (now (reading .exit)) (now (lines .entry)) (now (lines .exit)) r ⌝ }
 {
     match write(map, first, pos, neg, writing, bytes) {
         WriteAnswer::Refused(why) => Pair::FirstRefused(why),
-        WriteAnswer::Written(count) => match write(map, second, ahead, behind, writing, others) {
+        WriteAnswer::Written(count) => match write(
+            map,
+            second,
+            second_pos,
+            second_neg,
+            writing,
+            others,
+        ) {
             WriteAnswer::Refused(why) => Pair::SecondRefused(why),
             WriteAnswer::Written(size) => {
                 if !same_bytes(&bytes[..count], &others[..size]) {
