@@ -11,6 +11,8 @@ pub mod Bytes
 pub mod Slices
 pub mod Marks
 pub mod Sole
+pub mod Prefix
+pub mod SoleWays
 pub mod Trials
 pub mod Opening
 pub mod Rows

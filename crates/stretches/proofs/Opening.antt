@@ -16,7 +16,7 @@ use Rattle.search.specs.Area.{latest}
 use Rattle.search.proofs.Leaving.{latest-all}
 use Rattle.legs.proofs.Lines.{none-yet, no-other, not-leaving}
 use Rattle.stretches.specs.Cuts.{Tested}
-use Rattle.stretches.specs.LegTests.{legFrom, Usual, Says1, Sole, SoleFrom, Open, Sifted}
+use Rattle.stretches.specs.LegTests.{legFrom, Says1, OwnRead, Sole, SoleFrom, Open, Sifted}
 use Rattle.stretches.proofs.Slices.{first-of-slice, from-of-slice}
 use Rattle.stretches.proofs.Trials.{slice-connected}
 
@@ -32,16 +32,19 @@ module _ {m : Map} {s : List ℕ} {i j : ℕ} (c : Connected m s) (h : i < j) (l
   own-known : firstOf (slice i j s) < length (m .lines)
   own-known = first-known (slice-connected s i j h l c)
 
-  pub open-start : {at x : ℕ} → at ≡ latest m (lineAt m (getD s i 0) .start) (length (m .lines)) → Says1 (Usual m (slice i j s)) x → Open m s i j at x
+  sole-of : {first : ℕ} → Tested (good m) s i j → Sole m (legFrom m s i j) (slice i j s) first
+  sole-of g = record { own = λ x. g .only .reading; only = λ other r. g .only .only other (r .reading) }
+
+  pub open-start : {at x : ℕ} → at ≡ latest m (lineAt m (getD s i 0) .start) (length (m .lines)) → Says1 (OwnRead m s i j) x → Open m s i j at x
   open-start {at} {x} e says =
       record {
-        usual = says .sound;
+        usual = λ one. says .sound one .usual;
         sole = λ one. record {
           own = λ le. absurd
               (omega (arith, le, e, latest-all m (lineAt m (getD s i 0) .start) (length (m .lines)) (firstOf (slice i j s)) own-known own-starts));
           only = λ other r. absurd (none-yet {m = m} {leg = legFrom m s i j} at (rw leg-starts e) other r);
         };
-        good = λ g. says .complete (record { fit = g .fit; within = g .only .reading .allowed .within });
+        good = λ g. says .complete (record { usual = record { fit = g .fit; within = g .only .reading .allowed .within }; sole = sole-of g });
       }
 
   pub open-on : {at next x y : ℕ} → 0 < at → lineAt m (at - 1) .start ≡ lineAt m (getD s i 0) .start →
@@ -50,7 +53,7 @@ module _ {m : Map} {s : List ℕ} {i j : ℕ} (c : Connected m s) (h : i < j) (l
       record {
         usual = λ one. o .usual (z .still one);
         sole = λ one. on (o .sole (z .still one)) (z .sole one);
-        good = λ g. z .good (o .good g) (record { own = λ x. g .only .reading; only = λ other r. g .only .only other (r .reading) });
+        good = λ g. z .good (o .good g) (sole-of g);
       }
     where
       mine : SoleFrom m (legFrom m s i j) (slice i j s) at → Sole m (legFrom m s i j) (slice i j s) (at - 1) → next ≤ firstOf (slice i j s) →
@@ -95,6 +98,10 @@ module _ {m : Map} {s : List ℕ} {i j : ℕ} (c : Connected m s) (h : i < j) (l
         };
         good = λ one sole. one;
       }
+
+-- The own first line is not tested again.
+pub not-again : {m : Map} {s : List ℕ} {i j x : ℕ} → (x ≡ 1 → OwnRead m s i j) → Sifted m s i j (getD s i 0) x x
+not-again own = record { still = λ one. one; sole = λ one. own one .sole; good = λ one sole. one }
 
 -- A number that is not 1 is not tested, and one that is, is.
 pub not-tested : {m : Map} {s : List ℕ} {i j first x : ℕ} → (x ≡ 1 → ⊥) → Sifted m s i j first x x

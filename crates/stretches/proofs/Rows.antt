@@ -1,9 +1,10 @@
 -- A row of the table while its legs are tested by a first line, one leg after another; and by one first line after another.
 use Prim.Native.Nat.{ℕ, zero, suc, _+_, _*_, _-_, _≤_, _<_, max}
-use mathlib.Core.Path.{_≡_, sym, subst, _∙_, ap₂}
+use mathlib.Core.Path.{_≡_, refl, sym, subst, _∙_, ap₂}
 use mathlib.Core.Logic.{⊎-elim}
 use mathlib.Core.List.{List}
 use native.Mathlib.Nat.{eq-or-lt-of-le}
+use native.Mathlib.Decide.{decLt}
 use native.Mathlib.Omega.{arith}
 use lib.ListN.{length, getD, set}
 use lib.Seq.{slice, getD-set-other}
@@ -16,25 +17,40 @@ use Rattle.search.specs.Area.{latest}
 use Rattle.search.proofs.Leaving.{latest-le, latest-hit}
 use Rattle.legs.specs.Verdict.{Set}
 use Rattle.stretches.specs.declared.leg_tests.Cell.{Cell}
+use Rattle.stretches.specs.declared.leg_tests.OwnCell.{OwnCell}
+use Rattle.stretches.specs.declared.leg_tests.Row.{Row}
 use Rattle.stretches.specs.Stretch.{Known}
 use Rattle.stretches.specs.Cuts.{Tested}
-use Rattle.stretches.specs.LegTests.{mark, Says1, Open, Sifted, DoneFor, Within, Measured, Worked, CellTested, RowSifted, RowBegun, RowTested}
+use Rattle.stretches.specs.LegTests.{mark, Says1, Open, Sifted, DoneFor, Trial, Within, OwnRead, Owned, Measured, Worked, CellTested, OwnTested, RowSifted, RowOwned, RowTested}
 use Rattle.stretches.proofs.Slices.{total-slice-on, total-slice-none, lowest-slice-on, lowest-slice-none, row-set}
-use Rattle.stretches.proofs.Opening.{open-start, open-on, open-end}
+use Rattle.stretches.proofs.Opening.{open-start, open-on, open-end, not-tested}
+use Rattle.stretches.proofs.Marks.{says-no}
 
 pub worked-then : {m : Map} {lines : ℕ} {w v u : List ℕ} → Worked m lines w v → Worked m lines v u → Worked m lines w u
 worked-then a b = record { set = b .set; kept = kept-then (a .kept) (b .kept) }
 
+-- One line more.
+pub measured-on : {m : Map} {s : List ℕ} {i j class len class′ len′ frc size : ℕ} → i ≤ j → j < length s → class ≡ lowest m (slice i j s) →
+    len ≡ total m (slice i j s) → class′ ≡ max class frc → frc ≡ lineAt m (getD s j 0) .frc → len′ ≡ len + size →
+    size ≡ lineAt m (getD s j 0) .length → Measured m s i (j + 1) class′ len′
+measured-on {m} {s} {i} {j} before inside classes sum c f l z =
+    record {
+      ordered = omega arith;
+      inside = omega arith;
+      classes = c ∙ ap₂ max classes f ∙ sym (lowest-slice-on s i j before inside m);
+      sum = omega (arith, l, z, sum, total-slice-on s i j before inside m);
+    }
+
 -- The legs up to position `j` are tested by the first line `first`.
-pub record Sifting (m : Map) (lines : ℕ) (s : List ℕ) (i first limit : ℕ) (a b w v : List ℕ) (class len searched j : ℕ) : Type 0 where
+pub record Sifting (m : Map) (lines : ℕ) (s : List ℕ) (i first : ℕ) (a b w v : List ℕ) (class len searched limit j : ℕ) : Type 0 where
   pub classes : class ≡ lowest m (slice i j s)
   pub sum : len ≡ total m (slice i j s)
   pub done : DoneFor m lines searched first limit v
   pub sifted : (k : ℕ) → i < k → k ≤ j → Sifted m s i k first (mark a i k) (mark b i k)
   pub worked : Worked m lines w v
 
-module _ {m : Map} {lines : ℕ} {s : List ℕ} {i first limit : ℕ} {w : List ℕ} where
-  pub sifting-start : {a : List ℕ} → Set m lines w → Sifting m lines s i first limit a a w w 0 0 0 i
+module _ {m : Map} {lines : ℕ} {s : List ℕ} {i first : ℕ} {w : List ℕ} where
+  pub sifting-start : {a : List ℕ} {limit : ℕ} → Set m lines w → Sifting m lines s i first a a w w 0 0 0 limit i
   sifting-start set =
       record {
         classes = lowest-slice-none m s i;
@@ -44,39 +60,31 @@ module _ {m : Map} {lines : ℕ} {s : List ℕ} {i first limit : ℕ} {w : List 
         worked = record { set = set; kept = kept-none };
       }
 
-  module _ {a b v : List ℕ} {class len searched j : ℕ} (before : i ≤ j) (inside : j < length s)
-      (k : Sifting m lines s i first limit a b w v class len searched j) where
-    pub measured-on : {class′ len′ frc size : ℕ} → class′ ≡ max class frc → frc ≡ lineAt m (getD s j 0) .frc → len′ ≡ len + size →
-        size ≡ lineAt m (getD s j 0) .length → Measured m s i (j + 1) class′ len′
-    measured-on c f l z =
-        record {
-          ordered = omega arith;
-          inside = omega arith;
-          classes = c ∙ ap₂ max (k .classes) f ∙ sym (lowest-slice-on s i j before inside m);
-          sum = omega (arith, l, z, k .sum, total-slice-on s i j before inside m);
-        }
+  pub sifting-on : {a b v u : List ℕ} {class len searched limit class′ len′ j : ℕ} (r : Cell) →
+      Sifting m lines s i first a b w v class len searched limit j → 65 * i + (j + 1) < length b → Measured m s i (j + 1) class′ len′ →
+      mark b i (j + 1) ≡ mark a i (j + 1) → CellTested m lines s i (j + 1) first (mark b i (j + 1)) v u r →
+      Sifting m lines s i first a (set b (65 * i + (j + 1)) (r .mark)) w u class′ len′ (r .searched) (r .limit) (j + 1)
+  sifting-on {a} {b} {j = j} r k room x e cell =
+      record {
+        classes = x .classes;
+        sum = x .sum;
+        done = cell .done;
+        sifted = row-set (λ q y. Sifted m s i q first (mark a i q) y) b i j (r .mark) room (k .sifted)
+            (subst (λ (y : ℕ). Sifted m s i (j + 1) first y (r .mark)) e (cell .sifted));
+        worked = worked-then (k .worked) (cell .worked);
+      }
 
-    pub sifting-on : {class′ len′ : ℕ} {u : List ℕ} (r : Cell) → 65 * i + (j + 1) < length b → Measured m s i (j + 1) class′ len′ →
-        mark b i (j + 1) ≡ mark a i (j + 1) → CellTested m lines s i (j + 1) first limit (mark b i (j + 1)) v u r →
-        Sifting m lines s i first limit a (set b (65 * i + (j + 1)) (r .mark)) w u class′ len′ (r .searched) (j + 1)
-    sifting-on r room x e cell =
-        record {
-          classes = x .classes;
-          sum = x .sum;
-          done = cell .done;
-          sifted = row-set (λ q y. Sifted m s i q first (mark a i q) y) b i j (r .mark) room (k .sifted)
-              (subst (λ (y : ℕ). Sifted m s i (j + 1) first y (r .mark)) e (cell .sifted));
-          worked = worked-then (k .worked) (cell .worked);
-        }
-
-  pub sifting-end : {a b v : List ℕ} {class len searched j : ℕ} → j ≡ length s → Kept (65 * i) (65 * i + 65) a b →
-      Sifting m lines s i first limit a b w v class len searched j → RowSifted m lines s i first a b w v
-  sifting-end e kept k = record { sifted = rw e at (k .sifted); kept = kept; worked = k .worked }
-
--- The numbers of the legs that come later are still what they were.
-pub later-set : (a b : List ℕ) (i j x : ℕ) → ((k : ℕ) → j < k → mark b i k ≡ mark a i k) → (k : ℕ) → j + 1 < k →
-    mark (set b (65 * i + (j + 1)) x) i k ≡ mark a i k
-later-set a b i j x later k h = getD-set-other b (65 * i + (j + 1)) (65 * i + k) x 0 (λ e. omega arith) ∙ later k (omega arith)
+  -- Past the end of the row no leg is tested, and none needs to be.
+  pub sifting-end : {a b v : List ℕ} {class len searched limit end j : ℕ} → end ≤ j → Kept (65 * i) (65 * i + 65) a b →
+      ((k : ℕ) → j < k → mark b i k ≡ mark a i k) → Within m s i end a → Sifting m lines s i first a b w v class len searched limit j →
+      RowSifted m lines s i first a b w v
+  sifting-end {a} {b} {end = end} {j = j} e kept later within k =
+      record { sifted = λ q h l. go q h l (decLt j q); kept = kept; worked = k .worked }
+    where
+      go : (q : ℕ) → i < q → q ≤ length s → Dec (j < q) → Sifted m s i q first (mark a i q) (mark b i q)
+      go q h l (yes after) =
+          subst (Sifted m s i q first (mark a i q)) (sym (later q after)) (not-tested (λ one. omega (arith, within q h l one .0)))
+      go q h l (no before) = k .sifted q h (omega arith)
 
 -- The lines of a connected list are the map's.
 pub connected-lines : {m : Map} {ls : List ℕ} → Connected m ls → Known (length (m .lines)) ls
@@ -85,33 +93,113 @@ connected-lines (single h) (suc i) l = absurd (omega arith)
 connected-lines (linked h f c) zero l = h
 connected-lines (linked h f c) (suc i) l = connected-lines c i (omega arith)
 
--- The first lines from `at` on are tested, and `at - 1` is the next of the chain.
-pub record Testing (m : Map) (lines : ℕ) (s : List ℕ) (i : ℕ) (a b w v : List ℕ) (at : ℕ) : Type 0 where
+-- A line that starts where line `i` does, and that line itself.
+module _ {m : Map} {lines : ℕ} {s w : List ℕ} (set : Set m lines w) (c : Connected m s) where
+  pub all-known : Known lines s
+  all-known = subst (λ (n : ℕ). Known n s) (set .held .line-count) (connected-lines c)
+
+  module _ {i : ℕ} (few : length s ≤ 64) (before : i < length s) where
+    pub trial-of : {first : ℕ} → first < lines → lineAt m first .start ≡ lineAt m (getD s i 0) .start → Trial m lines s i first
+    trial-of inside from = record { known = all-known; connected = c; few = few; before = before; line = inside; from = from }
+
+    pub own-trial : Trial m lines s i (getD s i 0)
+    own-trial = trial-of (all-known i before) refl
+
+-- The legs up to position `j` are tested by their own first line, and the row ends at `end`.
+pub record Owning (m : Map) (lines : ℕ) (s : List ℕ) (i : ℕ) (b w v : List ℕ) (class len j : ℕ) (cell : OwnCell) : Type 0 where
+  pub classes : class ≡ lowest m (slice i j s)
+  pub sum : len ≡ total m (slice i j s)
+  pub done : DoneFor m lines (cell .searched) (getD s i 0) (cell .limit) v
+  pub says : (k : ℕ) → i < k → k ≤ j → Says1 (OwnRead m s i k) (mark b i k)
+  pub later : (k : ℕ) → cell .end < k → k ≤ length s → OwnRead m s i k → ⊥
+  pub worked : Worked m lines w v
+
+module _ {m : Map} {lines : ℕ} {s : List ℕ} {i : ℕ} {w : List ℕ} where
+  pub owning-start : {b : List ℕ} (cell : OwnCell) → cell .searched ≡ 0 → cell .end ≡ length s → Set m lines w → Owning m lines s i b w w 0 0 i cell
+  owning-start cell e f set =
+      record {
+        classes = lowest-slice-none m s i;
+        sum = total-slice-none m s i;
+        done = λ h. absurd (omega arith);
+        says = λ k h l. absurd (omega arith);
+        later = λ k h l. absurd (omega arith);
+        worked = record { set = set; kept = kept-none };
+      }
+
+  pub owning-on : {b v u : List ℕ} {class len class′ len′ j : ℕ} {before : OwnCell} (r : OwnCell) → Owning m lines s i b w v class len j before →
+      65 * i + (j + 1) < length b → Measured m s i (j + 1) class′ len′ → OwnTested m lines s i (j + 1) (before .end) v u r →
+      Owning m lines s i (set b (65 * i + (j + 1)) (r .mark)) w u class′ len′ (j + 1) r
+  owning-on {b} {j = j} {before = before} r k room x cell =
+      record {
+        classes = x .classes;
+        sum = x .sum;
+        done = cell .done;
+        says = row-set (λ q y. Says1 (OwnRead m s i q) y) b i j (r .mark) room (k .says) (cell .says);
+        later = λ q h l. go q h l (decLt (before .end) q);
+        worked = worked-then (k .worked) (cell .worked);
+      }
+    where
+      go : (q : ℕ) → r .end < q → q ≤ length s → Dec (before .end < q) → OwnRead m s i q → ⊥
+      go q h l (yes after) = k .later q after l
+      go q h l (no inside) = cell .later q h (omega arith) l
+
+  pub owning-end : {a b v : List ℕ} {class len j : ℕ} {cell : OwnCell} (r : Row) → r .end ≡ j → cell .end ≤ j → Kept (65 * i) (65 * i + 65) a b →
+      ((k : ℕ) → j < k → k ≤ length s → mark b i k ≡ 0) → Owning m lines s i b w v class len j cell → RowOwned m lines s i a b w v r
+  owning-end {b = b} {j = j} r same e kept cleared k =
+      record {
+        says = λ q h l. go q h l (decLt j q);
+        ended = λ q h l one. inside q l one (decLt j q);
+        kept = kept;
+        worked = k .worked;
+      }
+    where
+      go : (q : ℕ) → i < q → q ≤ length s → Dec (j < q) → Says1 (OwnRead m s i q) (mark b i q)
+      go q h l (yes after) = subst (Says1 (OwnRead m s i q)) (sym (cleared q after l)) (says-no (k .later q (omega arith) l))
+      go q h l (no before) = k .says q h (omega arith)
+
+      inside : (q : ℕ) → q ≤ length s → mark b i q ≡ 1 → Dec (j < q) → q ≤ r .end
+      inside q l one (yes after) = absurd (omega (arith, cleared q after l))
+      inside q l one (no before) = omega arith
+
+-- The numbers of the legs that come later are still what they were.
+pub later-set : (a b : List ℕ) (i j x : ℕ) → ((k : ℕ) → j < k → mark b i k ≡ mark a i k) → (k : ℕ) → j + 1 < k →
+    mark (set b (65 * i + (j + 1)) x) i k ≡ mark a i k
+later-set a b i j x later k h = getD-set-other b (65 * i + (j + 1)) (65 * i + k) x 0 (λ e. omega arith) ∙ later k (omega arith)
+
+-- The tests of the other first lines begin where that ended.
+pub own-again : {m : Map} {lines : ℕ} {s : List ℕ} {i : ℕ} {a b w v : List ℕ} {r : Row} → RowOwned m lines s i a b w v r → RowOwned m lines s i b b v v r
+own-again row = record { says = row .says; ended = row .ended; kept = kept-none; worked = record { set = row .worked .set; kept = kept-none } }
+
+pub own-then : {m : Map} {lines : ℕ} {s : List ℕ} {i : ℕ} {a b c w v u : List ℕ} {r : Row} → RowOwned m lines s i a b w v r →
+    RowTested m lines s i b c v u → RowTested m lines s i a c w u
+own-then own row = record { tested = row .tested; kept = kept-then (own .kept) (row .kept); worked = worked-then (own .worked) (row .worked) }
+
+-- The first lines from `at` on are tested, and the legs' own; `at - 1` is the next of the chain.
+pub record Testing (m : Map) (lines : ℕ) (s : List ℕ) (i end : ℕ) (a b w v : List ℕ) (at : ℕ) : Type 0 where
   pub inside : at ≤ lines
   pub next : 0 < at → lineAt m (at - 1) .start ≡ lineAt m (getD s i 0) .start
   pub numbers : (j : ℕ) → i < j → j ≤ length s → Open m s i j at (mark b i j)
+  pub owned : Owned m s i end b
   pub kept : Kept (65 * i) (65 * i + 65) a b
   pub worked : Worked m lines w v
 
 module _ {m : Map} {lines : ℕ} {s : List ℕ} {i : ℕ} {w : List ℕ} (c : Connected m s) where
-  pub testing-start : {a b : List ℕ} (at : ℕ) → Set m lines w → at ≡ latest m (lineAt m (getD s i 0) .start) lines → RowBegun m s i a b →
-      Testing m lines s i a b w w at
-  testing-start at set e row =
-      let all = set .held .line-count in
+  pub testing-start : {a b v : List ℕ} {r : Row} (at : ℕ) → at ≡ latest m (lineAt m (getD s i 0) .start) lines →
+      RowOwned m lines s i a b w v r → Testing m lines s i (r .end) a b w v at
+  testing-start at e row =
+      let all = row .worked .set .held .line-count in
       let v = lineAt m (getD s i 0) .start in
       record {
         inside = omega (arith, e, latest-le m v lines);
         next = rw e (latest-hit m v lines);
-        numbers = λ j h l. open-start c h l (rw all e) (row .usual j h l);
+        numbers = λ j h l. open-start c h l (rw all e) (row .says j h l);
+        owned = λ j h l one. (row .ended j h l one, row .says j h l .sound one);
         kept = row .kept;
-        worked = record { set = set; kept = kept-none };
+        worked = row .worked;
       }
 
-  pub testing-within : {a b v : List ℕ} {at : ℕ} → Testing m lines s i a b w v at → Within m s i b
-  testing-within k j h l one = k .numbers j h l .usual one .within
-
-  pub testing-on : {a b b′ v u : List ℕ} {at next : ℕ} → Testing m lines s i a b w v at → 0 < at →
-      next ≡ latest m (lineAt m (at - 1) .start) (at - 1) → RowSifted m lines s i (at - 1) b b′ v u → Testing m lines s i a b′ w u next
+  pub testing-on : {a b b′ v u : List ℕ} {end at next : ℕ} → Testing m lines s i end a b w v at → 0 < at →
+      next ≡ latest m (lineAt m (at - 1) .start) (at - 1) → RowSifted m lines s i (at - 1) b b′ v u → Testing m lines s i end a b′ w u next
   testing-on {at = at} {next = next} k some e row =
       let from = k .next some in
       record {
@@ -121,11 +209,12 @@ module _ {m : Map} {lines : ℕ} {s : List ℕ} {i : ℕ} {w : List ℕ} (c : Co
             rw e (latest-hit m (lineAt m (at - 1) .start) (at - 1) (omega arith)) in
             hit ∙ from;
         numbers = λ j h l. open-on c h l some from e (k .numbers j h l) (row .sifted j h l);
+        owned = λ j h l one. k .owned j h l (row .sifted j h l .still one);
         kept = kept-then (k .kept) (row .kept);
         worked = worked-then (k .worked) (row .worked);
       }
 
-  pub testing-end : {a b v : List ℕ} {at : ℕ} → at ≡ 0 → Testing m lines s i a b w v at → RowTested m lines s i a b w v
+  pub testing-end : {a b v : List ℕ} {end at : ℕ} → at ≡ 0 → Testing m lines s i end a b w v at → RowTested m lines s i a b w v
   testing-end e k = record { tested = λ j h l. open-end c h l e (k .numbers j h l); kept = k .kept; worked = k .worked }
 
 -- One row more is tested.

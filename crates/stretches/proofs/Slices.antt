@@ -6,7 +6,7 @@ use mathlib.Core.List.{List, [], _∷_, _++_}
 use native.Mathlib.Nat.{eq-or-lt-of-le}
 use native.Mathlib.Omega.{arith}
 use lib.ListN.{length, getD, take, drop, set}
-use lib.Seq.{slice, slice-empty, slice-cons, length-slice, length-take-le, drop-append-le, getD-drop, getD-take, getD-set-same, getD-set-other}
+use lib.Seq.{slice, slice-empty, slice-cons, length-slice, length-take-le, drop-append-le, take-take, getD-drop, getD-take, getD-set-same, getD-set-other}
 use Rattle.model.specs.Map.{Map}
 use Rattle.model.specs.Lines.{lineAt, Connected, single, linked, total, lowest, firstOf, lastOf}
 use Rattle.model.specs.Choice.{fromNode, toNode}
@@ -62,6 +62,12 @@ module _ (s : List ℕ) (i j : ℕ) (h : i < j) (l : j ≤ length s) where
 
   pub slice-no-longer : (m : Map) → total m (slice i j s) ≤ total m (drop i s)
   slice-no-longer m = omega (arith, ap (total m) (cut-at i j s (omega arith) l), total-append m (slice i j s) (drop j s))
+
+-- Two parts, one after the other.
+pub slice-then : (i j k : ℕ) (s : List ℕ) → i ≤ j → j ≤ k → k ≤ length s → slice i k s ≡ slice i j s ++ slice j k s
+slice-then i j k s h l inside =
+    let size = length-take-le k s inside in
+    sym (cut-at i j (take k s) h (omega arith)) ∙ ap (λ (ls : List ℕ). drop i ls ++ slice j k s) (take-take j k s l)
 
 -- Parts of connected lines are connected.
 pub connected-front : {m : Map} (xs ys : List ℕ) → 0 < length xs → Connected m (xs ++ ys) → Connected m xs

@@ -12,7 +12,7 @@ use Rattle.legs.specs.Verdict.{OneList, Says, Anywhere, unread, one, several, F
 use Rattle.stretches.specs.LegTests.{Sole, OwnLines}
 use Rattle.legs.specs.declared.ends.Reading as Numbers
 
-same-ends : (a : Arrival) (ks ls other : List ℕ) → firstOf ks ≡ firstOf ls → lastOf ks ≡ lastOf ls → SameEnds a ls other → SameEnds a ks other
+pub same-ends : (a : Arrival) (ks ls other : List ℕ) → firstOf ks ≡ firstOf ls → lastOf ks ≡ lastOf ls → SameEnds a ls other → SameEnds a ks other
 same-ends any ks ls other f l s = f ∙ s
 same-ends (matching x) ks ls other f l s = (f ∙ s .0, l ∙ s .1)
 

@@ -19,9 +19,10 @@ use Rattle.search.specs.Area.{Searched}
 use Rattle.search.specs.Promises.{Found, Ended}
 use Rattle.search.proofs.Frame.{held-kept}
 use Rattle.search.proofs.Carried.{searched-kept, chained-above}
+use Rattle.fields.specs.Leg.{LongestLeg}
 use Rattle.legs.specs.declared.ends.Leg.{Leg}
 use Rattle.legs.specs.Verdict.{LimitFor, legIn, Ready, Set}
-use Rattle.stretches.specs.LegTests.{legFrom, OwnLines, Done, DoneFor, Trial, Alike, Measured, Prepared}
+use Rattle.stretches.specs.LegTests.{legFrom, OwnLines, Done, DoneFor, DoneUpTo, Trial, Alike, Measured, Prepared}
 use Rattle.stretches.proofs.Slices.{first-of-slice, last-of-slice, connected-front, connected-back}
 use Rattle.model.specs.Reading as definitions
 
@@ -57,13 +58,10 @@ own-lines {m} last {ls} c short =
       sum = refl;
     }
 
-module _ {m : Map} {lines : ℕ} {s : List ℕ} {i first limit : ℕ} (t : Trial m lines s i first limit) {j class len : ℕ}
+module _ {m : Map} {lines : ℕ} {s : List ℕ} {i first : ℕ} (t : Trial m lines s i first) {j class len : ℕ}
     (x : Measured m s i j class len) (short : len ≤ greatestLegLength) where
-  joined : Connected m (slice i j s)
+  pub joined : Connected m (slice i j s)
   joined = slice-connected s i j (x .ordered) (x .inside) (t .connected)
-
-  pub limit-small : limit ≤ greatestLegLength
-  limit-small = t .limited j (x .ordered) (x .inside) (omega (arith, x .sum)) .within
 
   pub leg-lines : OwnLines m (legFrom m s i j) (slice i j s) (getD s i 0) (getD s (j - 1) 0) len
   leg-lines =
@@ -76,7 +74,7 @@ module _ {m : Map} {lines : ℕ} {s : List ℕ} {i first limit : ℕ} (t : Trial
         sum = sym (x .sum);
       }
 
-  module _ {w : List ℕ} (alike : Alike m s i first) (done : Done m lines class first limit w) (leg : Leg) (e : legIn leg ≡ legFrom m s i j) where
+  module _ {limit : ℕ} {w : List ℕ} (alike : Alike m s i first) (up : DoneUpTo m lines class first len limit w) (leg : Leg) (e : legIn leg ≡ legFrom m s i j) where
     pub ready : Ready m lines leg first limit w
     unfolding legIn legOf fromNode
     ready =
@@ -84,8 +82,8 @@ module _ {m : Map} {lines : ℕ} {s : List ℕ} {i first limit : ℕ} (t : Trial
         let distance-is : leg .distance ≡ distance (total m (slice i j s)) = ap (λ (l : definitions.Leg). l .distance) e in
         let own = first-of-slice s i j (x .ordered) (x .inside) in
         record {
-          searched = subst (λ (c : ℕ). Searched m lines c first limit w) (x .classes ∙ sym lowest-is) (done .searched);
-          limited = subst (λ (d : ℕ). LimitFor d limit) (sym distance-is) (t .limited j (x .ordered) (x .inside) (omega (arith, x .sum)));
+          searched = subst (λ (c : ℕ). Searched m lines c first limit w) (x .classes ∙ sym lowest-is) (up .done .searched);
+          limited = subst (λ (d : ℕ). LimitFor d limit) (ap distance (x .sum) ∙ sym distance-is) (up .limited);
           start = record {
             from = t .from ∙ ap (λ (l : ℕ). lineAt m l .start) (sym own) ∙ sym (ap (λ (l : definitions.Leg). l .from) e);
             leaves = alike ∙ ap (leaving m) (sym own) ∙ sym (ap (λ (l : definitions.Leg). l .leaves) e);
@@ -96,9 +94,9 @@ module _ {m : Map} {lines : ℕ} {s : List ℕ} {i first limit : ℕ} (t : Trial
     unfolding legIn legOf
     ends-known =
         let to-is : leg .to ≡ toNode m (slice i j s) = ap (λ (l : definitions.Leg). l .to) e in
-        omega (arith, to-is, to-known (done .searched .held .formed) joined)
+        omega (arith, to-is, to-known (up .done .searched .held .formed) joined)
 
-pub class-small : {m : Map} {lines : ℕ} {s : List ℕ} {i j first limit class len : ℕ} → WellFormed m → Trial m lines s i first limit →
+pub class-small : {m : Map} {lines : ℕ} {s : List ℕ} {i j first class len : ℕ} → WellFormed m → Trial m lines s i first →
     Measured m s i j class len → class ≤ 7
 class-small {s = s} {i = i} {j = j} w t x =
     omega (arith, x .classes, lowest-small w (slice-connected s i j (x .ordered) (x .inside) (t .connected)))
@@ -110,20 +108,29 @@ done-for {m} {lines} {class} {first} {limit} {w} d h =
     subst (λ (c : ℕ). Done m lines c first limit w) e d
 
 -- A search that was done before serves, and a new one.
-module _ {m : Map} {lines class first limit : ℕ} {w : List ℕ} (set : Set m lines w) where
-  pub not-again : {searched : ℕ} → searched ≡ class + 1 → DoneFor m lines searched first limit w → Prepared m lines class first limit w w
-  not-again {searched} e before =
+module _ {m : Map} {lines class first len : ℕ} {w : List ℕ} (set : Set m lines w) where
+  pub not-again : {searched limit longest : ℕ} → searched ≡ class + 1 → LongestLeg (distance len) longest → longest ≤ limit →
+      DoneFor m lines searched first limit w → Prepared m lines class first len w w limit
+  not-again {searched} {limit} e l far before =
       let same : searched - 1 ≡ class = omega arith in
+      let done = subst (λ (c : ℕ). Done m lines c first limit w) same (before (omega arith)) in
       record {
-        done = subst (λ (c : ℕ). Done m lines c first limit w) same (before (omega arith));
+        done = record {
+          limited = record { within = done .searched .small; holds = λ length a b. omega (arith, l .holds length a b) };
+          done = done;
+        };
         worked = record { set = set; kept = kept-none };
       }
 
-  pub anew : {v u : List ℕ} → Found m lines class first limit w v → Ended m lines limit v u → Prepared m lines class first limit w u
-  anew f e =
+  pub anew : {limit : ℕ} {v u : List ℕ} → LimitFor (distance len) limit → Found m lines class first limit w v → Ended m lines limit v u →
+      Prepared m lines class first len w u limit
+  anew l f e =
       let held = held-kept (omega arith) (f .kept) (set .held) in
       record {
-        done = record { searched = searched-kept (omega arith) (e .kept) (f .searched); reaching = e .reaching };
+        done = record {
+          limited = l;
+          done = record { searched = searched-kept (omega arith) (e .kept) (f .searched); reaching = e .reaching };
+        };
         worked = record {
           set = record {
             held = held-kept (omega arith) (e .kept) held;

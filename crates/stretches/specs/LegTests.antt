@@ -13,11 +13,14 @@ use Rattle.model.specs.Difference.{DifferencesFit}
 use Rattle.model.specs.Reading.{Leg, Allowed, Reading, greatestLegLength}
 use Rattle.model.specs.Choice.{fromNode, toNode, legOf, good}
 use Rattle.depot_map.specs.Area.{Kept}
+use Rattle.search.specs.Ways.{line, Way}
 use Rattle.search.specs.Area.{Searched, Reaching}
 use Rattle.legs.specs.Verdict.{LimitFor, FromLine, FromLines, Set}
 use Rattle.stretches.specs.Stretch.{Known}
 use Rattle.stretches.specs.Cuts.{Tested}
 use Rattle.stretches.specs.declared.leg_tests.Cell.{Cell}
+use Rattle.stretches.specs.declared.leg_tests.OwnCell.{OwnCell}
+use Rattle.stretches.specs.declared.leg_tests.Row.{Row}
 
 -- The number of a leg in a table.
 abbrev pub mark : List ℕ → ℕ → ℕ → ℕ
@@ -42,7 +45,11 @@ pub record Sole (m : Map) (leg : Leg) (ls : List ℕ) (first : ℕ) : Type 0 whe
   pub own : first ≡ firstOf ls → Reading m leg ls
   pub only : (other : List ℕ) → FromLine m leg first other → other ≡ ls
 
--- The same of all first lines from `at` on.
+-- Of the ways of their classes from their first to their last line, only the lines `ls` themselves are no longer than they are.
+pub record SoleWay (m : Map) (ls : List ℕ) : Type 0 where
+  pub only : (other : List ℕ) → Way m (lowest m ls) (firstOf ls) (line (lastOf ls)) other → total m other ≤ total m ls → other ≡ ls
+
+-- What is said of one first line, of all first lines from `at` on.
 pub record SoleFrom (m : Map) (leg : Leg) (ls : List ℕ) (at : ℕ) : Type 0 where
   pub own : at ≤ firstOf ls → Reading m leg ls
   pub only : (other : List ℕ) → FromLines m leg at other → other ≡ ls
@@ -64,9 +71,14 @@ pub record Done (m : Map) (lines class first limit : ℕ) (w : List ℕ) : Type 
   pub searched : Searched m lines class first limit w
   pub reaching : Reaching m lines limit w
 
--- What `searched` says of the work area: 0, or 1 + the class up to which a search from line `first` is done.
+-- What `searched` says of the work area: 0, or 1 + the class of the search from line `first` that is done, up to this limit.
 abbrev pub DoneFor : Map → ℕ → ℕ → ℕ → ℕ → List ℕ → Type 0
 DoneFor m lines searched first limit w = 0 < searched → Done m lines (searched - 1) first limit w
+
+-- A search is done that serves a leg of length `len`.
+pub record DoneUpTo (m : Map) (lines class first len limit : ℕ) (w : List ℕ) : Type 0 where
+  pub limited : LimitFor (distance len) limit
+  pub done : Done m lines class first limit w
 
 -- A leg's own lines: allowed by the leg, of its D, and with these ends and this length.
 pub record OwnLines (m : Map) (leg : Leg) (ls : List ℕ) (own last len : ℕ) : Type 0 where
@@ -77,22 +89,30 @@ pub record OwnLines (m : Map) (leg : Leg) (ls : List ℕ) (own last len : ℕ) :
   pub sum : total m ls ≡ len
 
 -- A stretch's legs from position `i` are tested by the first line `first`, which starts at the same node as line `i`.
-pub record Trial (m : Map) (lines : ℕ) (s : List ℕ) (i first limit : ℕ) : Type 0 where
+pub record Trial (m : Map) (lines : ℕ) (s : List ℕ) (i first : ℕ) : Type 0 where
   pub known : Known lines s
   pub connected : Connected m s
   pub few : length s ≤ 64
   pub before : i < length s
   pub line : first < lines
   pub from : lineAt m first .start ≡ lineAt m (getD s i 0) .start
-  pub limited : (j : ℕ) → i < j → j ≤ length s → total m (slice i j s) ≤ greatestLegLength → LimitFor (distance (total m (slice i j s))) limit
 
 -- It has the attributes of line `i` too.
 abbrev pub Alike : Map → List ℕ → ℕ → ℕ → Type 0
 Alike m s i first = leaving m first ≡ leaving m (getD s i 0)
 
--- Legs whose number is 1 are no longer than a leg can be.
-abbrev pub Within : Map → List ℕ → ℕ → List ℕ → Type 0
-Within m s i table = (j : ℕ) → i < j → j ≤ length s → mark table i j ≡ 1 → total m (slice i j s) ≤ greatestLegLength
+-- Legs whose number is 1 go no further than to position `end`, and are no longer than a leg can be.
+abbrev pub Within : Map → List ℕ → ℕ → ℕ → List ℕ → Type 0
+Within m s i end table = (j : ℕ) → i < j → j ≤ length s → mark table i j ≡ 1 → (j ≤ end) × (total m (slice i j s) ≤ greatestLegLength)
+
+-- The leg from `i` to `j` is usual, and its own lines are its only reading from their first line.
+pub record OwnRead (m : Map) (s : List ℕ) (i j : ℕ) : Type 0 where
+  pub usual : Usual m (slice i j s)
+  pub sole : Sole m (legFrom m s i j) (slice i j s) (getD s i 0)
+
+-- Legs whose number is 1 go no further than to position `end`, and are so.
+abbrev pub Owned : Map → List ℕ → ℕ → ℕ → List ℕ → Type 0
+Owned m s i end table = (j : ℕ) → i < j → j ≤ length s → mark table i j ≡ 1 → (j ≤ end) × OwnRead m s i j
 
 -- The leg from `i` to `j` has this lowest class and length.
 pub record Measured (m : Map) (s : List ℕ) (i j class len : ℕ) : Type 0 where
@@ -106,15 +126,22 @@ pub record Worked (m : Map) (lines : ℕ) (w v : List ℕ) : Type 0 where
   pub set : Set m lines v
   pub kept : Kept 8_192 12_288 w v
 
--- A search up to a class is done.
-pub record Prepared (m : Map) (lines class first limit : ℕ) (w v : List ℕ) : Type 0 where
-  pub done : Done m lines class first limit v
+-- A search for a leg of length `len` is done, up to the limit `r`.
+pub record Prepared (m : Map) (lines class first len : ℕ) (w v : List ℕ) (r : ℕ) : Type 0 where
+  pub done : DoneUpTo m lines class first len r v
   pub worked : Worked m lines w v
 
 -- The number `x` of a leg and what was searched, after the test of a first line.
-pub record CellTested (m : Map) (lines : ℕ) (s : List ℕ) (i j first limit x : ℕ) (w v : List ℕ) (r : Cell) : Type 0 where
+pub record CellTested (m : Map) (lines : ℕ) (s : List ℕ) (i j first x : ℕ) (w v : List ℕ) (r : Cell) : Type 0 where
   pub sifted : Sifted m s i j first x (r .mark)
-  pub done : DoneFor m lines (r .searched) first limit v
+  pub done : DoneFor m lines (r .searched) first (r .limit) v
+  pub worked : Worked m lines w v
+
+-- The same after the test of its own first line, where the row was to end at `end`.
+pub record OwnTested (m : Map) (lines : ℕ) (s : List ℕ) (i j end : ℕ) (w v : List ℕ) (r : OwnCell) : Type 0 where
+  pub says : Says1 (OwnRead m s i j) (r .mark)
+  pub done : DoneFor m lines (r .searched) (getD s i 0) (r .limit) v
+  pub later : (k : ℕ) → r .end < k → k ≤ end → k ≤ length s → OwnRead m s i k → ⊥
   pub worked : Worked m lines w v
 
 -- All legs from position `i` after the test of a first line. The table was `a` and is `b`.
@@ -123,10 +150,17 @@ pub record RowSifted (m : Map) (lines : ℕ) (s : List ℕ) (i first : ℕ) (a b
   pub kept : Kept (65 * i) (65 * i + 65) a b
   pub worked : Worked m lines w v
 
--- The legs from position `i` before any first line is tested.
-pub record RowBegun (m : Map) (s : List ℕ) (i : ℕ) (a b : List ℕ) : Type 0 where
-  pub usual : (j : ℕ) → i < j → j ≤ length s → Says1 (Usual m (slice i j s)) (mark b i j)
+-- The legs from position `i` have the number 0.
+pub record RowCleared (i count : ℕ) (a b : List ℕ) : Type 0 where
+  pub cleared : (j : ℕ) → i < j → j ≤ count → mark b i j ≡ 0
   pub kept : Kept (65 * i) (65 * i + 65) a b
+
+-- The legs from position `i` are tested by their own first line.
+pub record RowOwned (m : Map) (lines : ℕ) (s : List ℕ) (i : ℕ) (a b w v : List ℕ) (r : Row) : Type 0 where
+  pub says : (j : ℕ) → i < j → j ≤ length s → Says1 (OwnRead m s i j) (mark b i j)
+  pub ended : (j : ℕ) → i < j → j ≤ length s → mark b i j ≡ 1 → j ≤ r .end
+  pub kept : Kept (65 * i) (65 * i + 65) a b
+  pub worked : Worked m lines w v
 
 -- The legs from position `i` are tested.
 pub record RowTested (m : Map) (lines : ℕ) (s : List ℕ) (i : ℕ) (a b w v : List ℕ) : Type 0 where

@@ -5,7 +5,6 @@ use crate::lines::coordinate;
 use crate::lines::field_of;
 use crate::lines::greater;
 use crate::lines::node_of;
-use crate::lines::total_length;
 use fields::coordinate::Difference16;
 use fields::coordinate::difference;
 use fields::leg::GREATEST_LEG_LENGTH;
@@ -29,6 +28,8 @@ use search::chains::first_leaving;
 use search::chains::next_leaving;
 use search::nodes::nearest_lines;
 use search::search;
+use search::ways::Ways;
+use search::ways::to_line;
 ghost use mathlib.Core.Path.{_≡_};
 ghost use mathlib.Core.Bool.{cond};
 ghost use mathlib.Core.List.{List};
@@ -45,16 +46,31 @@ ghost use Rattle.search.specs.Area.{Held, Reaching};
 ghost use Rattle.search.specs.Steps.{Decides};
 ghost use Rattle.legs.specs.Verdict.{LimitFor, attributesIn, arrivalIn, legIn, Says, Anywhere, FromLine, Ready, Set};
 ghost use Rattle.stretches.specs.Stretch.{Known};
-ghost use Rattle.stretches.specs.LegTests.{legFrom, Usual, Says1, Sole, OwnLines, Done, DoneFor, Trial, Alike, Within, Measured, Prepared, CellTested, RowSifted, RowBegun, RowTested, AllTested};
+ghost use Rattle.stretches.specs.LegTests.{legFrom, Usual, Says1, Sole, SoleWay, OwnLines, DoneFor, DoneUpTo, Trial, Alike, Within, Measured, Prepared, CellTested, OwnTested, RowCleared, Owned, RowOwned, RowSifted, RowTested, AllTested};
 ghost use Rattle.model.specs.Reading as definitions;
 
 // The greatest count of a stretch's positions: one more than of its lines.
 const POSITIONS: usize = 65;
 
-// A leg's number in the table, and 1 + the class that the work area is searched for, or 0.
+// A leg's number in the table, and what the work area is searched for: 1 + the class, or 0, and the limit.
 pub struct Cell {
     pub mark: u32,
     pub searched: u32,
+    pub limit: u32,
+}
+
+// The same after the test of a leg's own first line, and the position that its row ends at: no leg to a later one can be used.
+pub struct OwnCell {
+    pub mark: u32,
+    pub searched: u32,
+    pub limit: u32,
+    pub end: usize,
+}
+
+// The position that a row ends at, and the length of the leg to it.
+pub struct Row {
+    pub end: usize,
+    pub length: usize,
 }
 
 // Whether a difference fits 16 bits.
@@ -98,37 +114,6 @@ fn first_mark(work: &[u32], lines: usize, stretch: &[u32], i: usize, j: usize, l
     let from = node_of(work, lines, stretch, i, START);
     let to = node_of(work, lines, stretch, j - 1, END);
     if fits(work, lines, from, to) { 1 } else { 0 }
-}
-
-// Gives that number to each leg from position `i`.
-fn begin_row(work: &[u32], lines: usize, stretch: &[u32], i: usize, table: &mut [u32])
-    requires { ⌜ Known lines (now stretch) × (i < length (now stretch)) × (length (now stretch) ≤ 64) × (65 * length (now stretch) ≤ length (now table)) ⌝ }
-    requires { ⌜ ((m : Map) × Held (now work) lines m) ⌝ }
-    ensures { λ _. ⌜ ((m : Map) → Held (now (work .entry)) lines m
-        → RowBegun m (now (stretch .entry)) i (now (table .entry)) (now (table .exit))) ⌝ }
-{
-    let mut len: usize = 0;
-    let mut j = i;
-    while j < stretch.len() {
-        len += wide(field_of(work, lines, stretch, j, LENGTH));
-        j += 1;
-        let x = first_mark(work, lines, stretch, i, j, len);
-        table[POSITIONS * i + j] = x;
-    }
-}
-
-// A limit for the searches of all legs from position `i`.
-fn limit_from(work: &[u32], lines: usize, stretch: &[u32], i: usize) -> u32
-    requires { ⌜ Known lines (now stretch) × (i < length (now stretch)) × (length (now stretch) ≤ 64) ⌝ }
-    requires { ⌜ ((m : Map) × Held (now work) lines m) ⌝ }
-    ensures { λ r. ⌜ ((m : Map) → Held (now (work .entry)) lines m → (j : ℕ) → i < j → j ≤ length (now (stretch .entry))
-        → total m (slice i j (now (stretch .entry))) ≤ greatestLegLength → LimitFor (distance (total m (slice i j (now (stretch .entry))))) r) ⌝ }
-{
-    let len = total_length(work, lines, &stretch[i..]);
-    if wide(GREATEST_LEG_LENGTH) < len {
-        return GREATEST_LEG_LENGTH;
-    }
-    longest_leg(distance(len as u32))
 }
 
 // How the leg to position `j` ends: with any line, or, on the last leg, as its last line does.
@@ -228,10 +213,10 @@ fn test_leg(
     len: u32,
     limit: u32,
 ) -> bool
-    requires { ⌜ ((m : Map) × Trial m lines (now stretch) i first limit × Alike m (now stretch) i first
-        × Measured m (now stretch) i j class len × (len ≤ greatestLegLength) × Done m lines class first limit (now work)) ⌝ }
-    ensures { λ r. ⌜ ((m : Map) → Trial m lines (now (stretch .entry)) i first limit → Alike m (now (stretch .entry)) i first
-        → Measured m (now (stretch .entry)) i j class len → len ≤ greatestLegLength → Done m lines class first limit (now (work .entry))
+    requires { ⌜ ((m : Map) × Trial m lines (now stretch) i first × Alike m (now stretch) i first
+        × Measured m (now stretch) i j class len × (len ≤ greatestLegLength) × DoneUpTo m lines class first len limit (now work)) ⌝ }
+    ensures { λ r. ⌜ ((m : Map) → Trial m lines (now (stretch .entry)) i first → Alike m (now (stretch .entry)) i first
+        → Measured m (now (stretch .entry)) i j class len → len ≤ greatestLegLength → DoneUpTo m lines class first len limit (now (work .entry))
         → Decides (Sole m (legFrom m (now (stretch .entry)) i j) (slice i j (now (stretch .entry))) first) r) ⌝ }
 {
     let leg = leg_of(work, lines, stretch, i, j, class, len);
@@ -239,18 +224,44 @@ fn test_leg(
     is_sole(found, first, wide(stretch[i]), wide(stretch[j - 1]), len)
 }
 
-// Searches from line `first` up to a class, unless `searched` says that this is done.
-fn prepare(work: &mut [u32], lines: usize, first: usize, class: u32, limit: u32, searched: u32)
-    requires { ⌜ (first < lines) × (class ≤ 7) × (limit ≤ greatestLegLength) ⌝ }
+// The limit of a search for a leg of length `len`: more than that leg asks for, so that it may serve longer ones too. `reach` is a guess
+// of how long they get.
+fn limit_for(len: u32, reach: usize) -> u32
+    requires { ⌜ len ≤ greatestLegLength ⌝ }
+    ensures { λ r. ⌜ LimitFor (distance len) r ⌝ }
+{
+    if wide(GREATEST_LEG_LENGTH) <= reach {
+        return GREATEST_LEG_LENGTH;
+    }
+    longest_leg(distance(greater(2 * len, reach as u32)))
+}
+
+// Searches from line `first` for a leg of this lowest class and length, unless the last search serves it. Gives the limit that is searched
+// up to.
+fn prepare(
+    work: &mut [u32],
+    lines: usize,
+    first: usize,
+    class: u32,
+    len: u32,
+    reach: usize,
+    searched: u32,
+    done: u32,
+) -> u32
+    requires { ⌜ (first < lines) × (class ≤ 7) × (len ≤ greatestLegLength) ⌝ }
     requires { ⌜ ((m : Map) × Set m lines (now work)) ⌝ }
-    ensures { λ _. ⌜ ((m : Map) → Set m lines (now (work .entry)) → DoneFor m lines searched first limit (now (work .entry))
-        → Prepared m lines class first limit (now (work .entry)) (now (work .exit))) ⌝ }
+    ensures { λ r. ⌜ ((m : Map) → Set m lines (now (work .entry)) → DoneFor m lines searched first done (now (work .entry))
+        → Prepared m lines class first len (now (work .entry)) (now (work .exit)) r) ⌝ }
 {
     if searched == class + 1 {
-        return;
+        if longest_leg(distance(len)) <= done {
+            return done;
+        }
     }
+    let limit = limit_for(len, reach);
     search(work, lines, first, class, limit);
     nearest_lines(work, lines, limit);
+    limit
 }
 
 // The number of the leg from position `i` to position `j` after the test of line `first`. Where it is not 1 there is nothing to test.
@@ -263,52 +274,210 @@ fn test_cell(
     first: usize,
     class: u32,
     len: usize,
-    limit: u32,
+    reach: usize,
     before: Cell,
 ) -> Cell
-    requires { ⌜ ((m : Map) × Set m lines (now work) × Trial m lines (now stretch) i first limit × Alike m (now stretch) i first
+    requires { ⌜ ((m : Map) × Set m lines (now work) × Trial m lines (now stretch) i first × Alike m (now stretch) i first
         × Measured m (now stretch) i j class len × (before .mark ≡ 1 → len ≤ greatestLegLength)
-        × DoneFor m lines (before .searched) first limit (now work)) ⌝ }
-    ensures { λ r. ⌜ ((m : Map) → Set m lines (now (work .entry)) → Trial m lines (now (stretch .entry)) i first limit
+        × DoneFor m lines (before .searched) first (before .limit) (now work)) ⌝ }
+    ensures { λ r. ⌜ ((m : Map) → Set m lines (now (work .entry)) → Trial m lines (now (stretch .entry)) i first
         → Alike m (now (stretch .entry)) i first → Measured m (now (stretch .entry)) i j class len
-        → (before .mark ≡ 1 → len ≤ greatestLegLength) → DoneFor m lines (before .searched) first limit (now (work .entry))
-        → CellTested m lines (now (stretch .entry)) i j first limit (before .mark) (now (work .entry)) (now (work .exit)) r) ⌝ }
+        → (before .mark ≡ 1 → len ≤ greatestLegLength) → DoneFor m lines (before .searched) first (before .limit) (now (work .entry))
+        → CellTested m lines (now (stretch .entry)) i j first (before .mark) (now (work .entry)) (now (work .exit)) r) ⌝ }
 {
     let mark = before.mark;
     if mark != 1 {
         return before;
     }
-    prepare(work, lines, first, class, limit, before.searched);
+    let limit = prepare(
+        work,
+        lines,
+        first,
+        class,
+        len as u32,
+        reach,
+        before.searched,
+        before.limit,
+    );
     let searched = class + 1;
     if test_leg(work, lines, stretch, i, j, first, class, len as u32, limit) {
-        return Cell { mark: 1, searched };
+        return Cell {
+            mark: 1,
+            searched,
+            limit,
+        };
     }
-    Cell { mark: 0, searched }
+    Cell {
+        mark: 0,
+        searched,
+        limit,
+    }
 }
 
-// Tests all legs from position `i` by the readings whose first line is `first`, a line with the attributes of line `i`.
-// The lowest class rises from leg to leg, so each class is searched once at most.
+// Whether the lines from position `i` to position `j` are the only way from the first to the last of them that is no longer than they are.
+fn is_sole_way(
+    work: &[u32],
+    lines: usize,
+    stretch: &[u32],
+    i: usize,
+    j: usize,
+    class: u32,
+    len: u32,
+    limit: u32,
+) -> bool
+    requires { ⌜ ((m : Map) × Trial m lines (now stretch) i (getD (now stretch) i 0) × Measured m (now stretch) i j class len × (len ≤ greatestLegLength)
+        × DoneUpTo m lines class (getD (now stretch) i 0) len limit (now work)) ⌝ }
+    ensures { λ r. ⌜ ((m : Map) → Trial m lines (now (stretch .entry)) i (getD (now (stretch .entry)) i 0) → Measured m (now (stretch .entry)) i j class len
+        → len ≤ greatestLegLength → DoneUpTo m lines class (getD (now (stretch .entry)) i 0) len limit (now (work .entry))
+        → Decides (SoleWay m (slice i j (now (stretch .entry)))) r) ⌝ }
+{
+    match to_line(work, lines, wide(stretch[i]), wide(stretch[j - 1]), limit) {
+        Ways::Nothing => false,
+        Ways::Several(_) => false,
+        Ways::One(_, length, _) => {
+            if length != len {
+                return false;
+            }
+            true
+        }
+    }
+}
+
+// The number of the leg from position `i` to position `j` after the test of its own first line. Where another way to its last line is no
+// longer, the row ends: the same is true of every longer leg.
+fn test_own_cell(
+    work: &mut [u32],
+    lines: usize,
+    stretch: &[u32],
+    i: usize,
+    j: usize,
+    class: u32,
+    len: usize,
+    reach: usize,
+    before: OwnCell,
+) -> OwnCell
+    requires { ⌜ j ≤ before .end ⌝ }
+    requires { ⌜ ((m : Map) × Set m lines (now work) × Trial m lines (now stretch) i (getD (now stretch) i 0) × Measured m (now stretch) i j class len
+        × DoneFor m lines (before .searched) (getD (now stretch) i 0) (before .limit) (now work)) ⌝ }
+    ensures { λ r. ⌜ (j ≤ r .end) × (r .end ≤ before .end) ⌝ }
+    ensures { λ r. ⌜ ((m : Map) → Set m lines (now (work .entry)) → Trial m lines (now (stretch .entry)) i (getD (now (stretch .entry)) i 0)
+        → Measured m (now (stretch .entry)) i j class len
+        → DoneFor m lines (before .searched) (getD (now (stretch .entry)) i 0) (before .limit) (now (work .entry))
+        → OwnTested m lines (now (stretch .entry)) i j (before .end) (now (work .entry)) (now (work .exit)) r) ⌝ }
+{
+    let end = before.end;
+    let searched = before.searched;
+    let done = before.limit;
+    if first_mark(work, lines, stretch, i, j, len) != 1 {
+        return OwnCell {
+            mark: 0,
+            searched,
+            limit: done,
+            end,
+        };
+    }
+    let first = wide(stretch[i]);
+    let limit = prepare(work, lines, first, class, len as u32, reach, searched, done);
+    let searched = class + 1;
+    if test_leg(work, lines, stretch, i, j, first, class, len as u32, limit) {
+        return OwnCell {
+            mark: 1,
+            searched,
+            limit,
+            end,
+        };
+    }
+    if is_sole_way(work, lines, stretch, i, j, class, len as u32, limit) {
+        return OwnCell {
+            mark: 0,
+            searched,
+            limit,
+            end,
+        };
+    }
+    OwnCell {
+        mark: 0,
+        searched,
+        limit,
+        end: j,
+    }
+}
+
+// Gives 0 to each leg from position `i`.
+fn clear_row(table: &mut [u32], i: usize, count: usize)
+    requires { ⌜ (i < count) × (count ≤ 64) × (65 * count ≤ length (now table)) ⌝ }
+    ensures { λ _. ⌜ RowCleared i count (now (table .entry)) (now (table .exit)) ⌝ }
+{
+    let mut j = i;
+    while j < count {
+        j += 1;
+        table[POSITIONS * i + j] = 0;
+    }
+}
+
+// Tests all legs from position `i` by their own first line. The lowest class rises from leg to leg, so each class is searched once at most,
+// if the limit is far enough.
+fn test_own_line(
+    work: &mut [u32],
+    lines: usize,
+    stretch: &[u32],
+    i: usize,
+    reach: usize,
+    table: &mut [u32],
+) -> Row
+    requires { ⌜ (i < length (now stretch)) × (length (now stretch) ≤ 64) × (65 * length (now stretch) ≤ length (now table)) ⌝ }
+    requires { ⌜ ((m : Map) × Set m lines (now work) × Connected m (now stretch)) ⌝ }
+    ensures { λ r. ⌜ (i ≤ r .end) × (r .end ≤ length (now (stretch .entry))) ⌝ }
+    ensures { λ r. ⌜ ((m : Map) → Set m lines (now (work .entry)) → Connected m (now (stretch .entry))
+        → RowOwned m lines (now (stretch .entry)) i (now (table .entry)) (now (table .exit)) (now (work .entry)) (now (work .exit)) r) ⌝ }
+{
+    clear_row(table, i, stretch.len());
+    let mut class: u32 = 0;
+    let mut len: usize = 0;
+    let mut cell = OwnCell {
+        mark: 0,
+        searched: 0,
+        limit: 0,
+        end: stretch.len(),
+    };
+    let mut j = i;
+    while j < cell.end {
+        class = greater(class, field_of(work, lines, stretch, j, FRC));
+        len += wide(field_of(work, lines, stretch, j, LENGTH));
+        j += 1;
+        cell = test_own_cell(work, lines, stretch, i, j, class, len, reach, cell);
+        table[POSITIONS * i + j] = cell.mark;
+    }
+    Row {
+        end: j,
+        length: len,
+    }
+}
+
+// Tests the legs from position `i` by the readings whose first line is `first`, a line with the attributes of line `i`.
 fn test_first_line(
     work: &mut [u32],
     lines: usize,
     stretch: &[u32],
     i: usize,
     first: usize,
-    limit: u32,
+    row: Row,
     table: &mut [u32],
 )
-    requires { ⌜ 65 * length (now stretch) ≤ length (now table) ⌝ }
-    requires { ⌜ ((m : Map) × Set m lines (now work) × Trial m lines (now stretch) i first limit × Alike m (now stretch) i first
-        × Within m (now stretch) i (now table)) ⌝ }
-    ensures { λ _. ⌜ ((m : Map) → Set m lines (now (work .entry)) → Trial m lines (now (stretch .entry)) i first limit
-        → Alike m (now (stretch .entry)) i first → Within m (now (stretch .entry)) i (now (table .entry))
+    requires { ⌜ (65 * length (now stretch) ≤ length (now table)) × (i ≤ row .end) × (row .end ≤ length (now stretch)) ⌝ }
+    requires { ⌜ ((m : Map) × Set m lines (now work) × Trial m lines (now stretch) i first × Alike m (now stretch) i first
+        × Within m (now stretch) i (row .end) (now table)) ⌝ }
+    ensures { λ _. ⌜ ((m : Map) → Set m lines (now (work .entry)) → Trial m lines (now (stretch .entry)) i first
+        → Alike m (now (stretch .entry)) i first → Within m (now (stretch .entry)) i (row .end) (now (table .entry))
         → RowSifted m lines (now (stretch .entry)) i first (now (table .entry)) (now (table .exit)) (now (work .entry)) (now (work .exit))) ⌝ }
 {
+    let end = row.end;
     let mut class: u32 = 0;
     let mut len: usize = 0;
     let mut searched: u32 = 0;
+    let mut limit: u32 = 0;
     let mut j = i;
-    while j < stretch.len() {
+    while j < end {
         class = greater(class, field_of(work, lines, stretch, j, FRC));
         len += wide(field_of(work, lines, stretch, j, LENGTH));
         j += 1;
@@ -322,15 +491,20 @@ fn test_first_line(
             first,
             class,
             len,
-            limit,
-            Cell { mark, searched },
+            row.length,
+            Cell {
+                mark,
+                searched,
+                limit,
+            },
         );
         table[POSITIONS * i + j] = cell.mark;
         searched = cell.searched;
+        limit = cell.limit;
     }
 }
 
-// The same for any line that starts at the node of position `i`. One of other attributes has no readings of these legs.
+// The same for any other line than line `i` that starts at the node of position `i`. One of other attributes has no readings of these legs.
 fn test_candidate(
     work: &mut [u32],
     lines: usize,
@@ -338,38 +512,49 @@ fn test_candidate(
     i: usize,
     first: usize,
     leaves: Attributes,
-    limit: u32,
+    row: Row,
     table: &mut [u32],
 )
-    requires { ⌜ 65 * length (now stretch) ≤ length (now table) ⌝ }
-    requires { ⌜ ((m : Map) × Set m lines (now work) × Trial m lines (now stretch) i first limit × Within m (now stretch) i (now table)
+    requires { ⌜ (65 * length (now stretch) ≤ length (now table)) × (i ≤ row .end) × (row .end ≤ length (now stretch)) ⌝ }
+    requires { ⌜ ((m : Map) × Set m lines (now work) × Trial m lines (now stretch) i first × Owned m (now stretch) i (row .end) (now table)
         × (attributesIn leaves ≡ leaving m (getD (now stretch) i 0))) ⌝ }
-    ensures { λ _. ⌜ ((m : Map) → Set m lines (now (work .entry)) → Trial m lines (now (stretch .entry)) i first limit
-        → Within m (now (stretch .entry)) i (now (table .entry)) → attributesIn leaves ≡ leaving m (getD (now (stretch .entry)) i 0)
+    ensures { λ _. ⌜ ((m : Map) → Set m lines (now (work .entry)) → Trial m lines (now (stretch .entry)) i first
+        → Owned m (now (stretch .entry)) i (row .end) (now (table .entry)) → attributesIn leaves ≡ leaving m (getD (now (stretch .entry)) i 0)
         → RowSifted m lines (now (stretch .entry)) i first (now (table .entry)) (now (table .exit)) (now (work .entry)) (now (work .exit))) ⌝ }
 {
+    if first == wide(stretch[i]) {
+        return;
+    }
     if !leaves_as(work, lines, first, leaves) {
         return;
     }
-    test_first_line(work, lines, stretch, i, first, limit, table);
+    test_first_line(work, lines, stretch, i, first, row, table);
 }
 
-// Tests all legs from position `i`: by each line that leaves the node there.
-fn test_from(work: &mut [u32], lines: usize, stretch: &[u32], i: usize, table: &mut [u32])
+// Tests all legs from position `i`: by their own first line, and by each other line that leaves the node there. Gives the length that the
+// row went up to; `reach` is that of the row before, which this one is likely to go up to as well.
+fn test_from(
+    work: &mut [u32],
+    lines: usize,
+    stretch: &[u32],
+    i: usize,
+    reach: usize,
+    table: &mut [u32],
+) -> usize
     requires { ⌜ (i < length (now stretch)) × (length (now stretch) ≤ 64) × (65 * length (now stretch) ≤ length (now table)) ⌝ }
     requires { ⌜ ((m : Map) × Set m lines (now work) × Connected m (now stretch)) ⌝ }
     ensures { λ _. ⌜ ((m : Map) → Set m lines (now (work .entry)) → Connected m (now (stretch .entry))
         → RowTested m lines (now (stretch .entry)) i (now (table .entry)) (now (table .exit)) (now (work .entry)) (now (work .exit))) ⌝ }
 {
-    begin_row(work, lines, stretch, i, table);
-    let limit = limit_from(work, lines, stretch, i);
+    let row = test_own_line(work, lines, stretch, i, reach, table);
     let leaves = attributes_of(work, lines, stretch, i, BEARING_OUT);
     let v = node_of(work, lines, stretch, i, START);
     let mut at = first_leaving(work, lines, v);
     while 0 < at {
-        test_candidate(work, lines, stretch, i, at - 1, leaves, limit, table);
+        test_candidate(work, lines, stretch, i, at - 1, leaves, row, table);
         at = next_leaving(work, lines, at);
     }
+    row.length
 }
 
 // Tests all legs of a stretch: number 65 * i + j of the table becomes 1 where the leg from position `i` to position `j` may be used.
@@ -379,9 +564,10 @@ pub fn test_legs(work: &mut [u32], lines: usize, stretch: &[u32], table: &mut [u
     ensures { λ _. ⌜ ((m : Map) → Set m lines (now (work .entry)) → Connected m (now (stretch .entry))
         → AllTested m lines (now (stretch .entry)) (now (table .entry)) (now (table .exit)) (now (work .entry)) (now (work .exit))) ⌝ }
 {
+    let mut reach: usize = 0;
     let mut i: usize = 0;
     while i < stretch.len() {
-        test_from(work, lines, stretch, i, table);
+        reach = test_from(work, lines, stretch, i, reach, table);
         i += 1;
     }
 }

@@ -17,13 +17,13 @@ use Rattle.stretches.proofs.leg_tests.test_legs.Statement.{statement}
 use Rattle.stretches.proofs.leg_tests.test_legs.Tie as tie
 
 abbrev Inv-loop : tie.InvT-loop
-Inv-loop work₀ lines stretch table₀ i₀ work table i =
+Inv-loop work₀ lines stretch table₀ reach₀ i₀ work table reach i =
     (i ≤ length stretch) × (length work ≡ length work₀) × (length table ≡ length table₀) ×
     ((m : Map) → Set m lines work₀ → Connected m stretch →
     Worked m lines work₀ work × Kept 0 (65 * length stretch) table₀ table × ((k j : ℕ) → k < i → k < j → j ≤ length stretch → Says1 (Tested (good m) stretch k j) (mark table k j)))
 
 abbrev μ-loop : tie.MeasureT-loop
-μ-loop work₀ lines stretch table₀ i₀ work table i = length stretch - i
+μ-loop work₀ lines stretch table₀ reach₀ i₀ work table reach i = length stretch - i
 
 loop-holds : tie.Need-loop-holds Inv-loop μ-loop
 loop-holds c = (
@@ -49,7 +49,7 @@ loop-again : tie.Need-loop-again Inv-loop μ-loop
 loop-again c = (
   omega arith,
   c .before .before .before .before .test-from .kept .0 ∙ c .before .before .before .before .before .before .before .before .loop .inv .1,
-  c .before .before .before .before .test-from .kept .1 .1 .1 .1 .0 ∙ c .before .before .before .before .before .before .before .before .loop .inv .2,
+  c .before .before .before .before .test-from .kept .1 .1 .1 .1 .1 .0 ∙ c .before .before .before .before .before .before .before .before .loop .inv .2,
   λ m set joint.
       let k = c .before .before .before .before .before .before .before .before .loop .inv .3 m set joint in
       let row = c .before .before .before .before .test-from .ensures m (k .0 .set) joint in (
