@@ -131,17 +131,21 @@ pub record Prepared (m : Map) (lines class first len : ℕ) (w v : List ℕ) (r 
   pub done : DoneUpTo m lines class first len r v
   pub worked : Worked m lines w v
 
--- The number `x` of a leg and what was searched, after the test of a first line.
+-- The number `x` of a leg, and what is searched, after the test of a first line.
 pub record CellTested (m : Map) (lines : ℕ) (s : List ℕ) (i j first x : ℕ) (w v : List ℕ) (r : Cell) : Type 0 where
   pub sifted : Sifted m s i j first x (r .mark)
   pub done : DoneFor m lines (r .searched) first (r .limit) v
   pub worked : Worked m lines w v
 
+-- No leg to a position past `r`, up to `end`, can be used.
+abbrev pub NoneLater : Map → List ℕ → ℕ → ℕ → ℕ → Type 0
+NoneLater m s i r end = (k : ℕ) → r < k → k ≤ end → k ≤ length s → OwnRead m s i k → ⊥
+
 -- The same after the test of its own first line, where the row was to end at `end`.
 pub record OwnTested (m : Map) (lines : ℕ) (s : List ℕ) (i j end : ℕ) (w v : List ℕ) (r : OwnCell) : Type 0 where
   pub says : Says1 (OwnRead m s i j) (r .mark)
   pub done : DoneFor m lines (r .searched) (getD s i 0) (r .limit) v
-  pub later : (k : ℕ) → r .end < k → k ≤ end → k ≤ length s → OwnRead m s i k → ⊥
+  pub later : NoneLater m s i (r .end) end
   pub worked : Worked m lines w v
 
 -- All legs from position `i` after the test of a first line. The table was `a` and is `b`.

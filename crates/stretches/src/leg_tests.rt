@@ -46,7 +46,7 @@ ghost use Rattle.search.specs.Area.{Held, Reaching};
 ghost use Rattle.search.specs.Steps.{Decides};
 ghost use Rattle.legs.specs.Verdict.{LimitFor, attributesIn, arrivalIn, legIn, Says, Anywhere, FromLine, Ready, Set};
 ghost use Rattle.stretches.specs.Stretch.{Known};
-ghost use Rattle.stretches.specs.LegTests.{legFrom, Usual, Says1, Sole, SoleWay, OwnLines, DoneFor, DoneUpTo, Trial, Alike, Within, Measured, Prepared, CellTested, OwnTested, RowCleared, Owned, RowOwned, RowSifted, RowTested, AllTested};
+ghost use Rattle.stretches.specs.LegTests.{legFrom, Usual, Says1, Sole, SoleWay, OwnLines, DoneFor, DoneUpTo, Trial, Alike, Within, Measured, Prepared, CellTested, NoneLater, OwnTested, RowCleared, Owned, RowOwned, RowSifted, RowTested, AllTested};
 ghost use Rattle.model.specs.Reading as definitions;
 
 // The greatest count of a stretch's positions: one more than of its lines.
@@ -224,23 +224,69 @@ fn test_leg(
     is_sole(found, first, wide(stretch[i]), wide(stretch[j - 1]), len)
 }
 
-// The limit of a search for a leg of length `len`: more than that leg asks for, so that it may serve longer ones too. `reach` is a guess
-// of how long they get.
-fn limit_for(len: u32, reach: usize) -> u32
-    requires { ⌜ len ≤ greatestLegLength ⌝ }
-    ensures { λ r. ⌜ LimitFor (distance len) r ⌝ }
+// A length for a search to look ahead to from the leg to position `j`, so that it serves longer legs too: `goal`, or how long the legs of
+// the same lowest class get where that is less.
+fn look_ahead(
+    work: &[u32],
+    lines: usize,
+    stretch: &[u32],
+    j: usize,
+    class: u32,
+    len: usize,
+    goal: usize,
+) -> usize
+    requires { ⌜ Known lines (now stretch) × (length (now stretch) ≤ 64) × (j ≤ length (now stretch)) × (len ≤ greatestLegLength) ⌝ }
+    requires { ⌜ ((m : Map) × Held (now work) lines m) ⌝ }
+    ensures { λ r. ⌜ len ≤ r ⌝ }
 {
-    if wide(GREATEST_LEG_LENGTH) <= reach {
-        return GREATEST_LEG_LENGTH;
+    let mut far = len;
+    let mut k = j;
+    while k < stretch.len() {
+        if goal <= far {
+            return far;
+        }
+        if class < field_of(work, lines, stretch, k, FRC) {
+            return far;
+        }
+        far += wide(field_of(work, lines, stretch, k, LENGTH));
+        k += 1;
     }
-    longest_leg(distance(greater(2 * len, reach as u32)))
+    far
 }
 
-// Searches from line `first` for a leg of this lowest class and length, unless the last search serves it. Gives the limit that is searched
-// up to.
+// The limit of a search for the leg to position `j`, of this lowest class and length, and for longer ones. `reach` is a guess of how long
+// they get.
+fn limit_for(
+    work: &[u32],
+    lines: usize,
+    stretch: &[u32],
+    j: usize,
+    class: u32,
+    len: u32,
+    reach: usize,
+) -> u32
+    requires { ⌜ Known lines (now stretch) × (length (now stretch) ≤ 64) × (j ≤ length (now stretch)) × (len ≤ greatestLegLength) ⌝ }
+    requires { ⌜ ((m : Map) × Held (now work) lines m) ⌝ }
+    ensures { λ r. ⌜ LimitFor (distance len) r ⌝ }
+{
+    let mut goal = wide(len + len / 2);
+    if goal < reach {
+        goal = reach;
+    }
+    let far = look_ahead(work, lines, stretch, j, class, wide(len), goal);
+    if wide(GREATEST_LEG_LENGTH) <= far {
+        return GREATEST_LEG_LENGTH;
+    }
+    longest_leg(distance(far as u32))
+}
+
+// Searches from line `first` for the leg to position `j`, of this lowest class and length, unless the last search serves it. Gives the
+// limit that is searched up to.
 fn prepare(
     work: &mut [u32],
     lines: usize,
+    stretch: &[u32],
+    j: usize,
     first: usize,
     class: u32,
     len: u32,
@@ -248,7 +294,8 @@ fn prepare(
     searched: u32,
     done: u32,
 ) -> u32
-    requires { ⌜ (first < lines) × (class ≤ 7) × (len ≤ greatestLegLength) ⌝ }
+    requires { ⌜ Known lines (now stretch) × (length (now stretch) ≤ 64) × (j ≤ length (now stretch)) × (len ≤ greatestLegLength)
+        × (first < lines) × (class ≤ 7) ⌝ }
     requires { ⌜ ((m : Map) × Set m lines (now work)) ⌝ }
     ensures { λ r. ⌜ ((m : Map) → Set m lines (now (work .entry)) → DoneFor m lines searched first done (now (work .entry))
         → Prepared m lines class first len (now (work .entry)) (now (work .exit)) r) ⌝ }
@@ -258,7 +305,7 @@ fn prepare(
             return done;
         }
     }
-    let limit = limit_for(len, reach);
+    let limit = limit_for(work, lines, stretch, j, class, len, reach);
     search(work, lines, first, class, limit);
     nearest_lines(work, lines, limit);
     limit
@@ -292,6 +339,8 @@ fn test_cell(
     let limit = prepare(
         work,
         lines,
+        stretch,
+        j,
         first,
         class,
         len as u32,
@@ -343,8 +392,34 @@ fn is_sole_way(
     }
 }
 
-// The number of the leg from position `i` to position `j` after the test of its own first line. Where another way to its last line is no
-// longer, the row ends: the same is true of every longer leg.
+// The end of the row once the leg to position `j` fails the test of its own first line. Where its lines are not the only way, those of a
+// longer leg are not either.
+fn end_after(
+    work: &[u32],
+    lines: usize,
+    stretch: &[u32],
+    i: usize,
+    j: usize,
+    class: u32,
+    len: u32,
+    limit: u32,
+    end: usize,
+) -> usize
+    requires { ⌜ j ≤ end ⌝ }
+    requires { ⌜ ((m : Map) × Trial m lines (now stretch) i (getD (now stretch) i 0) × Measured m (now stretch) i j class len × (len ≤ greatestLegLength)
+        × DoneUpTo m lines class (getD (now stretch) i 0) len limit (now work)) ⌝ }
+    ensures { λ r. ⌜ (j ≤ r) × (r ≤ end) ⌝ }
+    ensures { λ r. ⌜ ((m : Map) → Trial m lines (now (stretch .entry)) i (getD (now (stretch .entry)) i 0) → Measured m (now (stretch .entry)) i j class len
+        → len ≤ greatestLegLength → DoneUpTo m lines class (getD (now (stretch .entry)) i 0) len limit (now (work .entry))
+        → NoneLater m (now (stretch .entry)) i r end) ⌝ }
+{
+    if is_sole_way(work, lines, stretch, i, j, class, len, limit) {
+        return end;
+    }
+    j
+}
+
+// The number of the leg from position `i` to position `j` after the test of its own first line, and the end of the row.
 fn test_own_cell(
     work: &mut [u32],
     lines: usize,
@@ -377,7 +452,18 @@ fn test_own_cell(
         };
     }
     let first = wide(stretch[i]);
-    let limit = prepare(work, lines, first, class, len as u32, reach, searched, done);
+    let limit = prepare(
+        work,
+        lines,
+        stretch,
+        j,
+        first,
+        class,
+        len as u32,
+        reach,
+        searched,
+        done,
+    );
     let searched = class + 1;
     if test_leg(work, lines, stretch, i, j, first, class, len as u32, limit) {
         return OwnCell {
@@ -387,19 +473,12 @@ fn test_own_cell(
             end,
         };
     }
-    if is_sole_way(work, lines, stretch, i, j, class, len as u32, limit) {
-        return OwnCell {
-            mark: 0,
-            searched,
-            limit,
-            end,
-        };
-    }
+    let end = end_after(work, lines, stretch, i, j, class, len as u32, limit, end);
     OwnCell {
         mark: 0,
         searched,
         limit,
-        end: j,
+        end,
     }
 }
 

@@ -22,16 +22,18 @@ returns c m set before =
     (c .if2 .taken) before
 
 limit-for-requires : tie.Need-limit-for-requires
-limit-for-requires c κs = c .before .before .pre .0 .2
+limit-for-requires c κs =
+    let p = c .before .before .before .before .pre in
+    ((p .0 .0, p .0 .1, p .0 .2, p .0 .3), (p .1 .0, p .1 .1 .held))
 
 search-requires : tie.Need-search-requires
 search-requires c κs =
-    let p = c .before .before .before .before .pre in
-    (p .1 .0, p .1 .1 .held, p .1 .1 .chained, p .0 .0, c .before .limit-for .ensures .within)
+    let p = c .before .before .before .before .before .before .pre in
+    (p .1 .0, p .1 .1 .held, p .1 .1 .chained, p .0 .4, c .before .limit-for .ensures .within)
 
 nearest-lines-requires : tie.Need-nearest-lines-requires
 nearest-lines-requires c κs =
-    let p = c .before .before .before .before .before .before .before .before .pre in
+    let p = c .before .before .before .before .before .before .before .before .before .before .pre in
     let f = c .before .before .before .search .ensures (p .1 .0) (p .1 .1 .held) (p .1 .1 .chained) in
     (p .1 .0, held-kept (omega arith) (f .kept) (p .1 .1 .held))
 
@@ -41,8 +43,7 @@ same-length c = c .before .before .nearest-lines .kept .0 ∙ c .before .before 
 returns-2 : tie.Need-returns-2
 returns-2 c m set before =
     let f = c .before .before .before .before .before .before .search .ensures m (set .held) (set .chained) in
-    anew set (c .before .before .before .before .before .before .before .before .limit-for .ensures) f
-    (c .before .before .nearest-lines .ensures m (held-kept (omega arith) (f .kept) (set .held)))
+    anew set (c .before .before .before .before .before .before .before .before .limit-for .ensures) f (c .before .before .nearest-lines .ensures m (held-kept (omega arith) (f .kept) (set .held)))
 
 pub prepare-spec : {M : Type 1} → statement M
 prepare-spec =

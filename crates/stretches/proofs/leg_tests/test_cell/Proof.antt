@@ -15,7 +15,7 @@ cast-prepare c = let p = c .before .before .before .before .pre in omega (arith,
 prepare-requires : tie.Need-prepare-requires
 prepare-requires c κs =
     let p = c .before .before .before .before .pre in
-    ((p .2 .line, class-small (p .1 .held .formed) (p .2) (p .4), p .5 (c .before .if1 .left)), (p .0, p .1))
+    ((p .2 .known, p .2 .few, p .4 .inside, p .5 (c .before .if1 .left), p .2 .line, class-small (p .1 .held .formed) (p .2) (p .4)), (p .0, p .1))
 
 add-searched : tie.Need-add-searched
 add-searched c = let p = c .before .before .before .before .before .before .before .pre in omega (arith, class-small (p .1 .held .formed) (p .2) (p .4))

@@ -12,7 +12,6 @@ use Rattle.legs.specs.Verdict.{Set}
 use Rattle.stretches.specs.LegTests.{legFrom, Usual, Sole, DoneFor, Trial, Measured, Prepared}
 use Rattle.stretches.proofs.Marks.{says-yes, says-no}
 use Rattle.stretches.proofs.Trials.{class-small, done-for}
-use Rattle.stretches.proofs.Prefix.{none-later}
 use native.Mathlib.Omega.{arith}
 use borrow.Author.Needs.{needs}
 use Rattle.stretches.proofs.leg_tests.test_own_cell.Statement.{statement}
@@ -64,8 +63,10 @@ cast-prepare c = let p = c .before .before .before .before .before .before .befo
 
 prepare-requires : tie.Need-prepare-requires
 prepare-requires c κs =
-    let p = c .before .before .before .before .before .before .before .before .pre .1 in
-    ((omega (arith, p .2 .line, c .before .wide .ensures .0), class-small (p .1 .held .formed) (p .2) (p .3), short (c .before .before .before) (p .0) (p .1) (p .3)), (p .0, p .1))
+    let p = c .before .before .before .before .before .before .before .before .pre .1 in (
+      (p .2 .known, p .2 .few, p .3 .inside, short (c .before .before .before) (p .0) (p .1) (p .3), omega (arith, p .2 .line, c .before .wide .ensures .0), class-small (p .1 .held .formed) (p .2) (p .3)),
+      (p .0, p .1),
+    )
 
 add-searched : tie.Need-add-searched
 add-searched c = let p = c .before .before .before .before .before .before .before .before .before .before .before .pre .1 in omega (arith, class-small (p .1 .held .formed) (p .2) (p .3))
@@ -105,43 +106,26 @@ returns-2 c = (
       },
 )
 
-cast-is-sole-way : tie.Need-cast-is-sole-way
-cast-is-sole-way c = let p = c .before .before .before .before .before .before .before .before .before .before .before .before .before .before .before .pre .1 in omega (arith, short (c .before .before .before .before .before .before .before .before .before .before) (p .0) (p .1) (p .3))
+cast-end-after : tie.Need-cast-end-after
+cast-end-after c = let p = c .before .before .before .before .before .before .before .before .before .before .before .before .before .before .before .pre .1 in omega (arith, short (c .before .before .before .before .before .before .before .before .before .before) (p .0) (p .1) (p .3))
 
-is-sole-way-requires : tie.Need-is-sole-way-requires
-is-sole-way-requires c κs =
-    let p = c .before .before .before .before .before .before .before .before .before .before .before .before .before .before .before .pre .1 in
-    (p .0, p .2, p .3, short (c .before .before .before .before .before .before .before .before .before .before) (p .0) (p .1) (p .3), prepared (c .before .before .before .before .before .before) (p .0) (p .1) (p .4) .done)
+end-after-requires : tie.Need-end-after-requires
+end-after-requires c κs =
+    let p = c .before .before .before .before .before .before .before .before .before .before .before .before .before .before .before .pre in
+    (p .0, (p .1 .0, p .1 .2, p .1 .3, short (c .before .before .before .before .before .before .before .before .before .before) (p .1 .0) (p .1 .1) (p .1 .3), prepared (c .before .before .before .before .before .before) (p .1 .0) (p .1 .1) (p .1 .4) .done))
 
 same-length-3 : tie.Need-same-length-3
-same-length-3 c = c .before .before .before .before .before .before .before .before .prepare .kept .0
+same-length-3 c = c .before .before .before .before .before .before .before .prepare .kept .0
 
 returns-3 : tie.Need-returns-3
 returns-3 c = (
-  (c .before .before .before .before .before .before .before .before .before .before .before .before .before .before .before .before .before .pre .0, omega arith),
+  c .end-after .ensures .0,
   λ m set t x done.
-      let r = prepared (c .before .before .before .before .before .before .before .before) m set done in
+      let r = prepared (c .before .before .before .before .before .before .before) m set done in
       record {
-        says = says-no (λ own. (rw (c .before .before .before .if2 .left) at (tested (c .before .before .before .before) m set t x done)) (own .sole));
+        says = says-no (λ own. (rw (c .before .before .if2 .left) at (tested (c .before .before .before) m set t x done)) (own .sole));
         done = done-for (r .done .done);
-        later = λ k a b. absurd (omega arith);
-        worked = r .worked;
-      },
-)
-
-same-length-4 : tie.Need-same-length-4
-same-length-4 c = c .before .before .before .before .before .before .before .before .prepare .kept .0
-
-returns-4 : tie.Need-returns-4
-returns-4 c = (
-  (omega arith, c .before .before .before .before .before .before .before .before .before .before .before .before .before .before .before .before .before .pre .0),
-  λ m set t x done.
-      let r = prepared (c .before .before .before .before .before .before .before .before) m set done in
-      record {
-        says = says-no (λ own. (rw (c .before .before .before .if2 .left) at (tested (c .before .before .before .before) m set t x done)) (own .sole));
-        done = done-for (r .done .done);
-        later = λ k a b. none-later (x .ordered) (x .inside)
-            (rw (c .if3 .left) at (c .before .is-sole-way .ensures m t x (short (c .before .before .before .before .before .before .before .before .before .before .before .before) m set x) (r .done))) k a;
+        later = c .end-after .ensures .1 m t x (short (c .before .before .before .before .before .before .before .before .before .before .before) m set x) (r .done);
         worked = r .worked;
       },
 )
@@ -163,9 +147,7 @@ test-own-cell-spec =
     test-leg-requires
     same-length-2
     returns-2
-    cast-is-sole-way
-    is-sole-way-requires
+    cast-end-after
+    end-after-requires
     same-length-3
-    returns-3
-    same-length-4
-    returns-4)
+    returns-3)
