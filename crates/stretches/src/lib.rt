@@ -1,5 +1,7 @@
 // The writer of references, below its entry: a stretch's checks, the tests of its legs, the choice of its points, and its bytes.
 pub mod cuts;
+mod leg;
+mod leg_search;
 pub mod leg_tests;
 mod lines;
 mod point;

@@ -3,8 +3,8 @@ use Prim.Native.Nat.{_+_, _*_, _-_, _≤_}
 use lib.ListN.{length}
 use native.Mathlib.Omega.{arith}
 use borrow.Author.Needs.{needs}
-use Rattle.stretches.proofs.leg_tests.look_ahead.Statement.{statement}
-use Rattle.stretches.proofs.leg_tests.look_ahead.Tie as tie
+use Rattle.stretches.proofs.leg_search.look_ahead.Statement.{statement}
+use Rattle.stretches.proofs.leg_search.look_ahead.Tie as tie
 
 abbrev Inv-loop : tie.InvT-loop
 Inv-loop work lines stretch j class len goal far₀ k₀ far k = (k ≤ length stretch) × (len ≤ far) × (far ≤ len + k * 4294967295)

@@ -6,8 +6,8 @@ use Rattle.legs.specs.Verdict.{Says, Anywhere, FromLine}
 use Rattle.stretches.specs.LegTests.{legFrom}
 use Rattle.stretches.proofs.Trials.{leg-lines, ready, ends-known}
 use borrow.Author.Needs.{needs}
-use Rattle.stretches.proofs.leg_tests.test_leg.Statement.{statement}
-use Rattle.stretches.proofs.leg_tests.test_leg.Tie as tie
+use Rattle.stretches.proofs.leg_search.test_leg.Statement.{statement}
+use Rattle.stretches.proofs.leg_search.test_leg.Tie as tie
 
 leg-of-requires : tie.Need-leg-of-requires
 leg-of-requires c κs =

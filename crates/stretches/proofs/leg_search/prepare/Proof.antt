@@ -4,8 +4,8 @@ use Rattle.search.proofs.Frame.{held-kept}
 use Rattle.stretches.proofs.Trials.{not-again, anew}
 use borrow.Author.Needs.{needs}
 use native.Mathlib.Omega.{arith}
-use Rattle.stretches.proofs.leg_tests.prepare.Statement.{statement}
-use Rattle.stretches.proofs.leg_tests.prepare.Tie as tie
+use Rattle.stretches.proofs.leg_search.prepare.Statement.{statement}
+use Rattle.stretches.proofs.leg_search.prepare.Tie as tie
 
 add-if1 : tie.Need-add-if1
 add-if1 c = search needs

@@ -4,8 +4,8 @@ use Rattle.legs.specs.Verdict.{Says, Anywhere, FromLine}
 use Rattle.stretches.proofs.Sole.{none-elsewhere, none-here, one-elsewhere, one-other-last, one-other-length, one-own, several-not}
 use borrow.Author.Needs.{needs}
 use native.Mathlib.Omega.{arith}
-use Rattle.stretches.proofs.leg_tests.is_sole.Statement.{statement}
-use Rattle.stretches.proofs.leg_tests.is_sole.Tie as tie
+use Rattle.stretches.proofs.leg_search.is_sole.Statement.{statement}
+use Rattle.stretches.proofs.leg_search.is_sole.Tie as tie
 
 enum-told : tie.Need-enum-told
 enum-told c = search needs

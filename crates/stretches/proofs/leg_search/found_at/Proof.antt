@@ -3,8 +3,8 @@ use mathlib.Core.Path.{ap}
 use Rattle.legs.specs.Verdict.{arrivalIn}
 use borrow.Author.Needs.{needs}
 use Rattle.legs.proofs.Joining.{says-then}
-use Rattle.stretches.proofs.leg_tests.found_at.Statement.{statement}
-use Rattle.stretches.proofs.leg_tests.found_at.Tie as tie
+use Rattle.stretches.proofs.leg_search.found_at.Statement.{statement}
+use Rattle.stretches.proofs.leg_search.found_at.Tie as tie
 
 enum-told : tie.Need-enum-told
 enum-told c = search needs

@@ -14,8 +14,8 @@ use Rattle.stretches.proofs.SoleWays.{Finds, finds, none-found, several
 use Rattle.stretches.proofs.Trials.{joined}
 use native.Mathlib.Omega.{arith}
 use borrow.Author.Needs.{needs}
-use Rattle.stretches.proofs.leg_tests.is_sole_way.Statement.{statement}
-use Rattle.stretches.proofs.leg_tests.is_sole_way.Tie as tie
+use Rattle.stretches.proofs.leg_search.is_sole_way.Statement.{statement}
+use Rattle.stretches.proofs.leg_search.is_sole_way.Tie as tie
 
 -- What is found of the ways from the leg's first to its last line.
 found : (c : tie.After-to-line) → let a = c .before .before .before .before .before .before .before .args in

@@ -9,8 +9,8 @@ use Rattle.search.specs.Area.{Held}
 use Rattle.search.specs.Steps.{Decides}
 use Rattle.stretches.proofs.Marks.{decides-same}
 use borrow.Author.Needs.{needs}
-use Rattle.stretches.proofs.leg_tests.fits.Statement.{statement}
-use Rattle.stretches.proofs.leg_tests.fits.Tie as tie
+use Rattle.stretches.proofs.leg.fits.Statement.{statement}
+use Rattle.stretches.proofs.leg.fits.Tie as tie
 
 -- The two longitudes, and the two latitudes.
 module _ (m : Map) where

@@ -11,8 +11,8 @@ use Rattle.stretches.proofs.Slices.{from-of-slice, to-of-slice}
 use Rattle.stretches.proofs.Marks.{says-yes, says-no}
 use borrow.Author.Needs.{needs}
 use native.Mathlib.Omega.{arith}
-use Rattle.stretches.proofs.leg_tests.first_mark.Statement.{statement}
-use Rattle.stretches.proofs.leg_tests.first_mark.Tie as tie
+use Rattle.stretches.proofs.leg.first_mark.Statement.{statement}
+use Rattle.stretches.proofs.leg.first_mark.Tie as tie
 
 -- The test is of the leg's two nodes.
 ends-fit : (c : tie.After-fits2) → let a = c .before .before .before .before .before .before .before .args in let ls = slice (a .i) (a .j) (a .stretch .now) in

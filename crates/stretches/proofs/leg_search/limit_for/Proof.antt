@@ -3,8 +3,8 @@ use Prim.Native.Nat.{ℕ, _≤_}
 use Rattle.model.specs.Field.{distance}
 use borrow.Author.Needs.{needs}
 use native.Mathlib.Omega.{arith}
-use Rattle.stretches.proofs.leg_tests.limit_for.Statement.{statement}
-use Rattle.stretches.proofs.leg_tests.limit_for.Tie as tie
+use Rattle.stretches.proofs.leg_search.limit_for.Statement.{statement}
+use Rattle.stretches.proofs.leg_search.limit_for.Tie as tie
 
 shorter : (a b : ℕ) → a ≤ b → distance a ≤ distance b
 unfolding distance

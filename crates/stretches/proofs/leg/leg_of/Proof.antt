@@ -13,8 +13,8 @@ use Rattle.stretches.specs.Point.{attributesBy}
 use Rattle.stretches.proofs.Slices.{first-of-slice, last-of-slice, from-of-slice, to-of-slice}
 use borrow.Author.Needs.{needs}
 use native.Mathlib.Omega.{arith}
-use Rattle.stretches.proofs.leg_tests.leg_of.Statement.{statement}
-use Rattle.stretches.proofs.leg_tests.leg_of.Tie as tie
+use Rattle.stretches.proofs.leg.leg_of.Statement.{statement}
+use Rattle.stretches.proofs.leg.leg_of.Tie as tie
 
 node-of-requires : tie.Need-node-of-requires
 node-of-requires c κs = let p = c .before .before .pre in ((p .0 .0, omega (arith, p .0 .1, p .0 .2), omega arith), p .1)

@@ -2,8 +2,8 @@
 use Rattle.stretches.proofs.Prefix.{none-later}
 use native.Mathlib.Omega.{arith}
 use borrow.Author.Needs.{needs}
-use Rattle.stretches.proofs.leg_tests.end_after.Statement.{statement}
-use Rattle.stretches.proofs.leg_tests.end_after.Tie as tie
+use Rattle.stretches.proofs.leg_search.end_after.Statement.{statement}
+use Rattle.stretches.proofs.leg_search.end_after.Tie as tie
 
 is-sole-way-requires : tie.Need-is-sole-way-requires
 is-sole-way-requires c κs = search needs

@@ -2,8 +2,8 @@
 use mathlib.Core.Path.{subst}
 use Rattle.fields.specs.Difference.{DifferenceIs}
 use borrow.Author.Needs.{needs}
-use Rattle.stretches.proofs.leg_tests.near.Statement.{statement}
-use Rattle.stretches.proofs.leg_tests.near.Tie as tie
+use Rattle.stretches.proofs.leg.near.Statement.{statement}
+use Rattle.stretches.proofs.leg.near.Tie as tie
 
 difference-requires : tie.Need-difference-requires
 difference-requires c κs = search needs

@@ -8,8 +8,8 @@ use Rattle.legs.specs.Verdict.{arrivalIn}
 use Rattle.stretches.specs.Point.{attributesBy}
 use borrow.Author.Needs.{needs}
 use native.Mathlib.Omega.{arith}
-use Rattle.stretches.proofs.leg_tests.arrival_to.Statement.{statement}
-use Rattle.stretches.proofs.leg_tests.arrival_to.Tie as tie
+use Rattle.stretches.proofs.leg.arrival_to.Statement.{statement}
+use Rattle.stretches.proofs.leg.arrival_to.Tie as tie
 
 returns : tie.Need-returns
 unfolding arrivalIn
