@@ -16,4 +16,5 @@ pub mod SoleWays
 pub mod Trials
 pub mod Opening
 pub mod Rows
+pub mod OwnRows
 pub mod Writing

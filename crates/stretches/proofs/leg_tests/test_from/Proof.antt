@@ -9,7 +9,8 @@ use Rattle.search.proofs.Leaving.{latest-le}
 use Rattle.legs.specs.Verdict.{attributesIn}
 use Rattle.stretches.specs.Point.{attributesBy}
 use Rattle.stretches.specs.LegTests.{Trial, RowOwned, RowSifted}
-use Rattle.stretches.proofs.Rows.{all-known, trial-of, own-again, own-then, Testing, testing-start, testing-on, testing-end}
+use Rattle.stretches.proofs.Rows.{all-known, trial-of, Testing, testing-start, testing-on, testing-end}
+use Rattle.stretches.proofs.OwnRows.{own-again, own-then}
 use borrow.Author.Needs.{needs}
 use native.Mathlib.Omega.{arith}
 use Rattle.stretches.proofs.leg_tests.test_from.Statement.{statement}

@@ -9,7 +9,8 @@ use Rattle.depot_map.proofs.Kept.{kept-none, kept-then}
 use Rattle.search.proofs.Frame.{kept-set}
 use Rattle.legs.specs.Verdict.{Set}
 use Rattle.stretches.specs.LegTests.{mark, Measured}
-use Rattle.stretches.proofs.Rows.{measured-on, all-known, own-trial, Owning, owning-start, owning-on, owning-end, later-set}
+use Rattle.stretches.proofs.Rows.{measured-on, all-known, own-trial, later-set}
+use Rattle.stretches.proofs.OwnRows.{Owning, owning-start, owning-on, owning-end}
 use native.Mathlib.Omega.{arith}
 use borrow.Author.Needs.{needs}
 use Rattle.stretches.proofs.leg_tests.test_own_line.Statement.{statement}
