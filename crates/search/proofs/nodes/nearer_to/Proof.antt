@@ -2,7 +2,6 @@
 use Rattle.search.proofs.Arriving.{nearest-same}
 use Rattle.search.proofs.Leaving.{end-is}
 use mathlib.Core.Path.{sym, _∙_}
-use native.Mathlib.Omega.{arith}
 use borrow.Author.Needs.{needs}
 use Rattle.search.proofs.nodes.nearer_to.Statement.{statement}
 use Rattle.search.proofs.nodes.nearer_to.Tie as tie

@@ -1,7 +1,6 @@
 -- `nearest_line` meets its contract: after `i` turns the first `i` places of the list are gone through.
-use Prim.Native.Nat.{ℕ, _+_, _-_, _≤_, _<_}
+use Prim.Native.Nat.{_+_, _-_, _≤_}
 use mathlib.Core.Path.{_≡_}
-use lib.ListN.{length}
 use Rattle.model.specs.Map.{Map}
 use Rattle.search.specs.Area.{Held, Chained, Among, Nearest, listed}
 use Rattle.search.proofs.Frame.{few}

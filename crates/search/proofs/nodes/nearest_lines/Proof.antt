@@ -1,12 +1,9 @@
 -- `nearest_lines` meets its contract: after `i` turns the cells say which of the lines at the first `i` places is nearest.
-use Prim.Native.Nat.{ℕ, _+_, _-_, _≤_, _<_}
+use Prim.Native.Nat.{_+_, _-_, _≤_, _<_}
 use mathlib.Core.Path.{_≡_, refl, _∙_}
 use lib.ListN.{length, length-set}
 use Rattle.model.specs.Map.{Map}
-use Rattle.model.specs.Reading.{greatestLegLength}
 use Rattle.search.specs.Area.{Held, Chained, listed}
-use Rattle.search.specs.Promises.{Ended}
-use Rattle.depot_map.specs.Area.{Kept}
 use Rattle.depot_map.proofs.Kept.{kept-then}
 use Rattle.search.proofs.Frame.{held-kept, few}
 use Rattle.search.proofs.Reached.{count-le}
