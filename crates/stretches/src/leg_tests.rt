@@ -27,6 +27,7 @@ use search::area::START;
 use search::area::wide;
 use search::chains::first_leaving;
 use search::chains::next_leaving;
+use search::nodes::nearest_at;
 use search::nodes::nearest_lines;
 use search::search;
 ghost use mathlib.Core.Path.{_≡_};
@@ -41,7 +42,7 @@ ghost use Rattle.model.specs.Field.{distance};
 ghost use Rattle.model.specs.Lines.{Connected, nodeAt, total, leaving, arriving};
 ghost use Rattle.model.specs.Difference.{Near, DifferencesFit};
 ghost use Rattle.model.specs.Reading.{any, matching, greatestLegLength};
-ghost use Rattle.search.specs.Area.{Held, Reaching};
+ghost use Rattle.search.specs.Area.{Held, Chained, Reaching};
 ghost use Rattle.search.specs.Steps.{Decides};
 ghost use Rattle.legs.specs.Verdict.{LimitFor, attributesIn, arrivalIn, legIn, Says, Anywhere, FromLine, Ready, Set};
 ghost use Rattle.stretches.specs.Stretch.{Known};
@@ -176,13 +177,17 @@ fn leg_of(
 
 // The verdict on a leg's readings from line `first`, after a search from there.
 fn found_at(work: &[u32], lines: usize, first: usize, leg: Leg, limit: u32) -> Verdict
-    requires { ⌜ ((m : Map) × Ready m lines leg first limit (now work) × Reaching m lines limit (now work) × (leg .to < length (m .nodes))) ⌝ }
-    ensures { λ r. ⌜ ((m : Map) → Ready m lines leg first limit (now (work .entry)) → Reaching m lines limit (now (work .entry))
-        → leg .to < length (m .nodes) → Says m (FromLine m (legIn leg) first) Anywhere r) ⌝ }
+    requires { ⌜ ((m : Map) × Ready m lines leg first limit (now work) × Chained (now work) lines m × Reaching m lines limit (now work)
+        × (leg .to < length (m .nodes))) ⌝ }
+    ensures { λ r. ⌜ ((m : Map) → Ready m lines leg first limit (now (work .entry)) → Chained (now (work .entry)) lines m
+        → Reaching m lines limit (now (work .entry)) → leg .to < length (m .nodes) → Says m (FromLine m (legIn leg) first) Anywhere r) ⌝ }
 {
     let arrival = leg.arrival;
     match arrival {
-        Arrival::Any => at_node(work, lines, first, leg, limit),
+        Arrival::Any => {
+            let x = nearest_at(work, leg.to);
+            at_node(work, lines, first, leg, x, limit)
+        }
         Arrival::Matching(a) => at_last_lines(work, lines, first, leg, a, limit),
     }
 }
