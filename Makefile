@@ -1,6 +1,13 @@
 # `make` reads the ridge example, `make test` runs the gate, `make bench` measures against plain Rust (`make bench ROWS=read`: of one kind),
-# `make compare` compares plain Rust with the oracle, `make host` runs a C host on the ridge, `make test-host` tests the C functions.
-.PHONY: ridge test bench compare archive host test-host
+# `make count` counts the proved writer's searches and leg tests,
+# `make compare` compares plain Rust with the oracle, `make host` runs a C host on the ridge, `make test-host` tests the C functions,
+# `make differential` holds plain Rust to the stored cases and the C functions to plain Rust (`make differential CALLS=1000000 SEED=2`).
+.PHONY: ridge test bench count compare archive host test-host differential
+
+CALLS = 400000
+SEED = 1
+BUILD = cargo build --release --offline --quiet --manifest-path bench/Cargo.toml
+PROGRAMS = bench/target/release
 
 C_FLAGS = -std=c11 -pedantic -Wall -Wextra -Werror -Iinclude
 SANITIZED = -g -fsanitize=address,undefined -fno-sanitize-recover=all
@@ -19,9 +26,17 @@ bench:
 	rt staticlib measured
 	cargo run --release --offline --quiet --manifest-path bench/Cargo.toml -- $(ROWS)
 
+count:
+	bash bench/count_calls.sh
+
 compare:
-	cargo build --release --offline --quiet --manifest-path bench/Cargo.toml --bin answer
-	python3 oracle/compare.py bench/target/release/answer 2000
+	$(BUILD) --bin answer
+	python3 oracle/compare.py $(PROGRAMS)/answer 2000
+
+differential: archive
+	$(BUILD) --bin answer --bin differential
+	python3 oracle/check_plain.py $(PROGRAMS)/answer
+	$(PROGRAMS)/differential $(CALLS) $(SEED)
 
 archive:
 	rt staticlib openlr >&2

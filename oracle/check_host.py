@@ -4,21 +4,17 @@ Usage: python3 oracle/check_host.py PROGRAM COUNT [--seed N]. PROGRAM is that of
 """
 
 import argparse
-import subprocess
 import sys
 from dataclasses import replace
 
 from cases import one_row, read_cases, write_cases
+from compare import answers, hexadecimal
 from read_recipes import read_outcome
 from reader import LEAST_WORK_LENGTH
 from write_recipes import write_outcome
 
 # "A list of over 1,024 lines is refusal 20."
 MOST_LINES = 1_024
-
-
-def hexadecimal(data):
-    return data.hex() or "-"
 
 
 def line_bytes(lines):
@@ -48,11 +44,8 @@ def write_calls(seed, count):
 
 def differences(program, calls):
     """The calls that the program answers otherwise, each with what is expected and the answer."""
-    ran = subprocess.run([program], input="".join(row + "\n" for row, _ in calls), check=True, capture_output=True, text=True)
-    answers = ran.stdout.splitlines()
-    if len(answers) != len(calls):
-        raise RuntimeError(f"{len(calls)} calls, {len(answers)} answers")
-    return [(row, expected, answer) for (row, expected), answer in zip(calls, answers) if answer != expected]
+    rows = answers(program, [row for row, _ in calls])
+    return [(row, expected, answer) for (row, expected), answer in zip(calls, rows) if answer != expected]
 
 
 def main():

@@ -42,16 +42,21 @@ def write_call(case):
 CALLS = {"map": map_call, "leg": leg_call, "read": read_call, "write": write_call}
 
 
-def differences(answer_program, kind, seed, count):
+def answers(program, calls):
+    """What the program answers to each call."""
+    ran = subprocess.run([program], input="".join(call + "\n" for call in calls), check=True, capture_output=True, text=True)
+    rows = ran.stdout.splitlines()
+    if len(rows) != len(calls):
+        raise RuntimeError(f"{len(calls)} calls, {len(rows)} answers")
+    return rows
+
+
+def differences(program, kind, seed, count):
     """The cases of a kind that the program answers otherwise, each with that answer."""
     cases = KINDS[kind](seed, count)
-    calls = "".join(" ".join(map(str, [kind, *CALLS[kind](case)])) + "\n" for case in cases)
-    ran = subprocess.run([answer_program], input=calls, check=True, capture_output=True, text=True)
-    answers = ran.stdout.splitlines()
-    if len(answers) != len(cases):
-        raise RuntimeError(f"{len(cases)} calls, {len(answers)} answers")
+    calls = [" ".join(map(str, [kind, *CALLS[kind](case)])) for case in cases]
     # The expected outcome stands last in a case's row.
-    return [(case, answer) for case, answer in zip(cases, answers) if answer != case.row()[-1]]
+    return [(case, answer) for case, answer in zip(cases, answers(program, calls)) if answer != case.row()[-1]]
 
 
 def main():

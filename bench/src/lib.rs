@@ -3,6 +3,7 @@
 
 pub mod depot_map;
 pub mod fields;
+pub mod hexadecimal;
 pub mod legs;
 pub mod maps;
 pub mod outcome;

@@ -14,7 +14,7 @@ use plain::maps::{
 use plain::outcome::WORK_AREA;
 use plain::reader::read;
 use plain::search::{Bounds, Method, Search};
-use plain::writer::{write, write_on_map};
+use plain::writer::{effort, write, write_on_map};
 use proved::{functions, ProvedFunctions};
 
 /// The best of many short rounds: a round that something else disturbs does not count.
@@ -132,9 +132,13 @@ fn sample(name: &'static str, plan: MapPlan) -> Sample {
 }
 
 /// Prints the rows of every kind, or of the kind that the argument names: decode, search, read or write.
+/// `once ROW` times nothing, for counting calls.
 fn main() {
     let proved = functions();
     let kind = std::env::args().nth(1);
+    if kind.as_deref() == Some("once") {
+        return write_once(&proved);
+    }
     let wanted = |name: &str| kind.as_deref().is_none_or(|kind| kind == name);
     println!("what | ours µs | plain Rust µs | ratio");
     for sample in &samples() {
@@ -329,16 +333,53 @@ fn proved_reading<'a>(
     }))
 }
 
+const STRETCH_LINES: [usize; 3] = [4, 16, 64];
+
 fn writing_rows(proved: &ProvedFunctions, sample: &Sample) {
-    for count in [4, 16, 64] {
+    for count in STRETCH_LINES {
         let stretches = accepted_stretches(sample, count);
         if stretches.is_empty() {
             continue;
         }
+        let what = format!("write, {}, lines {count}", sample.name);
+        let effort = mean_effort(sample, &stretches);
         let mut row = writing_row(proved, sample, stretches);
-        row.what = format!("write, {}, lines {count}", sample.name);
+        row.what.clone_from(&what);
         row.print();
+        println!("{what}, plain Rust: {effort}");
     }
+}
+
+/// Of one stretch.
+fn mean_effort(sample: &Sample, stretches: &[Vec<u32>]) -> String {
+    let efforts = stretches
+        .iter()
+        .map(|stretch| effort(&sample.map, stretch, 0, 0));
+    let efforts: Vec<_> = efforts
+        .map(|effort| effort.expect("it is accepted"))
+        .collect();
+    let mean = |numbers: u32| f64::from(numbers) / efforts.len() as f64;
+    let searches = mean(efforts.iter().map(|effort| effort.searches).sum());
+    let leg_tests = mean(efforts.iter().map(|effort| effort.leg_tests).sum());
+    format!("{searches:.1} searches, {leg_tests:.1} leg tests")
+}
+
+/// Writes each stretch of one writing row with the proved function.
+fn write_once(proved: &ProvedFunctions) {
+    let row = std::env::args().nth(2).and_then(|row| row.parse().ok());
+    let row: usize = row.expect("the number of a writing row");
+    let samples = samples();
+    let sample = &samples[row / STRETCH_LINES.len()];
+    let count = STRETCH_LINES[row % STRETCH_LINES.len()];
+    let stretches = accepted_stretches(sample, count);
+    let inputs = 0..stretches.len();
+    println!(
+        "write, {}, lines {count}, stretches {}",
+        sample.name,
+        stretches.len()
+    );
+    let write = proved_writing(proved, sample, stretches);
+    inputs.for_each(write.expect("there is a proved writer"));
 }
 
 fn accepted_stretches(sample: &Sample, count: usize) -> Vec<Vec<u32>> {

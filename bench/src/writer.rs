@@ -35,12 +35,29 @@ pub fn write_on_map(
     method: Method,
 ) -> Outcome<Vec<u8>> {
     let stretch = Stretch::new(map, stretch, pos, neg)?;
-    let points = choose_points(map, &stretch, method).ok_or(Refusal::NoUsablePoints)?;
+    let mut tester = LegTester::new(map, &stretch, method);
+    let points = choose_points(&mut tester).ok_or(Refusal::NoUsablePoints)?;
     let reference = reference_bytes(map, &stretch, &points);
     if reference.len() > byte_room {
         return Err(Refusal::ByteRoom);
     }
     Ok(reference)
+}
+
+/// What the choice of points took. A leg is tested once for each first line that matches, until it
+/// fails.
+#[derive(Clone, Copy, Debug, Default, PartialEq, Eq)]
+pub struct Effort {
+    pub searches: u32,
+    pub leg_tests: u32,
+}
+
+/// What writing a stretch takes.
+pub fn effort(map: &DepotMap, stretch: &[u32], pos: u32, neg: u32) -> Outcome<Effort> {
+    let stretch = Stretch::new(map, stretch, pos, neg)?;
+    let mut tester = LegTester::new(map, &stretch, Method::Heap);
+    choose_points(&mut tester).ok_or(Refusal::NoUsablePoints)?;
+    Ok(tester.effort)
 }
 
 /// What remains of a stretch when the lines skipped whole are dropped ("A stretch").
@@ -114,6 +131,10 @@ impl Places {
         self.0 == 0
     }
 
+    fn count(self) -> u32 {
+        self.0.count_ones()
+    }
+
     /// 0 if the set is empty.
     fn furthest(self) -> usize {
         64 - self.0.leading_zeros() as usize
@@ -143,9 +164,8 @@ impl Places {
 ///
 /// From the end on: the fewest legs from a place are one more than those from the best next
 /// place, and the furthest such place is taken.
-fn choose_points(map: &DepotMap, stretch: &Stretch, method: Method) -> Option<Vec<usize>> {
-    let count = stretch.lines.len();
-    let mut tester = LegTester::new(map, stretch, method);
+fn choose_points(tester: &mut LegTester) -> Option<Vec<usize>> {
+    let count = tester.lines.len();
     let mut legs_left = [usize::MAX; MOST_LINES + 1];
     let mut next = [0; MOST_LINES + 1];
     let mut usable = Places::NONE;
@@ -179,6 +199,7 @@ struct LegTester<'a> {
     search: Search,
     /// The length of the lines before each place. A stretch has 9,600,000 decimetres at most.
     length_to: [u32; MOST_LINES + 1],
+    effort: Effort,
 }
 
 impl<'a> LegTester<'a> {
@@ -192,6 +213,7 @@ impl<'a> LegTester<'a> {
             lines: stretch.lines,
             search: Search::new(map, method),
             length_to,
+            effort: Effort::default(),
         }
     }
 
@@ -251,8 +273,11 @@ impl<'a> LegTester<'a> {
         to
     }
 
-    /// One search for all these legs, up to the greatest length that gives the D of one of them.
+    /// One search for the tests of all these legs, up to the greatest length that gives the D of one
+    /// of them.
     fn run(&mut self, first: u32, from: usize, class: u8, to: Places) {
+        self.effort.searches += 1;
+        self.effort.leg_tests += to.count();
         let (_, limit) = lengths_of_distance_byte(self.distance(from, to.furthest()));
         let bounds = Bounds {
             first,

@@ -12,6 +12,7 @@ use std::io::{self, BufRead, BufWriter, Write};
 
 use plain::depot_map::DepotMap;
 use plain::fields::Marks;
+use plain::hexadecimal::{bytes, digits};
 use plain::legs::{verdict, Leg, LegEnd, Verdict};
 use plain::maps::MapPlan;
 use plain::outcome::Outcome;
@@ -82,8 +83,7 @@ fn map_text(map: &DepotMap, map_bytes: &[u8]) -> String {
 }
 
 fn reference_text(reference: &[u8]) -> String {
-    let digits: String = reference.iter().map(|byte| format!("{byte:02X}")).collect();
-    format!("bytes {} {digits}", reference.len())
+    format!("bytes {} {}", reference.len(), digits(reference))
 }
 
 fn leg_answer(map: &DepotMap, numbers: &[u32]) -> Option<String> {
@@ -117,16 +117,6 @@ fn leg_answer(map: &DepotMap, numbers: &[u32]) -> Option<String> {
     };
     let words = lines.iter().map(|line| format!(" {line}"));
     Some(std::iter::once(name.to_string()).chain(words).collect())
-}
-
-fn bytes(word: &str) -> Option<Vec<u8>> {
-    if word == "-" {
-        return Some(Vec::new());
-    }
-    let pairs = (0..word.len()).step_by(2);
-    pairs
-        .map(|at| u8::from_str_radix(word.get(at..at + 2)?, 16).ok())
-        .collect()
 }
 
 fn numbers<'a>(words: impl Iterator<Item = &'a str>) -> Option<Vec<u32>> {

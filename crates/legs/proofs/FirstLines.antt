@@ -8,10 +8,9 @@ use Rattle.model.specs.Lines.{lineAt, leaving}
 use Rattle.fields.specs.Leg.{LongestLeg}
 use Rattle.depot_map.specs.Area.{Kept}
 use Rattle.search.specs.Area.{latest}
-use Rattle.search.specs.Promises.{Found, Ended}
+use Rattle.search.specs.Promises.{Found}
 use Rattle.depot_map.proofs.Kept.{kept-none, kept-then, kept-within}
 use Rattle.search.proofs.Frame.{held-kept}
-use Rattle.search.proofs.Carried.{searched-kept, chained-above}
 use Rattle.search.proofs.Leaving.{latest-le, latest-hit}
 use Rattle.legs.specs.declared.ends.Leg.{Leg}
 use Rattle.legs.specs.declared.ends.Reading.{Reading}
@@ -41,21 +40,6 @@ module _ {m : Map} {lines : ℕ} {leg : Leg} {first limit : ℕ} {w : List ℕ} 
         };
         set = record { held = held-kept (omega arith) (f .kept) (set .held); chained = f .chained };
         kept = kept-within (omega arith) (omega arith) (f .kept);
-      }
-
-  pub nodes-filled : {v u : List ℕ} → Done m lines leg first limit w v → Ended m lines limit v u → Done m lines leg first limit w u
-  nodes-filled d e =
-      record {
-        ready = record {
-          searched = searched-kept (omega arith) (e .kept) (d .ready .searched);
-          limited = d .ready .limited;
-          start = d .ready .start;
-        };
-        set = record {
-          held = held-kept (omega arith) (e .kept) (d .set .held);
-          chained = chained-above (omega arith) (e .kept) (d .set .held) (d .set .chained);
-        };
-        kept = kept-then (d .kept) (kept-within (omega arith) (omega arith) (e .kept));
       }
 
   pub judged-by : {v : List ℕ} {r : Verdict} → Done m lines leg first limit w v → Says m (FromLine m (legIn leg) first) (StandsIn v) r →

@@ -1,20 +1,22 @@
 -- The readings of a leg by their first line, and by their last: what one more line adds.
-use Prim.Native.Nat.{ℕ, _+_, _-_, _<_}
-use mathlib.Core.Path.{_≡_, sym, _∙_, ap}
-use mathlib.Core.Logic.{inl, inr}
+use Prim.Native.Nat.{ℕ, _+_, _-_, _≤_, _<_}
+use mathlib.Core.Path.{_≡_, refl, sym, _∙_, ap}
+use mathlib.Core.Logic.{inl, inr, ⊎-elim}
 use mathlib.Core.List.{List}
 use native.Mathlib.Decide.{decLt}
 use native.Mathlib.Omega.{arith}
 use lib.ListN.{length}
 use Rattle.model.specs.Map.{Map}
 use Rattle.model.specs.Field.{sector}
-use Rattle.model.specs.Lines.{LineAttributes, lineAt, firstOf, lastOf, arriving, leaving}
+use Rattle.model.specs.Lines.{LineAttributes, lineAt, total, firstOf, lastOf, arriving, leaving}
 use Rattle.model.specs.Reading.{Leg, any, matching}
 use Rattle.model.proofs.Joining.{first-known, last-known}
-use Rattle.search.specs.Ways.{line, node}
-use Rattle.search.specs.Area.{Held, latest}
+use Rattle.search.specs.Ways.{line, node, Way}
+use Rattle.search.specs.Area.{Held, Searched, Listing, Among, listed, latest}
 use Rattle.search.proofs.Leaving.{latest-le, latest-all}
-use Rattle.legs.specs.Verdict.{attributesAt, ReadingTo, FromLine, FromLines, ToLinesBelow}
+use Rattle.search.proofs.Places.{none-among, among-here, among-more, among-split, among-all}
+use Rattle.search.proofs.Back.{short}
+use Rattle.legs.specs.Verdict.{attributesAt, ReadingTo, FromLine, FromLines, ToLines, LimitFor}
 use Rattle.legs.proofs.Joining.{Either}
 use Rattle.legs.proofs.Readings.{EndOf}
 
@@ -68,31 +70,50 @@ module _ {m : Map} {leg : Leg} where
     pub apart : (ls : List ℕ) → FromLines m leg at ls → FromLine m leg (at - 1) ls → ⊥
     apart ls a b = omega (arith, a .starts, b .starts)
 
--- Below line 0 there is no last line; one more; and all.
+-- The last lines place by place of the list: none yet, line `l` at place `i`, and all that are reached.
+module _ {m : Map} {leg : Leg} {first : ℕ} {w : List ℕ} {n : ℕ} where
+  pub no-place : (ls : List ℕ) → ToLines m leg first (Among w n 0) ls → ⊥
+  no-place ls r = none-among (r .ends)
+
+  module _ (i l : ℕ) (at : listed w i ≡ l + 1) where
+    pub place-more : l < n → (ls : List ℕ) → Either (ToLines m leg first (Among w n i)) (ReadingTo m leg first (line l)) ls →
+        ToLines m leg first (Among w n (i + 1)) ls
+    place-more l< ls (inl r) = record { reading = r .reading; starts = r .starts; ends = among-more i _ (r .ends) }
+    place-more l< ls (inr r) = record { reading = r .reading; starts = r .starts; ends = rw (r .ends) (among-here i l< at) }
+
+    pub place-other : (ls : List ℕ) → ToLines m leg first (Among w n (i + 1)) ls →
+        Either (ToLines m leg first (Among w n i)) (ReadingTo m leg first (line l)) ls
+    place-other ls r =
+        ⊎-elim
+        (λ e. inr (record { reading = r .reading; starts = r .starts; ends = e }))
+        (λ a. inl (record { reading = r .reading; starts = r .starts; ends = a }))
+        (among-split i at _ (r .ends))
+
+    pub place-apart : (Among w n i l → ⊥) → (ls : List ℕ) → ToLines m leg first (Among w n i) ls → ReadingTo m leg first (line l) ls → ⊥
+    place-apart new ls a b = new (rw (b .ends) at (a .ends))
+
+pub every-place : {m : Map} {leg : Leg} {first : ℕ} {P : ℕ → Type 0} (ls : List ℕ) → ToLines m leg first P ls → FromLine m leg first ls
+every-place ls r = record { reading = r .reading; starts = r .starts }
+
+-- A reading's last line is reached.
+pub last-reached : {m : Map} {leg : Leg} {first limit n count i : ℕ} {w : List ℕ} → Searched m n (leg .lowest) first limit w →
+    LimitFor (leg .distance) limit → Listing w n count → count ≤ i → (ls : List ℕ) → FromLine m leg first ls →
+    ToLines m leg first (Among w n i) ls
+last-reached {m} {leg} s limited listing c≤ ls r =
+    let a = r .reading .allowed in
+    let h = s .held in
+    let l< = last-known (a .connected) in
+    let near = limited .holds (total m ls) (a .within) (let e = r .reading .distanced in omega arith) in
+    let within = limited .within in
+    let way : Way m (leg .lowest) _ (line (lastOf ls)) ls =
+    record { connected = a .connected; starts = r .starts; ends = refl; classes = a .classes } in
+    record {
+      reading = r .reading;
+      starts = r .starts;
+      ends = among-all listing c≤ (omega arith) (omega (arith, short s (omega arith) way near));
+    }
+
 module _ {m : Map} {leg : Leg} {first : ℕ} where
-  pub below-none : (ls : List ℕ) → ToLinesBelow m leg first 0 ls → ⊥
-  below-none ls r = omega (arith, r .ends)
-
-  pub below-one : (i : ℕ) (ls : List ℕ) → Either (ToLinesBelow m leg first i) (ReadingTo m leg first (line i)) ls → ToLinesBelow m leg first (i + 1) ls
-  below-one i ls (inl r) = record { reading = r .reading; starts = r .starts; ends = omega (arith, r .ends) }
-  below-one i ls (inr r) = record { reading = r .reading; starts = r .starts; ends = omega (arith, r .ends) }
-
-  pub below-other : (i : ℕ) (ls : List ℕ) → ToLinesBelow m leg first (i + 1) ls → Either (ToLinesBelow m leg first i) (ReadingTo m leg first (line i)) ls
-  below-other i ls r = go (decLt (lastOf ls) i)
-    where
-      go : Dec (lastOf ls < i) → Either (ToLinesBelow m leg first i) (ReadingTo m leg first (line i)) ls
-      go (yes before) = inl (record { reading = r .reading; starts = r .starts; ends = before })
-      go (no before) = inr (record { reading = r .reading; starts = r .starts; ends = omega (arith, r .ends) })
-
-  pub below-apart : (i : ℕ) (ls : List ℕ) → ToLinesBelow m leg first i ls → ReadingTo m leg first (line i) ls → ⊥
-  below-apart i ls a b = omega (arith, a .ends, b .ends)
-
-  pub below-all : (ls : List ℕ) → ToLinesBelow m leg first (length (m .lines)) ls → FromLine m leg first ls
-  below-all ls r = record { reading = r .reading; starts = r .starts }
-
-  pub all-below : (ls : List ℕ) → FromLine m leg first ls → ToLinesBelow m leg first (length (m .lines)) ls
-  all-below ls r = record { reading = r .reading; starts = r .starts; ends = last-known (r .reading .allowed .connected) }
-
   -- A last line that does not match, or that ends elsewhere, has no reading.
   pub not-matching : (last : ℕ) {a : LineAttributes} → leg .arrival ≡ matching a → (arriving m last ≡ a → ⊥) → (ls : List ℕ) →
       ReadingTo m leg first (line last) ls → ⊥

@@ -1,21 +1,21 @@
 -- The verdicts at an end of a leg, after a search from a first line.
-use Prim.Native.Nat.{ℕ, _+_}
+use Prim.Native.Nat.{ℕ, _+_, _≤_, _<_}
 use mathlib.Core.Path.{_≡_, sym, _∙_, ap}
 use mathlib.Core.List.{List}
-use lib.ListN.{length}
 use Rattle.model.specs.Map.{Map}
 use Rattle.model.specs.Lines.{lineAt, arriving}
 use Rattle.search.specs.Ways.{line, node}
+use Rattle.search.specs.Area.{Listing, Among, listed}
 use Rattle.search.specs.Promises.{Told}
 use Rattle.search.specs.declared.ways.Ways.{Ways}
 use Rattle.legs.specs.declared.ends.Attributes.{Attributes}
 use Rattle.legs.specs.declared.ends.Leg.{Leg}
 use Rattle.legs.specs.declared.ends.Reading.{Reading}
 use Rattle.legs.specs.declared.ends.Verdict.{Verdict}
-use Rattle.legs.specs.Verdict.{attributesIn, arrivalIn, legIn, judgeOf, bothOf, Ready, Says, StandsIn, unread, FromLine, ToLinesBelow, ReadingTo}
+use Rattle.legs.specs.Verdict.{attributesIn, arrivalIn, legIn, judgeOf, bothOf, Ready, Says, StandsIn, unread, FromLine, ToLines, ReadingTo}
 use Rattle.legs.proofs.Joining.{says-same, says-both}
 use Rattle.legs.proofs.Readings.{judged}
-use Rattle.legs.proofs.Lines.{node-end, line-end, to-node, from-node, not-matching, not-there, below-one, below-other, below-apart, below-none, below-all, all-below}
+use Rattle.legs.proofs.Lines.{node-end, line-end, to-node, from-node, not-matching, not-there, no-place, place-more, place-other, place-apart, every-place, last-reached}
 use Rattle.model.specs.Reading as definitions
 use Rattle.legs.specs.declared.ends.Verdict.the-variants as verdict
 
@@ -43,14 +43,21 @@ module _ {m : Map} {lines : ℕ} {leg : Leg} {first limit : ℕ} {w : List ℕ} 
   unfolding legIn
   elsewhere last differs ls r = not-there last differs ls r
 
--- Last lines one after another: none yet, one more, and all.
-module _ {m : Map} {leg : definitions.Leg} {first : ℕ} {N : Reading → List ℕ → Type 0} where
-  pub lines-none : Says m (ToLinesBelow m leg first 0) N verdict.Unread
-  lines-none = unread (λ ls r. below-none ls r)
+-- Last lines place by place of the list: none yet, one more, and all.
+module _ {m : Map} {leg : definitions.Leg} {first : ℕ} {N : Reading → List ℕ → Type 0} {w : List ℕ} {n : ℕ} where
+  pub lines-none : Says m (ToLines m leg first (Among w n 0)) N verdict.Unread
+  lines-none = unread (λ ls r. no-place ls r)
 
-  pub lines-more : {i : ℕ} {a b : Verdict} → Says m (ToLinesBelow m leg first i) N a → Says m (ReadingTo m leg first (line i)) N b →
-      Says m (ToLinesBelow m leg first (i + 1)) N (bothOf a b)
-  lines-more {i} s t = says-same (below-one i) (below-other i) (says-both (below-apart i) (λ r ls e n. n) (λ r ls e q o n. n) s t)
+  pub lines-more : (i l : ℕ) → listed w i ≡ l + 1 → l < n → (Among w n i l → ⊥) → {a b : Verdict} →
+      Says m (ToLines m leg first (Among w n i)) N a → Says m (ReadingTo m leg first (line l)) N b →
+      Says m (ToLines m leg first (Among w n (i + 1))) N (bothOf a b)
+  lines-more i l at l< new s t =
+      says-same (place-more i l at l<) (place-other i l at)
+      (says-both (place-apart i l at new) (λ r ls e n. n) (λ r ls e q o n. n) s t)
 
-  pub lines-all : {v : Verdict} → Says m (ToLinesBelow m leg first (length (m .lines))) N v → Says m (FromLine m leg first) N v
-  lines-all s = says-same (λ ls r. below-all ls r) (λ ls r. all-below ls r) s
+pub lines-all : {m : Map} {lines : ℕ} {leg : Leg} {first limit count i : ℕ} {w : List ℕ} {N : Reading → List ℕ → Type 0} {v : Verdict} →
+    Ready m lines leg first limit w → Listing w lines count → count ≤ i →
+    Says m (ToLines m (legIn leg) first (Among w lines i)) N v → Says m (FromLine m (legIn leg) first) N v
+unfolding legIn
+lines-all ready listing c≤ s =
+    says-same every-place (last-reached (ready .searched) (ready .limited) listing c≤) s

@@ -1,5 +1,5 @@
 -- What a verdict says of line lists, and which leg of the definitions a leg of the code is.
-use Prim.Native.Nat.{ℕ, _+_, _*_, _≤_, _<_}
+use Prim.Native.Nat.{ℕ, _+_, _*_, _≤_}
 use mathlib.Core.Path.{_≡_}
 use mathlib.Core.Bool.{cond}
 use mathlib.Core.List.{List}
@@ -82,7 +82,7 @@ abbrev pub Anywhere : Reading → List ℕ → Type 0
 Anywhere r ls = Unit {0}
 
 -- The readings of a leg with the first line `first`; those with a first line from `at` on; those with the first line `first` and a last
--- line below `i`.
+-- line of the property `P`.
 pub record FromLine (m : Map) (leg : definitions.Leg) (first : ℕ) (ls : List ℕ) : Type 0 where
   pub reading : definitions.Reading m leg ls
   pub starts : firstOf ls ≡ first
@@ -91,10 +91,10 @@ pub record FromLines (m : Map) (leg : definitions.Leg) (at : ℕ) (ls : List ℕ
   pub reading : definitions.Reading m leg ls
   pub starts : at ≤ firstOf ls
 
-pub record ToLinesBelow (m : Map) (leg : definitions.Leg) (first i : ℕ) (ls : List ℕ) : Type 0 where
+pub record ToLines (m : Map) (leg : definitions.Leg) (first : ℕ) (P : ℕ → Type 0) (ls : List ℕ) : Type 0 where
   pub reading : definitions.Reading m leg ls
   pub starts : firstOf ls ≡ first
-  pub ends : lastOf ls < i
+  pub ends : P (lastOf ls)
 
 -- Those with the first line `first` that lead to a target.
 pub record ReadingTo (m : Map) (leg : definitions.Leg) (first : ℕ) (to : Target) (ls : List ℕ) : Type 0 where

@@ -3,17 +3,17 @@ use crate::attributes::arrives_as;
 use fields::leg::distance;
 use search::area::END;
 use search::area::field;
+use search::area::line_at;
 use search::area::wide;
 use search::ways::Ways;
 use search::ways::to_line;
 use search::ways::to_node;
 ghost use mathlib.Core.Path.{_≡_};
 ghost use Prim.Native.Nat.{_<_};
-ghost use lib.ListN.{length};
 ghost use Rattle.model.specs.Map.{Map};
 ghost use Rattle.model.specs.Reading.{any, matching};
 ghost use Rattle.search.specs.Ways.{line};
-ghost use Rattle.search.specs.Area.{Reaching};
+ghost use Rattle.search.specs.Area.{Chained, NearestLine};
 ghost use Rattle.legs.specs.Verdict.{attributesIn, arrivalIn, legIn, judgeOf, bothOf, Ready, Says, StandsIn, FromLine, ReadingTo};
 
 // What a reference says of a line at a point: FRC, FOW and the sector of its bearing there.
@@ -98,14 +98,13 @@ pub fn both(a: Verdict, b: Verdict) -> Verdict
 }
 
 // The verdict on the readings from line `first` to the leg's end node, whatever their last line.
-// After a search from that line and `nearest_lines`.
-pub fn at_node(work: &[u32], lines: usize, first: usize, leg: Leg, limit: u32) -> Verdict
-    requires { ⌜ ((m : Map) × Ready m lines leg first limit (now work) × Reaching m lines limit (now work) × (leg .to < length (m .nodes))) ⌝ }
-    ensures { λ r. ⌜ ((m : Map) → Ready m lines leg first limit (now (work .entry)) → Reaching m lines limit (now (work .entry))
-        → leg .to < length (m .nodes) → arrivalIn (leg .arrival) ≡ any → Says m (FromLine m (legIn leg) first) (StandsIn (now (work .entry))) r) ⌝ }
+// After a search from that line. Of the lines that end at the node, `x` names the nearest.
+pub fn at_node(work: &[u32], lines: usize, first: usize, leg: Leg, x: u32, limit: u32) -> Verdict
+    requires { ⌜ ((m : Map) × Ready m lines leg first limit (now work) × NearestLine m lines limit (now work) (leg .to) x) ⌝ }
+    ensures { λ r. ⌜ ((m : Map) → Ready m lines leg first limit (now (work .entry)) → NearestLine m lines limit (now (work .entry)) (leg .to) x
+        → arrivalIn (leg .arrival) ≡ any → Says m (FromLine m (legIn leg) first) (StandsIn (now (work .entry))) r) ⌝ }
 {
-    let to = leg.to;
-    judge(to_node(work, lines, first, to, limit), first, leg.distance)
+    judge(to_node(work, lines, first, x, limit), first, leg.distance)
 }
 
 // The verdict on the readings from line `first` to line `last`, which must arrive at the leg's end node with the attributes `a`.
@@ -136,7 +135,7 @@ fn at_line(
     )
 }
 
-// The verdict on the readings from line `first` on the last leg, whose last line has the attributes `a`: each last line by itself.
+// The verdict on the readings from line `first` on the last leg, whose last line has the attributes `a`: each line that is reached by itself.
 pub fn at_last_lines(
     work: &[u32],
     lines: usize,
@@ -145,15 +144,19 @@ pub fn at_last_lines(
     a: Attributes,
     limit: u32,
 ) -> Verdict
-    requires { ⌜ ((m : Map) × Ready m lines leg first limit (now work)) ⌝ }
-    ensures { λ r. ⌜ ((m : Map) → Ready m lines leg first limit (now (work .entry)) → arrivalIn (leg .arrival) ≡ matching (attributesIn a)
-        → Says m (FromLine m (legIn leg) first) (StandsIn (now (work .entry))) r) ⌝ }
+    requires { ⌜ ((m : Map) × Ready m lines leg first limit (now work) × Chained (now work) lines m) ⌝ }
+    ensures { λ r. ⌜ ((m : Map) → Ready m lines leg first limit (now (work .entry)) → Chained (now (work .entry)) lines m
+        → arrivalIn (leg .arrival) ≡ matching (attributesIn a) → Says m (FromLine m (legIn leg) first) (StandsIn (now (work .entry))) r) ⌝ }
 {
     let mut found = Verdict::Unread;
-    let mut last: usize = 0;
-    while last < lines {
-        found = both(found, at_line(work, lines, first, last, leg, a, limit));
-        last += 1;
+    let mut i: usize = 0;
+    while i < lines {
+        let at = line_at(work, i);
+        if at == 0 {
+            return found;
+        }
+        found = both(found, at_line(work, lines, first, at - 1, leg, a, limit));
+        i += 1;
     }
     found
 }

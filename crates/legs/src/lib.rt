@@ -10,7 +10,7 @@ use ends::both;
 use fields::leg::longest_leg;
 use search::chains::first_leaving;
 use search::chains::next_leaving;
-use search::nodes::nearest_lines;
+use search::nodes::nearest_line;
 use search::search;
 ghost use mathlib.Core.Path.{_≡_};
 ghost use Prim.Native.Nat.{_<_};
@@ -26,8 +26,8 @@ pub mod ends;
 // The verdict on the readings whose first line is `first`, a line that starts at the leg's first node. Where it is one, its lines stand in the work area.
 pub fn from_line(work: &mut [u32], lines: usize, first: usize, leg: Leg) -> Verdict
     requires { ⌜ first < lines ⌝ }
-    requires { ⌜ ((m : Map) × Set m lines (now work) × (leg .to < length (m .nodes)) × (lineAt m first .start ≡ leg .from)) ⌝ }
-    ensures { λ r. ⌜ ((m : Map) → Set m lines (now (work .entry)) → leg .to < length (m .nodes) → lineAt m first .start ≡ leg .from
+    requires { ⌜ ((m : Map) × Set m lines (now work) × (lineAt m first .start ≡ leg .from)) ⌝ }
+    ensures { λ r. ⌜ ((m : Map) → Set m lines (now (work .entry)) → lineAt m first .start ≡ leg .from
         → Judged m lines (FromLine m (legIn leg) first) (StandsIn (now (work .exit))) (now (work .entry)) (now (work .exit)) r) ⌝ }
 {
     let leaves = leg.leaves;
@@ -39,8 +39,8 @@ pub fn from_line(work: &mut [u32], lines: usize, first: usize, leg: Leg) -> Verd
     let arrival = leg.arrival;
     match arrival {
         Arrival::Any => {
-            nearest_lines(work, lines, limit);
-            at_node(work, lines, first, leg, limit)
+            let x = nearest_line(work, lines, leg.to, limit);
+            at_node(work, lines, first, leg, x, limit)
         }
         Arrival::Matching(a) => at_last_lines(work, lines, first, leg, a, limit),
     }
@@ -48,8 +48,8 @@ pub fn from_line(work: &mut [u32], lines: usize, first: usize, leg: Leg) -> Verd
 
 // The verdict on a leg: that on each line that leaves its first node, one after another.
 pub fn verdict(work: &mut [u32], lines: usize, leg: Leg) -> Verdict
-    requires { ⌜ ((m : Map) × Set m lines (now work) × (leg .from < length (m .nodes)) × (leg .to < length (m .nodes))) ⌝ }
-    ensures { λ r. ⌜ ((m : Map) → Set m lines (now (work .entry)) → leg .from < length (m .nodes) → leg .to < length (m .nodes)
+    requires { ⌜ ((m : Map) × Set m lines (now work) × (leg .from < length (m .nodes))) ⌝ }
+    ensures { λ r. ⌜ ((m : Map) → Set m lines (now (work .entry)) → leg .from < length (m .nodes)
         → Judged m lines (Reading m (legIn leg)) Anywhere (now (work .entry)) (now (work .exit)) r) ⌝ }
 {
     let from = leg.from;

@@ -1,6 +1,6 @@
 -- What a step of a search does to what is known of lengths and notes: a length comes down, a line is noted, a line waits no longer.
 use Prim.Native.Nat.{ℕ, _+_, _-_, _*_, _/_, _%_, _≤_, _<_}
-use mathlib.Core.Path.{_≡_, refl, _∙_, ap, subst}
+use mathlib.Core.Path.{_≡_, refl, sym, _∙_, ap, subst}
 use mathlib.Core.List.{List}
 use mathlib.Core.Logic.{⊎-elim, _≢_}
 use native.Mathlib.Omega.{arith}
@@ -63,6 +63,11 @@ module _ {q : Task} {n c limit count j note x r : ℕ} {w v : List ℕ} (g : Und
       (λ k<. omega (arith, d .found))
       (λ k o k<. omega (arith, d .others k (let n≤ = few (g .held) in omega arith) o .0))
 
+  -- A line of the list stays reached.
+  still : (i : ℕ) → i < count → lengthTo v (listed w i - 1) < far
+  still i i< =
+      let a = g .listing .some i i< in omega (arith, fell (listed w i - 1) (omega arith), g .listing .only i i<)
+
   new-listing : far ≤ lengthTo w j → Listing v n r
   new-listing h =
       let e = d .new h in
@@ -81,8 +86,34 @@ module _ {q : Task} {n c limit count j note x r : ℕ} {w v : List ℕ} (g : Und
             (λ l o l< z.
             let a = k .every l l< (omega (arith, d .others l (omega arith) o .0)) in
             (a .0, omega (arith, a .1, e .0), d .list (a .0) (omega (arith, a .1)) (λ t. omega (arith, a .1)) ∙ a .2));
+        only = here-or (λ i. i < r → lengthTo v (listed v i - 1) < far) count
+            (λ i<. let z : listed v count - 1 ≡ j = omega (arith, e .1) in rw z (omega (arith, d .found, g .small)))
+            (λ i o i<. rw (d .list i (omega (arith, e .0)) o) (still i (omega (arith, e .0, o))));
+        once = λ i l i< l<. once e i i< l l<;
         room = omega (arith, e .0, k .room);
       }
+    where
+      apart : (i : ℕ) → i < count → listed w i ≡ j + 1 → ⊥
+      apart i i< z =
+          let t : listed w i - 1 ≡ j = omega arith in
+          omega (arith, subst (λ (l : ℕ). lengthTo w l < far) t (g .listing .only i i<))
+
+      once : (r ≡ count + 1) × (listed v count ≡ j + 1) → (i : ℕ) → i < r → (l : ℕ) → l < r → listed v i ≡ listed v l → i ≡ l
+      once e =
+          let n≤ = few (g .held) in
+          let c≤ = count-le (g .listing) in
+          let old : (i : ℕ) → i < r → i ≢ count → (i < count) × (listed v i ≡ listed w i) =
+          λ i i< o. (omega (arith, e .0, o), d .list i (omega (arith, e .0, o)) o) in
+          here-or (λ i. i < r → (l : ℕ) → l < r → listed v i ≡ listed v l → i ≡ l) count
+          (λ i<.
+          here-or (λ l. l < r → listed v count ≡ listed v l → count ≡ l) count
+          (λ l< z. refl)
+          (λ l o l< z. let a = old l l< o in absurd (apart l (a .0) (sym (a .1) ∙ sym z ∙ e .1))))
+          (λ i o i<.
+          let a = old i i< o in
+          here-or (λ l. l < r → listed v i ≡ listed v l → i ≡ l) count
+          (λ l< z. absurd (apart i (a .0) (sym (a .1) ∙ z ∙ e .1)))
+          (λ l p l< z. let b = old l l< p in g .listing .once i l (a .0) (b .0) (sym (a .1) ∙ z ∙ b .1)))
 
   known-listing : lengthTo w j < far → Listing v n r
   known-listing h =
@@ -101,6 +132,8 @@ module _ {q : Task} {n c limit count j note x r : ℕ} {w v : List ℕ} (g : Und
             (λ l o l< z.
             let a = k .every l l< (omega (arith, d .others l (omega arith) o .0)) in
             (a .0, omega (arith, a .1, e .0), same (a .0) (omega (arith, a .1)) ∙ a .2));
+        only = λ i i<. rw (same i (omega (arith, e .0))) (still i (omega (arith, e .0)));
+        once = λ i l i< l< z. k .once i l (omega (arith, e .0)) (omega (arith, e .0)) (sym (same i (omega (arith, e .0))) ∙ z ∙ same l (omega (arith, e .0)));
         room = omega (arith, e .0, k .room, more);
       }
 

@@ -13,6 +13,7 @@ use Rattle.search.specs.Area.{Held, Chained, Listing, lengthTo, firstLea
 use Rattle.search.specs.Steps.{Forgotten}
 use Rattle.depot_map.proofs.Kept.{kept-none, kept-then}
 use Rattle.search.proofs.Reached.{listing-none}
+use Rattle.search.proofs.Places.{place-le, past}
 use Rattle.search.proofs.Frame.{le-or-lt, at-set, kept-set, few}
 
 -- The first `i` places are gone through. A line that is still reached is at one of the others.
@@ -38,15 +39,10 @@ forgetting-start s =
 module _ {n count i : ℕ} {u w : List ℕ} {m : Map} (h : Held u n m) (s : Listing u n count) (i< : i < n) (k : Forgetting n count i u w) where
   -- What stands at place `i`.
   pub listed-le : listed w i ≤ n
-  listed-le =
-      ⊎-elim
-      (λ c. omega (arith, k .left i (omega arith) i<, s .none i c i<))
-      (λ c. omega (arith, k .left i (omega arith) i<, s .some i c .1))
-      (le-or-lt count i)
+  listed-le = omega (arith, k .left i (omega arith) i<, place-le s i<)
 
   pub at-end : listed w i ≡ 0 → count ≤ i
-  at-end e =
-      ⊎-elim (λ c. c) (λ c. absurd (omega (arith, k .left i (omega arith) i<, s .some i c .0))) (le-or-lt count i)
+  at-end e = past s i< (sym (k .left i (omega arith) i<) ∙ e)
 
   pub forgetting-step : (l y : ℕ) → l + 1 ≡ listed w i → y ≡ getD (set w (8192 + l) 150001) (10752 + i) 0 % 2048 →
       Forgetting n count (i + 1) u (set (set w (8192 + l) 150001) (10752 + i) y)

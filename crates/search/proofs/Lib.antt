@@ -3,6 +3,7 @@ pub mod Plain
 pub mod Follows
 pub mod Reached
 pub mod Frame
+pub mod Places
 pub mod Leaving
 pub mod Forgetting
 pub mod Lowering

@@ -1,6 +1,6 @@
 -- How many lines are reached, and that the list of them has no more.
 use Prim.Native.Nat.{ℕ, zero, suc, _-_, _/_, _≤_, _<_}
-use mathlib.Core.Path.{_≡_, refl, _∙_, subst}
+use mathlib.Core.Path.{_≡_, refl, sym, _∙_, subst}
 use mathlib.Core.List.{List}
 use mathlib.Core.Logic.{⊎-elim}
 use native.Mathlib.Nat.{eq-or-lt-of-le}
@@ -41,6 +41,8 @@ listing-none all none =
       some = λ i i<. absurd (omega arith);
       none = λ i c i<. none i i<;
       every = λ l l< d. absurd (omega (arith, all l l<));
+      only = λ i i<. absurd (omega arith);
+      once = λ i k i<. absurd (omega arith);
       room = omega arith;
     }
 
@@ -54,6 +56,8 @@ listing-same {n} {count} {w} {v} e f k =
       none = λ i c i<. f i i< ∙ k .none i c i<;
       every = λ l l< d.
           let a = k .every l l< (omega (arith, e l l<)) in (a .0, a .1, f (a .0) (omega (arith, a .1)) ∙ a .2);
+      only = λ i i<. rw (f i (omega arith)) (let a = k .some i i< in omega (arith, e (listed w i - 1) (omega arith), k .only i i<));
+      once = λ i j i< j< z. k .once i j i< j< (sym (f i (omega arith)) ∙ z ∙ f j (omega arith));
       room = omega
           (arith, k .room, sum-le (λ l. 1 - lengthTo w l / far) (λ l. 1 - lengthTo v l / far) n (λ l l<. omega (arith, e l l<)));
     }

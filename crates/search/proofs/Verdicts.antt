@@ -7,7 +7,7 @@ use native.Mathlib.Omega.{arith}
 use Rattle.model.specs.Map.{Map}
 use Rattle.model.specs.Lines.{lineAt, total, lastOf}
 use Rattle.search.specs.Ways.{line, node, Way, Reached, Least, Beyond}
-use Rattle.search.specs.Area.{lengthTo, named, Searched, Nearest}
+use Rattle.search.specs.Area.{lengthTo, named, Searched, NearestLine}
 use Rattle.search.specs.Promises.{SeveralLeast, Told}
 use Rattle.search.specs.declared.ways.Ways.{Ways}
 use Rattle.search.specs.declared.ways.Ways.the-variants.{Nothing, Several, One}
@@ -27,7 +27,7 @@ as-node {m} e p =
 abbrev reached : {m : Map} {c f l v d : ℕ} → lineAt m l .end ≡ v → Reached m c f (line l) d → Reached m c f (node v) d
 reached e r = record { list = r .list; way = as-node e (r .way); sum = r .sum }
 
-module _ {m : Map} {n c f limit v x : ℕ} {w : List ℕ} (s : Searched m n c f limit w) (k : Nearest m limit w n v x) where
+module _ {m : Map} {n c f limit v x : ℕ} {w : List ℕ} (s : Searched m n c f limit w) (k : NearestLine m n limit w v x) where
   inside : {ls : List ℕ} → Way m c f (node v) ls → lastOf ls < n
   inside p = let h = s .held in let l = last-known (grown-of (as-line p)) in omega arith
 
@@ -36,7 +36,7 @@ module _ {m : Map} {n c f limit v x : ℕ} {w : List ℕ} (s : Searched m n c f 
 
   module _ (pos : 0 < x) where
     abbrev at : Least m c f (line (named x)) (lengthTo w (named x))
-    at = near s (named x) (k .below pos) (k .near pos)
+    at = near s (named x) (k .holds pos) (k .near pos)
 
     -- No way to the node is shorter than those to the line that its cell names.
     bound : (ls : List ℕ) → Way m c f (node v) ls → lengthTo w (named x) ≤ total m ls

@@ -59,12 +59,21 @@ sum f (suc i) = sum f i + f i
 abbrev pub reached : List ℕ → ℕ → ℕ
 reached w lines = sum (λ l. 1 - lengthTo w l / far) lines
 
--- The list has so many lines, and every line that is reached is on it.
+-- The list has so many lines. They are those that are reached, each once.
 pub record Listing (w : List ℕ) (lines count : ℕ) : Type 0 where
   pub some : (i : ℕ) → i < count → (0 < listed w i) × (listed w i ≤ lines)
   pub none : (i : ℕ) → count ≤ i → i < lines → listed w i ≡ 0
   pub every : (l : ℕ) → l < lines → lengthTo w l < far → (i : ℕ) × (i < count) × (listed w i ≡ l + 1)
+  pub only : (i : ℕ) → i < count → lengthTo w (listed w i - 1) < far
+  pub once : (i k : ℕ) → i < count → k < count → listed w i ≡ listed w k → i ≡ k
   pub room : count ≤ reached w lines
+
+-- Line `l`, one of so many, is at one of the first `i` places of the list.
+pub record Among (w : List ℕ) (lines i l : ℕ) : Type 0 where
+  pub line : l < lines
+  pub place : ℕ
+  pub below : place < i
+  pub here : listed w place ≡ l + 1
 
 -- The chains of the lines that leave each node: its last line, and from each line to the line before it from the same node.
 -- Beside them stands the list of the lines that the last search reached, so that the next can begin without a look at every line.
@@ -108,16 +117,21 @@ pub record Searched (m : Map) (lines class first limit : ℕ) (w : List ℕ) : T
 abbrev pub named : ℕ → ℕ
 named x = (x - 1) % several
 
--- What `x` says of the lines below `i` that end at node `v`: 0 where none is within the limit, or which of them is nearest, and whether it alone is.
-pub record Nearest (m : Map) (limit : ℕ) (w : List ℕ) (i v x : ℕ) : Type 0 where
-  pub none : x ≡ 0 → (l : ℕ) → l < i → lineAt m l .end ≡ v → limit < lengthTo w l
-  pub below : 0 < x → named x < i
+-- What `x` says of the lines with the property `P` that end at node `v`: 0 where none is within the limit, or which of them is nearest, and
+-- whether it alone is.
+pub record Nearest (m : Map) (limit : ℕ) (w : List ℕ) (P : ℕ → Type 0) (v x : ℕ) : Type 0 where
+  pub none : x ≡ 0 → (l : ℕ) → P l → lineAt m l .end ≡ v → limit < lengthTo w l
+  pub holds : 0 < x → P (named x)
   pub ends : 0 < x → lineAt m (named x) .end ≡ v
   pub near : 0 < x → lengthTo w (named x) ≤ limit
-  pub least : 0 < x → (l : ℕ) → l < i → lineAt m l .end ≡ v → lengthTo w (named x) ≤ lengthTo w l
-  pub one : 0 < x → x < several → (l : ℕ) → l < i → lineAt m l .end ≡ v → lengthTo w l ≡ lengthTo w (named x) → l ≡ named x
-  pub many : several ≤ x → (l : ℕ) × (l < i) × (lineAt m l .end ≡ v) × (lengthTo w l ≡ lengthTo w (named x)) × (l ≡ named x → ⊥)
+  pub least : 0 < x → (l : ℕ) → P l → lineAt m l .end ≡ v → lengthTo w (named x) ≤ lengthTo w l
+  pub one : 0 < x → x < several → (l : ℕ) → P l → lineAt m l .end ≡ v → lengthTo w l ≡ lengthTo w (named x) → l ≡ named x
+  pub many : several ≤ x → (l : ℕ) × P l × (lineAt m l .end ≡ v) × (lengthTo w l ≡ lengthTo w (named x)) × (l ≡ named x → ⊥)
+
+-- What it says of all lines.
+abbrev pub NearestLine : Map → ℕ → ℕ → List ℕ → ℕ → ℕ → Type 0
+NearestLine m lines limit w v x = Nearest m limit w (λ l. l < lines) v x
 
 -- That stands in the area for every node.
 abbrev pub Reaching : Map → ℕ → ℕ → List ℕ → Type 0
-Reaching m lines limit w = (v : ℕ) → v < length (m .nodes) → Nearest m limit w lines v (nearestLine w v)
+Reaching m lines limit w = (v : ℕ) → v < length (m .nodes) → NearestLine m lines limit w v (nearestLine w v)

@@ -20,9 +20,9 @@ pub record Found (m : Map) (lines class first limit : ℕ) (w v : List ℕ) : Ty
   pub chained : Chained v lines m
   pub kept : Kept 8_192 11_776 w v
 
--- The cell of each node says which of the lines below `i` is nearest to it, and nothing else is changed.
-pub record Ended (m : Map) (i limit : ℕ) (w v : List ℕ) : Type 0 where
-  pub reaching : Reaching m i limit v
+-- The cell of each node says which line is nearest to it, and nothing else is changed.
+pub record Ended (m : Map) (lines limit : ℕ) (w v : List ℕ) : Type 0 where
+  pub reaching : Reaching m lines limit v
   pub kept : Kept 11_776 12_288 w v
 
 -- Several ways within the limit are of least length.

@@ -5,6 +5,7 @@ ghost use mathlib.Core.Path.{_≡_};
 ghost use Prim.Native.Nat.{_+_, _*_, _≤_, _<_};
 ghost use lib.ListN.{length, getD};
 ghost use Rattle.model.specs.Outcome.{workLength};
+ghost use Rattle.search.specs.Area.{listed};
 ghost use Rattle.search.specs.Steps.{Filled};
 
 // Which number of a line is which.
@@ -57,6 +58,14 @@ pub fn wide(x: u32) -> usize
     ensures { λ r. ⌜ (r ≡ x) × (r < 4_294_967_296) ⌝ }
 {
     x as usize
+}
+
+// 1 + the line at place `i` of the list of reached lines, or 0 past its end.
+pub fn line_at(work: &[u32], i: usize) -> usize
+    requires { ⌜ (i < 1_024) × (workLength ≤ length (now work)) ⌝ }
+    ensures { λ r. ⌜ r ≡ listed (now (work .entry)) i ⌝ }
+{
+    wide(work[NEXT + i] / LISTED)
 }
 
 // The length to line `j` by way of line `l`, in 64 bits.

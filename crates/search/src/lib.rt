@@ -1,6 +1,6 @@
 // The search for ways of least length, over a map that stands in the work area.
 // `chains::link` is called once a map, then `search` for a first line, a class and a limit. What it found is asked by
-// `ways::to_line`, and after `nodes::nearest_lines` by `ways::to_node`; `ways::write_lines` gives the lines of a way.
+// `ways::to_line` and, with what `nodes` says of a node, by `ways::to_node`; `ways::write_lines` gives the lines of a way.
 use area::CLASS;
 use area::LENGTH;
 use area::field;

@@ -5,22 +5,13 @@ use crate::area::LENGTHS;
 use crate::area::LISTED;
 use crate::area::NEXT;
 use crate::area::WAITING;
-use crate::area::wide;
-ghost use mathlib.Core.Path.{_≡_};
-ghost use Prim.Native.Nat.{ℕ, _≤_, _<_};
+use crate::area::line_at;
+ghost use Prim.Native.Nat.{_≤_, _<_};
 ghost use lib.ListN.{length};
 ghost use Rattle.model.specs.Map.{Map};
 ghost use Rattle.model.specs.Outcome.{workLength};
-ghost use Rattle.search.specs.Area.{Held, Chained, Listing, listed, lengthTo, far};
+ghost use Rattle.search.specs.Area.{Held, Chained, Listing, lengthTo, far};
 ghost use Rattle.search.specs.Steps.{Forgotten, Sought, Lowered};
-
-// 1 + the line at place `i` of the list, or 0 past its end.
-pub fn line_at(work: &[u32], i: usize) -> usize
-    requires { ⌜ (i < 1_024) × (workLength ≤ length (now work)) ⌝ }
-    ensures { λ r. ⌜ r ≡ listed (now (work .entry)) i ⌝ }
-{
-    wide(work[NEXT + i] / LISTED)
-}
 
 // Forgets what the last search found: no line is reached, and the list is empty.
 pub fn forget(work: &mut [u32], lines: usize)

@@ -1,4 +1,4 @@
-// After a search: of the lines that end at a node, the nearest.
+// After a search: of the lines that end at a node, the nearest. Only the lines that are reached are looked at.
 use crate::area::END;
 use crate::area::LENGTHS;
 use crate::area::NEAREST;
@@ -6,6 +6,7 @@ use crate::area::NODES;
 use crate::area::SEVERAL;
 use crate::area::field;
 use crate::area::fill;
+use crate::area::line_at;
 use crate::area::wide;
 ghost use mathlib.Core.Path.{_≡_};
 ghost use Prim.Native.Nat.{ℕ, _+_, _≤_, _<_};
@@ -13,14 +14,16 @@ ghost use lib.ListN.{length};
 ghost use Rattle.model.specs.Map.{Map};
 ghost use Rattle.model.specs.Lines.{lineAt};
 ghost use Rattle.model.specs.Outcome.{workLength};
-ghost use Rattle.search.specs.Area.{Held, Nearest};
+ghost use Rattle.model.specs.Reading.{greatestLegLength};
+ghost use Rattle.search.specs.Area.{Held, Chained, Among, Nearest, NearestLine, listed, nearestLine};
 ghost use Rattle.search.specs.Promises.{Ended};
 
-// The number `x` of a node with line `l`, which ends there, taken into account.
+// The number `x` of a node with line `l`, which ends there and is next on the list, taken into account.
 fn nearer(work: &[u32], x: u32, l: usize, limit: u32) -> u32
     requires { ⌜ (l < 1_024) × (workLength ≤ length (now work)) ⌝ }
-    ensures { λ r. ⌜ ((m : Map) → (v : ℕ) → lineAt m l .end ≡ v → Nearest m limit (now (work .entry)) l v x
-        → Nearest m limit (now (work .entry)) (l + 1) v r) ⌝ }
+    ensures { λ r. ⌜ ((m : Map) → (lines i v : ℕ) → lineAt m l .end ≡ v → l < lines → listed (now (work .entry)) i ≡ l + 1
+        → (Among (now (work .entry)) lines i l → ⊥) → Nearest m limit (now (work .entry)) (Among (now (work .entry)) lines i) v x
+        → Nearest m limit (now (work .entry)) (Among (now (work .entry)) lines (i + 1)) v r) ⌝ }
 {
     let length = work[LENGTHS + l];
     if limit < length {
@@ -40,17 +43,64 @@ fn nearer(work: &[u32], x: u32, l: usize, limit: u32) -> u32
     other + SEVERAL + 1
 }
 
-// Puts into the cell of each node the nearest of the lines that end there within the limit, and whether another is as near.
-pub fn nearest_lines(work: &mut [u32], lines: usize, limit: u32)
+// The number `x` of node `v` with line `l`, which is next on the list, taken into account.
+fn nearer_to(work: &[u32], lines: usize, x: u32, l: usize, v: usize, limit: u32) -> u32
+    requires { ⌜ l < lines ⌝ }
     requires { ⌜ ((m : Map) × Held (now work) lines m) ⌝ }
-    ensures { λ _. ⌜ ((m : Map) → Held (now (work .entry)) lines m → Ended m lines limit (now (work .entry)) (now (work .exit))) ⌝ }
+    ensures { λ r. ⌜ ((m : Map) → (i : ℕ) → Held (now (work .entry)) lines m → listed (now (work .entry)) i ≡ l + 1
+        → (Among (now (work .entry)) lines i l → ⊥) → Nearest m limit (now (work .entry)) (Among (now (work .entry)) lines i) v x
+        → Nearest m limit (now (work .entry)) (Among (now (work .entry)) lines (i + 1)) v r) ⌝ }
+{
+    if wide(field(work, l, END)) != v {
+        return x;
+    }
+    nearer(work, x, l, limit)
+}
+
+// The nearest of the lines that end at node `v` within the limit, and whether another is as near: as the cell of a node has it.
+pub fn nearest_line(work: &[u32], lines: usize, v: usize, limit: u32) -> u32
+    requires { ⌜ ((m : Map) × Held (now work) lines m × Chained (now work) lines m) ⌝ }
+    ensures { λ r. ⌜ ((m : Map) → Held (now (work .entry)) lines m → Chained (now (work .entry)) lines m → limit ≤ greatestLegLength
+        → NearestLine m lines limit (now (work .entry)) v r) ⌝ }
+{
+    let mut x = 0;
+    let mut i = 0;
+    while i < lines {
+        let at = line_at(work, i);
+        if at == 0 {
+            return x;
+        }
+        x = nearer_to(work, lines, x, at - 1, v, limit);
+        i += 1;
+    }
+    x
+}
+
+// Puts that into the cell of each node.
+pub fn nearest_lines(work: &mut [u32], lines: usize, limit: u32)
+    requires { ⌜ ((m : Map) × Held (now work) lines m × Chained (now work) lines m) ⌝ }
+    ensures { λ _. ⌜ ((m : Map) → Held (now (work .entry)) lines m → Chained (now (work .entry)) lines m → limit ≤ greatestLegLength
+        → Ended m lines limit (now (work .entry)) (now (work .exit))) ⌝ }
 {
     fill(work, NEAREST, NODES, 0);
-    let mut l = 0;
-    while l < lines {
+    let mut i = 0;
+    while i < lines {
+        let at = line_at(work, i);
+        if at == 0 {
+            return;
+        }
+        let l = at - 1;
         let v = wide(field(work, l, END));
         let x = work[NEAREST + v];
         work[NEAREST + v] = nearer(work, x, l, limit);
-        l += 1;
+        i += 1;
     }
+}
+
+// What stands in the cell of node `v`.
+pub fn nearest_at(work: &[u32], v: usize) -> u32
+    requires { ⌜ (v < 512) × (workLength ≤ length (now work)) ⌝ }
+    ensures { λ r. ⌜ r ≡ nearestLine (now (work .entry)) v ⌝ }
+{
+    work[NEAREST + v]
 }

@@ -1,7 +1,6 @@
 // What a search has found: the ways of least length to a line or to a node.
 use crate::area::BEFORE;
 use crate::area::LENGTHS;
-use crate::area::NEAREST;
 use crate::area::SEVERAL;
 use crate::area::wide;
 ghost use mathlib.Core.Path.{_≡_};
@@ -11,7 +10,7 @@ ghost use Rattle.model.specs.Map.{Map};
 ghost use Rattle.model.specs.Lines.{Connected};
 ghost use Rattle.model.specs.Outcome.{workLength};
 ghost use Rattle.search.specs.Ways.{line, node};
-ghost use Rattle.search.specs.Area.{Held, Searched, Reaching, lineBefore, linesTo};
+ghost use Rattle.search.specs.Area.{Held, Searched, NearestLine, lineBefore, linesTo};
 ghost use Rattle.search.specs.Promises.{Told};
 
 // The ways of least length within the limit: none, several, with their length, or one, with its last line, its length and its count of lines.
@@ -45,22 +44,20 @@ pub fn to_line(work: &[u32], lines: usize, first: usize, last: usize, limit: u32
     Ways::One(last, length, count)
 }
 
-// The ways to node `v`, whatever their last line, after a search from line `first` and `nearest_lines`.
-pub fn to_node(work: &[u32], lines: usize, first: usize, v: usize, limit: u32) -> Ways
-    requires { ⌜ ((m : Map) × (c : ℕ) × Searched m lines c first limit (now work) × Reaching m lines limit (now work) × (v < length (m .nodes))) ⌝ }
-    ensures { λ r. ⌜ ((m : Map) → (c : ℕ) → Searched m lines c first limit (now (work .entry)) → Reaching m lines limit (now (work .entry))
-        → v < length (m .nodes) → Told m lines c first limit (node v) (now (work .entry)) r) ⌝ }
+// The ways to a node, whatever their last line, after a search from line `first`. Of the lines that end at the node, `x` names the nearest.
+pub fn to_node(work: &[u32], lines: usize, first: usize, x: u32, limit: u32) -> Ways
+    requires { ⌜ ((m : Map) × (c v : ℕ) × Searched m lines c first limit (now work) × NearestLine m lines limit (now work) v x) ⌝ }
+    ensures { λ r. ⌜ ((m : Map) → (c v : ℕ) → Searched m lines c first limit (now (work .entry)) → NearestLine m lines limit (now (work .entry)) v x
+        → Told m lines c first limit (node v) (now (work .entry)) r) ⌝ }
 {
-    let x = wide(work[NEAREST + v]);
     if x == 0 {
         return Ways::Nothing;
     }
-    let several = wide(SEVERAL);
-    if several <= x {
-        let nearest = (x - 1) % several;
+    let nearest = wide((x - 1) % SEVERAL);
+    if SEVERAL <= x {
         return Ways::Several(work[LENGTHS + nearest]);
     }
-    to_line(work, lines, first, x - 1, limit)
+    to_line(work, lines, first, nearest, limit)
 }
 
 // The line before line `l` on a way. Before the first line it is of no use.

@@ -126,16 +126,14 @@ module _ {m : Map} {lines class first len : ℕ} {w : List ℕ} (set : Set m lin
       Prepared m lines class first len w u limit
   anew l f e =
       let held = held-kept (omega arith) (f .kept) (set .held) in
+      let chained = chained-above (omega arith) (e .kept) held (f .chained) in
       record {
         done = record {
           limited = l;
-          done = record { searched = searched-kept (omega arith) (e .kept) (f .searched); reaching = e .reaching };
+          done = record { searched = searched-kept (omega arith) (e .kept) (f .searched); chained = chained; reaching = e .reaching };
         };
         worked = record {
-          set = record {
-            held = held-kept (omega arith) (e .kept) held;
-            chained = chained-above (omega arith) (e .kept) held (f .chained);
-          };
+          set = record { held = held-kept (omega arith) (e .kept) held; chained = chained };
           kept = kept-then (kept-within (omega arith) (omega arith) (f .kept)) (kept-within (omega arith) (omega arith) (e .kept));
         };
       }

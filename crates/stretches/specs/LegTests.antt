@@ -14,7 +14,7 @@ use Rattle.model.specs.Reading.{Leg, Allowed, Reading, greatestLegLength}
 use Rattle.model.specs.Choice.{fromNode, toNode, legOf, good}
 use Rattle.depot_map.specs.Area.{Kept}
 use Rattle.search.specs.Ways.{line, Way}
-use Rattle.search.specs.Area.{Searched, Reaching}
+use Rattle.search.specs.Area.{Chained, Searched, Reaching}
 use Rattle.legs.specs.Verdict.{LimitFor, FromLine, FromLines, Set}
 use Rattle.stretches.specs.Stretch.{Known}
 use Rattle.stretches.specs.Cuts.{Tested}
@@ -66,9 +66,10 @@ pub record Sifted (m : Map) (s : List ℕ) (i j first x y : ℕ) : Type 0 where
   pub sole : y ≡ 1 → Sole m (legFrom m s i j) (slice i j s) first
   pub good : x ≡ 1 → Sole m (legFrom m s i j) (slice i j s) first → y ≡ 1
 
--- A search from line `first` is done, and the nearest line of each node is noted.
+-- A search from line `first` is done, the list of the reached lines stands, and the nearest line of each node is noted.
 pub record Done (m : Map) (lines class first limit : ℕ) (w : List ℕ) : Type 0 where
   pub searched : Searched m lines class first limit w
+  pub chained : Chained w lines m
   pub reaching : Reaching m lines limit w
 
 -- What `searched` says of the work area: 0, or 1 + the class of the search from line `first` that is done, up to this limit.

@@ -12,6 +12,7 @@ use legs::ends::at_last_lines;
 use legs::ends::at_node;
 use search::area::LENGTH;
 use search::area::wide;
+use search::nodes::nearest_at;
 use search::nodes::nearest_lines;
 use search::search;
 use search::ways::Ways;
@@ -23,7 +24,7 @@ ghost use lib.Seq.{slice};
 ghost use Rattle.model.specs.Map.{Map};
 ghost use Rattle.model.specs.Field.{distance};
 ghost use Rattle.model.specs.Reading.{greatestLegLength};
-ghost use Rattle.search.specs.Area.{Held, Reaching};
+ghost use Rattle.search.specs.Area.{Held, Chained, Reaching};
 ghost use Rattle.search.specs.Steps.{Decides};
 ghost use Rattle.legs.specs.Verdict.{LimitFor, legIn, Says, Anywhere, FromLine, Ready, Set};
 ghost use Rattle.stretches.specs.Stretch.{Known};
@@ -119,13 +120,17 @@ pub fn prepare(
 
 // The verdict on a leg's readings from line `first`, after a search from there.
 fn found_at(work: &[u32], lines: usize, first: usize, leg: Leg, limit: u32) -> Verdict
-    requires { ⌜ ((m : Map) × Ready m lines leg first limit (now work) × Reaching m lines limit (now work) × (leg .to < length (m .nodes))) ⌝ }
-    ensures { λ r. ⌜ ((m : Map) → Ready m lines leg first limit (now (work .entry)) → Reaching m lines limit (now (work .entry))
-        → leg .to < length (m .nodes) → Says m (FromLine m (legIn leg) first) Anywhere r) ⌝ }
+    requires { ⌜ ((m : Map) × Ready m lines leg first limit (now work) × Chained (now work) lines m × Reaching m lines limit (now work)
+        × (leg .to < length (m .nodes))) ⌝ }
+    ensures { λ r. ⌜ ((m : Map) → Ready m lines leg first limit (now (work .entry)) → Chained (now (work .entry)) lines m
+        → Reaching m lines limit (now (work .entry)) → leg .to < length (m .nodes) → Says m (FromLine m (legIn leg) first) Anywhere r) ⌝ }
 {
     let arrival = leg.arrival;
     match arrival {
-        Arrival::Any => at_node(work, lines, first, leg, limit),
+        Arrival::Any => {
+            let x = nearest_at(work, leg.to);
+            at_node(work, lines, first, leg, x, limit)
+        }
         Arrival::Matching(a) => at_last_lines(work, lines, first, leg, a, limit),
     }
 }

@@ -74,16 +74,13 @@ fn print_verdict(found: Verdict) {
     }
 }
 
-// The verdict on a leg of the map that the work area holds. A leg from or to no node has no reading.
+// The verdict on a leg of the map that the work area holds. A leg from no node has no reading.
 fn judge(work: &mut [u32], nodes: u32, lines: u32, leg: Leg) -> Verdict
     requires { ⌜ ((m : Map) × Holds (now work) nodes lines m) ⌝ }
     ensures { λ _. ⌜ ((m : Map) → Holds (now (work .entry)) nodes lines m → Set m lines (now (work .exit))) ⌝ }
 {
     link(work, lines as usize);
     if nodes as usize <= leg.from {
-        return Verdict::Unread;
-    }
-    if nodes as usize <= leg.to {
         return Verdict::Unread;
     }
     verdict(work, lines as usize, leg)

@@ -5,7 +5,7 @@ use borrow.Author.Tests.{not-true, not-false}
 use Rattle.model.specs.Map.{Map}
 use Rattle.model.specs.Lines.{lineAt}
 use Rattle.legs.specs.Verdict.{arrivalIn, Set}
-use Rattle.legs.proofs.FirstLines.{Done, searched, nodes-filled, judged-by, not-first}
+use Rattle.legs.proofs.FirstLines.{Done, searched, judged-by, not-first}
 use Rattle.legs.proofs.from_line.Statement.{statement}
 use Rattle.legs.proofs.from_line.Tie as tie
 
@@ -26,7 +26,7 @@ same-length : tie.Need-same-length
 same-length c = search needs
 
 returns : tie.Need-returns
-returns c m set to from =
+returns c m set from =
     not-first _ _ set (rw (not-true (c .before .leaves-as .result) (c .if1 .taken)) at (c .before .leaves-as .ensures m (set .held)))
 
 longest-leg-requires : tie.Need-longest-leg-requires
@@ -38,17 +38,17 @@ search-requires c κs = search needs
 enum-told : tie.Need-enum-told
 enum-told c = search needs
 
-nearest-lines-requires : tie.Need-nearest-lines-requires
-nearest-lines-requires c κs =
+nearest-line-requires : tie.Need-nearest-line-requires
+nearest-line-requires c κs =
     let p = c .before .before .before .before .before .before .before .before .before .before .before .before .before .pre .1 in
-    (p .0, done (c .before .before .before) (p .0) (p .1) (p .3) .set .held)
+    let d = done (c .before .before .before) (p .0) (p .1) (p .2) .set in
+    (p .0, d .held, d .chained)
 
 at-node-requires : tie.Need-at-node-requires
 at-node-requires c κs =
-    let p = c .before .before .before .before .before .before .before .before .before .before .before .before .before .before .before .before .before .pre .1 in
-    let d = done (c .before .before .before .before .before .before .before) (p .0) (p .1) (p .3) in
-    let e = c .before .before .before .nearest-lines .ensures (p .0) (d .set .held) in
-    (p .0, nodes-filled d e .ready, e .reaching, p .2)
+    let p = c .before .before .before .before .before .before .before .before .before .before .before .before .before .before .before .pre .1 in
+    let d = done (c .before .before .before .before .before) (p .0) (p .1) (p .2) in
+    (p .0, d .ready, c .before .nearest-line .ensures (p .0) (d .set .held) (d .set .chained) (d .ready .limited .within))
 
 enum-known-arrival : tie.Need-enum-known-arrival
 enum-known-arrival c = search needs
@@ -56,27 +56,27 @@ enum-known-arrival c = search needs
 at-last-lines-requires : tie.Need-at-last-lines-requires
 at-last-lines-requires c κs =
     let p = c .before .before .before .before .before .before .before .before .before .before .before .before .before .before .pre .1 in
-    (p .0, done (c .before .before .before .before) (p .0) (p .1) (p .3) .ready)
+    let d = done (c .before .before .before .before) (p .0) (p .1) (p .2) in
+    (p .0, d .ready, d .set .chained)
 
 same-length-2 : tie.Need-same-length-2
 same-length-2 c = search needs
 
 returns-2 : tie.Need-returns-2
 unfolding arrivalIn
-returns-2 c m set to from =
-    let d = done (c .before .before .before .before .before .before .before .before) m set from in
-    let e = c .before .before .before .before .nearest-lines .ensures m (d .set .held) in
-    let n = nodes-filled d e in
-    judged-by n (c .at-node .ensures m (n .ready) (e .reaching) to (ap arrivalIn (c .before .before .before .before .before .before .enum-told .given .1)))
+returns-2 c m set from =
+    let d = done (c .before .before .before .before .before .before) m set from in
+    let n = c .before .before .nearest-line .ensures m (d .set .held) (d .set .chained) (d .ready .limited .within) in
+    judged-by d (c .at-node .ensures m (d .ready) n (ap arrivalIn (c .before .before .before .before .enum-told .given .1)))
 
 same-length-3 : tie.Need-same-length-3
 same-length-3 c = search needs
 
 returns-3 : tie.Need-returns-3
 unfolding arrivalIn
-returns-3 c m set to from =
+returns-3 c m set from =
     let d = done (c .before .before .before .before .before) m set from in
-    judged-by d (c .at-last-lines .ensures m (d .ready) (ap arrivalIn (c .before .before .before .arrival .given .1)))
+    judged-by d (c .at-last-lines .ensures m (d .ready) (d .set .chained) (ap arrivalIn (c .before .before .before .arrival .given .1)))
 
 pub from-line-spec : {M : Type 1} → statement M
 from-line-spec =
@@ -88,7 +88,7 @@ from-line-spec =
     longest-leg-requires
     search-requires
     enum-told
-    nearest-lines-requires
+    nearest-line-requires
     at-node-requires
     enum-known-arrival
     at-last-lines-requires

@@ -24,26 +24,18 @@ same-length c = search needs
 returns : tie.Need-returns
 returns c m h = linked h (c .before .before .before .before .link .ensures m (held h))
 
+verdict-requires : tie.Need-verdict-requires
+verdict-requires c κs =
+    let p = c .before .before .before .before .before .before .before .before .pre in
+    let h = p .1 in
+    (p .0, linked h (c .before .before .before .before .before .link .ensures (p .0) (held h)), omega (arith, c .before .if1 .left, h .node-count))
+
 same-length-2 : tie.Need-same-length-2
 same-length-2 c = search needs
 
 returns-2 : tie.Need-returns-2
-returns-2 c m h = linked h (c .before .before .before .before .before .before .link .ensures m (held h))
-
-verdict-requires : tie.Need-verdict-requires
-verdict-requires c κs =
-    let p = c .before .before .before .before .before .before .before .before .before .before .pre in
-    let h = p .1 in
-    (p .0, linked h (c .before .before .before .before .before .before .before .link .ensures (p .0) (held h)), omega (arith, c .before .before .before .if1 .left, h .node-count), omega (arith, c .before .if2 .left, h .node-count))
-
-same-length-3 : tie.Need-same-length-3
-same-length-3 c = search needs
-
-returns-3 : tie.Need-returns-3
-returns-3 c m h =
-    c .before .before .verdict .ensures m (linked h (c .before .before .before .before .before .before .before .before .before .before .link .ensures m (held h)))
-    (omega (arith, c .before .before .before .before .before .before .if1 .left, h .node-count)) (omega (arith, c .before .before .before .before .if2 .left, h .node-count)) .set
+returns-2 c m h =
+    c .before .before .verdict .ensures m (linked h (c .before .before .before .before .before .before .before .before .link .ensures m (held h))) (omega (arith, c .before .before .before .before .if1 .left, h .node-count)) .set
 
 pub judge-spec : {M : Type 1} → statement M
-judge-spec =
-    tie.close (tie.spec link-requires same-length returns same-length-2 returns-2 verdict-requires same-length-3 returns-3)
+judge-spec = tie.close (tie.spec link-requires same-length returns verdict-requires same-length-2 returns-2)

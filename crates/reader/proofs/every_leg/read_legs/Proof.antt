@@ -98,7 +98,7 @@ module _ (c : tie.After-from-line Inv-loop μ-loop Inv-legs μ-legs) (m : Map) (
       (c .before .before .before .loop .work) (c .from-line .last .0) (c .from-line .result)
   judged =
       let k = c .before .before .before .loop .inv .4 m set from to in
-      c .from-line .ensures m (k .judged .set) to (k .next (c .before .before .loop-test .taken))
+      c .from-line .ensures m (k .judged .set) (k .next (c .before .before .loop-test .taken))
 
 sub-from-line : tie.Need-sub-from-line Inv-loop μ-loop Inv-legs μ-legs
 sub-from-line c = search needs
@@ -110,7 +110,7 @@ from-line-requires c κs =
     let from = from-known (c .before .before .before .before .before) (p .0) (p .1) (p .2) in
     let to = to-known (c .before .before .before .before .before) (p .0) (p .1) (p .2) in
     let k = c .before .before .loop .inv .4 (p .0) (g .set) from to in
-    (omega (arith, k .inside), (p .0, k .judged .set, to, k .next (c .before .loop-test .taken)))
+    (omega (arith, k .inside), (p .0, k .judged .set, k .next (c .before .loop-test .taken)))
 
 put-reading-requires : tie.Need-put-reading-requires Inv-loop μ-loop Inv-legs μ-legs
 put-reading-requires c κs =

@@ -24,7 +24,7 @@ shared-slice-read-length : tie.Need-shared-slice-read-length
 shared-slice-read-length c = search needs
 
 returns : tie.Need-returns
-returns c = λ m v e n. nearest-same n (λ q. inl (c .if1 .taken))
+returns c = λ m lines i v e l< at new n. nearest-same n _ at (λ q. inl (c .if1 .taken))
 
 add-result : tie.Need-add-result
 add-result c = search needs
@@ -34,9 +34,9 @@ cast-result c = search needs
 
 returns-2 : tie.Need-returns-2
 returns-2 c =
-    λ m v e n.
+    λ m lines i v e l< at new n.
     let x = c .if2 .taken in
-    nearest-new n (c .before .before .before .before .pre .0) e (c .before .if1 .left) (search needs) (λ p. absurd (omega arith))
+    nearest-new n _ at (c .before .before .before .before .pre .0) l< e (c .before .if1 .left) (search needs) (λ p. absurd (omega arith))
 
 sub-other : tie.Need-sub-other
 sub-other c = search needs
@@ -55,10 +55,10 @@ shared-slice-read-best c = search needs
 
 returns-3 : tie.Need-returns-3
 returns-3 c =
-    λ m v e n.
+    λ m lines i v e l< at new n.
     let k = best (c .before .before) in
     let t = c .if3 .taken in
-    nearest-same n (λ q. inr (omega arith, omega (arith, k)))
+    nearest-same n _ at (λ q. inr (omega arith, omega (arith, k)))
 
 add-result-2 : tie.Need-add-result-2
 add-result-2 c = search needs
@@ -68,10 +68,10 @@ cast-result-2 c = search needs
 
 returns-4 : tie.Need-returns-4
 returns-4 c =
-    λ m v e n.
+    λ m lines i v e l< at new n.
     let k = best (c .before .before .before) in
     let t = c .if4 .taken in
-    nearest-new n (c .before .before .before .before .before .before .before .before .pre .0) e (c .before .before .before .before .before .if1 .left) (search needs) (λ p. omega (arith, k))
+    nearest-new n _ at (c .before .before .before .before .before .before .before .before .pre .0) l< e (c .before .before .before .before .before .if1 .left) (search needs) (λ p. omega (arith, k))
 
 add-result-3 : tie.Need-add-result-3
 add-result-3 c = search needs
@@ -81,11 +81,11 @@ add-result-4 c = search needs
 
 returns-5 : tie.Need-returns-5
 returns-5 c =
-    λ m v e n.
+    λ m lines i v e l< at new n.
     let k = best (c .before .before .before) in
     let t = c .if4 .left in
     let s = c .before .if3 .left in
-    nearest-also n (c .before .before .before .before .before .before .before .before .pre .0) e (c .before .before .before .before .before .if1 .left) (omega arith) (omega arith) (omega (arith, k))
+    nearest-also n _ at (c .before .before .before .before .before .before .before .before .pre .0) l< e (c .before .before .before .before .before .if1 .left) new (omega arith) (omega arith) (omega (arith, k))
 
 pub nearer-spec : {M : Type 1} → statement M
 nearer-spec =

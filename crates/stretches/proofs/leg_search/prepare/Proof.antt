@@ -35,7 +35,7 @@ nearest-lines-requires : tie.Need-nearest-lines-requires
 nearest-lines-requires c κs =
     let p = c .before .before .before .before .before .before .before .before .before .before .pre in
     let f = c .before .before .before .search .ensures (p .1 .0) (p .1 .1 .held) (p .1 .1 .chained) in
-    (p .1 .0, held-kept (omega arith) (f .kept) (p .1 .1 .held))
+    (p .1 .0, held-kept (omega arith) (f .kept) (p .1 .1 .held), f .chained)
 
 same-length : tie.Need-same-length
 same-length c = c .before .before .nearest-lines .kept .0 ∙ c .before .before .before .before .before .before .search .kept .0
@@ -43,7 +43,7 @@ same-length c = c .before .before .nearest-lines .kept .0 ∙ c .before .before 
 returns-2 : tie.Need-returns-2
 returns-2 c m set before =
     let f = c .before .before .before .before .before .before .search .ensures m (set .held) (set .chained) in
-    anew set (c .before .before .before .before .before .before .before .before .limit-for .ensures) f (c .before .before .nearest-lines .ensures m (held-kept (omega arith) (f .kept) (set .held)))
+    anew set (c .before .before .before .before .before .before .before .before .limit-for .ensures) f (c .before .before .nearest-lines .ensures m (held-kept (omega arith) (f .kept) (set .held)) (f .chained) (c .before .before .before .before .before .before .before .before .limit-for .ensures .within))
 
 pub prepare-spec : {M : Type 1} → statement M
 prepare-spec =

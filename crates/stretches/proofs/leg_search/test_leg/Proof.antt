@@ -18,7 +18,7 @@ found-at-requires : tie.Need-found-at-requires
 found-at-requires c κs =
     let p = c .before .before .before .pre in
     let e = c .leg-of .ensures (p .0) (p .5 .done .searched .held) (p .3) in
-    (p .0, ready (p .1) (p .3) (p .4) (p .2) (p .5) (c .leg-of .result) e, p .5 .done .reaching, ends-known (p .1) (p .3) (p .4) (p .2) (p .5) (c .leg-of .result) e)
+    (p .0, ready (p .1) (p .3) (p .4) (p .2) (p .5) (c .leg-of .result) e, p .5 .done .chained, p .5 .done .reaching, ends-known (p .1) (p .3) (p .4) (p .2) (p .5) (c .leg-of .result) e)
 
 mul-wide : tie.Need-mul-wide
 mul-wide c = search needs
@@ -49,7 +49,7 @@ returns c m t alike x short done =
     let a = c .before .before .before .before .before .before .before .before .before .args in
     let leg = c .before .before .before .before .before .before .leg-of .result in
     let e = c .before .before .before .before .before .before .leg-of .ensures m (done .done .searched .held) x in
-    let says = c .before .before .before .before .before .found-at .ensures m (ready t x short alike done leg e) (done .done .reaching) (ends-known t x short alike done leg e) in
+    let says = c .before .before .before .before .before .found-at .ensures m (ready t x short alike done leg e) (done .done .chained) (done .done .reaching) (ends-known t x short alike done leg e) in
     let own = rw (sym (c .before .before .before .wide .ensures .0), sym (c .before .wide2 .ensures .0)) at (leg-lines t x short) in
     c .is-sole .ensures m (legFrom m (a .stretch .now) (a .i) (a .j)) (slice (a .i) (a .j) (a .stretch .now)) own
     (subst (λ (l : Leg). Says m (FromLine m l (a .first)) Anywhere (c .before .before .before .before .before .found-at .result)) e says)

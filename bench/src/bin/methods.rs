@@ -1,5 +1,5 @@
 //! Compares the searches with each other, and reads back everything that the writer accepts,
-//! over maps from a seed: `differential SEED COUNT`.
+//! over maps from a seed: `methods SEED COUNT`.
 
 use std::process::ExitCode;
 
@@ -25,7 +25,7 @@ struct Counts {
 fn main() -> ExitCode {
     let mut arguments = std::env::args().skip(1).map(|word| word.parse());
     let (Some(Ok(seed)), Some(Ok(count))) = (arguments.next(), arguments.next()) else {
-        eprintln!("usage: differential SEED COUNT");
+        eprintln!("usage: methods SEED COUNT");
         return ExitCode::FAILURE;
     };
     let mut counts = Counts::default();

@@ -1,0 +1,39 @@
+#!/usr/bin/env bash
+# Counts the searches and the leg tests of the proved writer for each writing row of the benchmark, a stretch's mean. It needs gdb and takes half a
+# minute.
+#
+# In the archive that is measured, search and leg test stand inside the functions that call them. Here the same proved functions are compiled with no optimization, so
+# that each is called: by a copy of the toolchain (links to it) whose clang gets -O0 as its last word. No archive is left behind.
+set -euo pipefail
+cd "$(dirname "$0")/.."
+
+toolchain=$(dirname "$(dirname "$(readlink -f "$(command -v rt)")")")
+copy=$(mktemp -d)
+trap 'rm -rf "$copy" target/staticlib/libmeasured.a' EXIT
+cp -rs "$toolchain/." "$copy"
+clang=on/$(uname -m)/toolchain/bin/clang
+rm "$copy/$clang"
+printf '#!/bin/sh\nexec "%s" "$@" -O0\n' "$toolchain/$clang" >"$copy/$clang"
+chmod +x "$copy/$clang"
+
+RATTLE_HOME=$copy rt staticlib measured >/dev/null
+cargo build --release --offline --quiet --manifest-path bench/Cargo.toml --target-dir target/count --bin bench
+cat >"$copy/count.py" <<'END'
+import os
+
+row_file = os.environ["ROW_FILE"]
+names = ("search::search", "stretches::leg_tests::test_leg")
+breakpoints = [gdb.Breakpoint(name) for name in names]
+for breakpoint in breakpoints:
+    if breakpoint.pending:
+        raise gdb.GdbError(f"there is no function {breakpoint.location}")
+for row in range(12):
+    for breakpoint in breakpoints:
+        breakpoint.hit_count = 0
+        breakpoint.ignore_count = 1_000_000_000
+    gdb.execute(f"run once {row} >{row_file}", to_string=True)
+    what, stretches = open(row_file).read().rsplit(", stretches ", 1)
+    means = [breakpoint.hit_count / int(stretches) for breakpoint in breakpoints]
+    print(f"{what}, proved: {means[0]:.1f} searches, {means[1]:.1f} leg tests", flush=True)
+END
+ROW_FILE=$copy/row gdb -batch -nx -x "$copy/count.py" target/count/release/bench | grep -v '^[[B]'

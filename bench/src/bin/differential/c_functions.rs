@@ -1,0 +1,79 @@
+//! The C functions of include/openlr.h.
+
+use crate::memory::Memory;
+
+/// `struct openlr_lines`.
+#[repr(C)]
+#[derive(Clone, Copy, Debug, Default, PartialEq, Eq)]
+pub struct LinesAnswer {
+    pub refusal: u32,
+    pub place: u32,
+    pub lines: u32,
+    pub pos_least: u32,
+    pub pos_greatest: u32,
+    pub neg_least: u32,
+    pub neg_greatest: u32,
+}
+
+/// `struct openlr_written`.
+#[repr(C)]
+#[derive(Clone, Copy, Debug, Default, PartialEq, Eq)]
+pub struct WrittenAnswer {
+    pub refusal: u32,
+    pub bytes: u32,
+}
+
+#[link(name = "openlr", kind = "static")]
+extern "C" {
+    fn openlr_read(
+        map: *const u8,
+        map_len: usize,
+        reference: *const u8,
+        reference_len: usize,
+        lines: *mut u8,
+        lines_len: usize,
+    ) -> LinesAnswer;
+    fn openlr_write(
+        map: *const u8,
+        map_len: usize,
+        stretch: *const u8,
+        stretch_len: usize,
+        pos: u32,
+        neg: u32,
+        bytes: *mut u8,
+        bytes_len: usize,
+    ) -> WrittenAnswer;
+}
+
+/// Reads the reference that the memory holds beside the map.
+pub fn read(memory: &mut Memory) -> LinesAnswer {
+    let Memory { map, given, buffer } = memory;
+    // Each pointer is valid for the length beside it, and the three parts do not overlap.
+    unsafe {
+        openlr_read(
+            map.as_mut_ptr(),
+            map.len(),
+            given.as_mut_ptr(),
+            given.len(),
+            buffer.as_mut_ptr(),
+            buffer.len(),
+        )
+    }
+}
+
+/// Writes the stretch that the memory holds beside the map.
+pub fn write(memory: &mut Memory, pos: u32, neg: u32) -> WrittenAnswer {
+    let Memory { map, given, buffer } = memory;
+    unsafe {
+        openlr_write(
+            map.as_mut_ptr(),
+            map.len(),
+            given.as_mut_ptr(),
+            given.len(),
+            pos,
+            neg,
+            buffer.as_mut_ptr(),
+            buffer.len(),
+        )
+    }
+}

@@ -1,0 +1,177 @@
+//! Maps and references with something changed.
+
+use plain::depot_map::DepotMap;
+use plain::fields::{
+    coordinate_code, FIRST_POINT_BYTES, MIDDLE_POINT_BYTES, NEGATIVE_FLAG, POSITIVE_FLAG,
+    SHORTEST_REFERENCE,
+};
+use plain::maps::{push_number, MapPlan, Xorshift};
+
+use crate::inputs::random_bytes;
+
+/// At the edges of the ranges of a map's numbers.
+#[rustfmt::skip]
+const EDGE_NUMBERS: [u32; 20] = [
+    0, 1, 2, 7, 8, 359, 360, 511, 512, 513, 1024, 1025, 150_000, 150_001,
+    18_000_000, 18_000_001, 35_999_998, 35_999_999, 36_000_000, u32::MAX,
+];
+
+/// The bytes of a map with something changed. They may still be those of a map.
+pub fn damaged_map(rng: &mut Xorshift, plan: &MapPlan) -> Vec<u8> {
+    let mut bytes = plan.encode();
+    match rng.below(8) {
+        0 => change_bytes(rng, &mut bytes),
+        1 => bytes.truncate(rng.below(bytes.len() as u32) as usize),
+        2 => bytes.extend(random_bytes(rng, &[1, 2, 7])),
+        3 => return with_same_codes(rng, plan),
+        4 => bytes = random_bytes(rng, &[0, 1, 2, 10, 60]),
+        _ => return with_other_numbers(rng, plan),
+    }
+    bytes
+}
+
+fn change_bytes(rng: &mut Xorshift, bytes: &mut [u8]) {
+    for _ in 0..rng.within(1, 2) {
+        let at = rng.below(bytes.len() as u32) as usize;
+        match rng.below(2) {
+            0 => bytes[at] ^= 1 << rng.below(8),
+            _ => bytes[at] = rng.below(256) as u8,
+        }
+    }
+}
+
+/// A node moved to another, or next to it.
+fn with_same_codes(rng: &mut Xorshift, plan: &MapPlan) -> Vec<u8> {
+    let mut plan = plan.clone();
+    let mut place = *rng.pick(&plan.nodes);
+    place.longitude += rng.below(3) as i32 - 1;
+    place.latitude += rng.below(3) as i32 - 1;
+    let moved = rng.below(plan.nodes.len() as u32) as usize;
+    plan.nodes[moved] = place;
+    plan.encode()
+}
+
+/// One of the counts, coordinates and fields becomes another number, or some do.
+fn with_other_numbers(rng: &mut Xorshift, plan: &MapPlan) -> Vec<u8> {
+    let bytes = plan.encode();
+    let numbers = bytes.split_inclusive(|&byte| byte < 0x80);
+    let mut numbers: Vec<Vec<u8>> = numbers.map(<[u8]>::to_vec).collect();
+    let (nodes, lines) = (plan.nodes.len() as u32, plan.lines.len() as u32);
+    let count_of_lines = 1 + 2 * nodes;
+    for _ in 0..*rng.pick(&[1, 1, 3]) {
+        let place = match rng.below(8) {
+            0 => 0,
+            1 => count_of_lines,
+            2..=4 => rng.within(1, 2 * nodes),
+            _ => count_of_lines + rng.within(1, 7 * lines),
+        };
+        let number = &mut numbers[place as usize];
+        *number = other_number(rng, number);
+    }
+    numbers.concat()
+}
+
+/// Mostly a number at an edge; else a form that is not the shortest, or one that holds too much.
+fn other_number(rng: &mut Xorshift, number: &[u8]) -> Vec<u8> {
+    let mut other = Vec::new();
+    match rng.below(8) {
+        0 => {
+            let continued = number.iter().map(|byte| byte | 0x80);
+            other.extend(continued.chain([0]));
+        }
+        1 => other.extend([0x80, 0x80, 0x80, 0x80, 0x10]),
+        2 => other.extend([0xFF, 0xFF, 0xFF, 0xFF, 0x8F, 0x01]),
+        _ => push_number(&mut other, *rng.pick(&EDGE_NUMBERS)),
+    }
+    other
+}
+
+/// A reference with something changed, once or twice. It may still be one.
+pub fn damaged_reference(rng: &mut Xorshift, map: &DepotMap, reference: &[u8]) -> Vec<u8> {
+    let mut bytes = reference.to_vec();
+    damage_reference(rng, map, &mut bytes);
+    if rng.below(4) == 0 && bytes.len() >= SHORTEST_REFERENCE {
+        damage_reference(rng, map, &mut bytes);
+    }
+    bytes
+}
+
+fn damage_reference(rng: &mut Xorshift, map: &DepotMap, bytes: &mut Vec<u8>) {
+    match rng.below(12) {
+        0 => change_bytes(rng, bytes),
+        1 => bytes.truncate(rng.below(bytes.len() as u32) as usize),
+        2 => bytes.extend(random_bytes(rng, &[1, 2, 3, 7, 460])),
+        3 => change_offsets(rng, bytes),
+        4 => move_first_point(rng, map, bytes),
+        5 => move_point(rng, map, bytes),
+        _ => change_field(rng, bytes),
+    }
+}
+
+fn legs(reference: &[u8]) -> usize {
+    (reference.len() - SHORTEST_REFERENCE) / MIDDLE_POINT_BYTES + 1
+}
+
+/// P of a point: the byte after it is Q or R, and the one after Q is D.
+fn place_of_p(point: usize) -> usize {
+    FIRST_POINT_BYTES - 2 + MIDDLE_POINT_BYTES * point
+}
+
+/// Marks, the lowest class, D or the bits that must be zero.
+fn change_field(rng: &mut Xorshift, bytes: &mut [u8]) {
+    let leg = rng.below(legs(bytes) as u32) as usize;
+    let (p, last_p) = (place_of_p(leg), place_of_p(legs(bytes)));
+    let (q, d, r) = (p + 1, p + 2, last_p + 1);
+    match rng.below(8) {
+        0 => bytes[d] = rng.below(256) as u8,
+        1 => bytes[d] = bytes[d].wrapping_add(1),
+        2 => bytes[d] = bytes[d].wrapping_sub(1),
+        3 => bytes[q] = bytes[q] & 0x1F | (rng.below(8) << 5) as u8,
+        4 => bytes[q] ^= 1 << rng.below(5),
+        5 => bytes[*rng.pick(&[p, last_p])] ^= 1 << rng.below(6),
+        6 => bytes[*rng.pick(&[p, last_p])] ^= 1 << rng.within(6, 7),
+        _ => bytes[r] ^= *rng.pick(&[0x80, POSITIVE_FLAG, NEGATIVE_FLAG, 1]),
+    }
+}
+
+/// Other flags, with as many offset bytes, at the edges or anything.
+fn change_offsets(rng: &mut Xorshift, bytes: &mut Vec<u8>) {
+    let r = place_of_p(legs(bytes)) + 1;
+    let flags = *rng.pick(&[POSITIVE_FLAG, NEGATIVE_FLAG, POSITIVE_FLAG | NEGATIVE_FLAG]);
+    bytes.truncate(r + 1);
+    bytes[r] = bytes[r] & 0x1F | flags;
+    for _ in 0..flags.count_ones() {
+        let offsets = [0, 1, 2, 127, 128, 254, 255, rng.below(256)];
+        bytes.push(*rng.pick(&offsets) as u8);
+    }
+}
+
+/// The first point takes the codes of some node.
+fn move_first_point(rng: &mut Xorshift, map: &DepotMap, bytes: &mut [u8]) {
+    let node = rng.pick(&map.nodes);
+    for (place, coordinate) in [(1, node.longitude), (4, node.latitude)] {
+        let code = coordinate_code(coordinate).to_be_bytes();
+        bytes[place..place + 3].copy_from_slice(&code[1..]);
+    }
+}
+
+/// A later point moves by what lies between two nodes. Those after it stay.
+fn move_point(rng: &mut Xorshift, map: &DepotMap, bytes: &mut [u8]) {
+    let (from, to) = (*rng.pick(&map.nodes), *rng.pick(&map.nodes));
+    let step = [to.longitude - from.longitude, to.latitude - from.latitude];
+    let point = rng.within(1, legs(bytes) as u32) as usize;
+    add_to_differences(bytes, point, step);
+    if point < legs(bytes) {
+        add_to_differences(bytes, point + 1, step.map(i32::wrapping_neg));
+    }
+}
+
+fn add_to_differences(bytes: &mut [u8], point: usize, step: [i32; 2]) {
+    let end = place_of_p(point);
+    let (pairs, _) = bytes[end - 4..end].as_chunks_mut();
+    for (pair, step) in pairs.iter_mut().zip(step) {
+        *pair = i16::from_be_bytes(*pair)
+            .wrapping_add(step as i16)
+            .to_be_bytes();
+    }
+}

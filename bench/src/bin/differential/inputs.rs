@@ -1,0 +1,203 @@
+//! Maps, stretches, offsets and references from a random source.
+
+use plain::depot_map::DepotMap;
+use plain::fields::STATUS_BYTE;
+use plain::maps::{chain, grid, random_graph, random_walk, small_map, Lengths, MapPlan, Xorshift};
+use plain::writer::{reference_bytes, Stretch, MOST_LINES};
+
+use crate::calls::line_bytes;
+
+const MOST_LEGS: usize = 64;
+
+/// At the edges of D, and the longest.
+const EDGE_LENGTHS: [u32; 9] = [1, 585, 586, 587, 1171, 1172, 75_000, 149_999, 150_000];
+
+pub fn any_small_plan(rng: &mut Xorshift) -> MapPlan {
+    let mut plan = small_map(rng.draw());
+    if rng.below(4) == 0 {
+        for _ in 0..rng.within(1, 4) {
+            let line = rng.below(plan.lines.len() as u32) as usize;
+            plan.lines[line].length = *rng.pick(&EDGE_LENGTHS);
+        }
+    }
+    if rng.below(4) == 0 {
+        move_to_corner(rng, &mut plan);
+    }
+    plan
+}
+
+/// Moves all nodes as far as coordinates go. Codes may fall together.
+fn move_to_corner(rng: &mut Xorshift, plan: &mut MapPlan) {
+    let longitudes = plan.nodes.iter().map(|node| node.longitude);
+    let east = to_edge(rng, longitudes, (-18_000_000, 17_999_998));
+    let latitudes = plan.nodes.iter().map(|node| node.latitude);
+    let north = to_edge(rng, latitudes, (-9_000_000, 9_000_000));
+    for node in &mut plan.nodes {
+        node.longitude += east;
+        node.latitude += north;
+    }
+}
+
+/// How far to move so that a coordinate stands at one of the two edges.
+fn to_edge(
+    rng: &mut Xorshift,
+    coordinates: impl Iterator<Item = i32> + Clone,
+    (least, greatest): (i32, i32),
+) -> i32 {
+    match rng.below(2) {
+        0 => least - coordinates.min().unwrap_or(least),
+        _ => greatest - coordinates.max().unwrap_or(greatest),
+    }
+}
+
+/// Maps of 512 nodes and 1,024 lines, of each kind in turn.
+pub fn full_size_plan(rng: &mut Xorshift, turn: u64) -> MapPlan {
+    let seed = rng.draw();
+    let plan = match turn % 5 {
+        0 => grid(seed, Lengths::Equal),
+        1 => random_graph(seed, Lengths::SlightlyDifferent),
+        2 => chain(seed, Lengths::SlightlyDifferent),
+        3 => grid(seed, Lengths::SlightlyDifferent),
+        _ => chain(seed, Lengths::Equal),
+    };
+    plan.shuffled(seed)
+}
+
+/// A walk of this many lines, or of fewer where dead ends are met. One line is always found.
+fn walk(rng: &mut Xorshift, map: &DepotMap, count: u32) -> Vec<u32> {
+    let mut counts = (0..32).map(|turn| (count >> turn).max(1) as usize);
+    let found = counts.find_map(|count| random_walk(rng, map, count));
+    found.unwrap_or_default()
+}
+
+/// The bytes of a stretch, mostly of a walk of one to 64 lines.
+pub fn any_stretch(rng: &mut Xorshift, map: &DepotMap) -> Vec<u8> {
+    let count = any_count(rng);
+    let mut lines = walk(rng, map, count);
+    let place = rng.below(lines.len() as u32) as usize;
+    let line_count = map.lines.len() as u32;
+    let mut more = 0;
+    match rng.below(24) {
+        0 => lines.clear(),
+        1 => lines[place] = *rng.pick(&[line_count, line_count + 1, u32::MAX]),
+        2 => lines[place] = rng.below(line_count),
+        3 => lines.fill_with(|| rng.below(line_count)),
+        4 => lines = walk(rng, map, 65),
+        5 => lines = walk(rng, map, 300),
+        6 => more = rng.within(1, 3),
+        _ => {}
+    }
+    let mut bytes = line_bytes(&lines);
+    bytes.extend(random_bytes(rng, &[more]));
+    bytes
+}
+
+fn any_count(rng: &mut Xorshift) -> u32 {
+    match rng.below(8) {
+        0 => 1,
+        1 => MOST_LINES as u32,
+        2 => rng.within(13, MOST_LINES as u32),
+        _ => rng.within(2, 12),
+    }
+}
+
+/// The positive and the negative offset: none, at and beside the ends of lines, at and beside the
+/// total, and beyond.
+pub fn any_offsets(rng: &mut Xorshift, map: &DepotMap, lines: &[u32]) -> (u32, u32) {
+    let lengths: Vec<u32> = lines.iter().filter_map(|&line| length(map, line)).collect();
+    let total: u32 = lengths.iter().sum();
+    let (pos, neg) = (offset(rng, &lengths), offset(rng, &lengths));
+    match rng.below(32) {
+        0 => (pos, total.wrapping_sub(pos)),
+        1 => (pos, total.wrapping_sub(pos).wrapping_sub(1)),
+        // The sum would be small again if it were held in 32 bits.
+        2 => (u32::MAX - rng.below(2), rng.below(3)),
+        3 => (rng.below(3), u32::MAX - rng.below(2)),
+        4..=10 => (pos, 0),
+        11..=17 => (0, neg),
+        18..=24 => (pos, neg),
+        _ => (0, 0),
+    }
+}
+
+fn length(map: &DepotMap, line: u32) -> Option<u32> {
+    map.lines.get(line as usize).map(|line| line.length)
+}
+
+fn offset(rng: &mut Xorshift, lengths: &[u32]) -> u32 {
+    let total = lengths.iter().sum();
+    let skipped = rng.within(0, lengths.len().min(3) as u32) as usize;
+    let end: u32 = lengths[..skipped].iter().sum();
+    match rng.below(6) {
+        0 => end,
+        1 => end + 1,
+        2 => end.saturating_sub(1),
+        3 => rng.within(0, total),
+        _ => rng.within(0, total / 8),
+    }
+}
+
+/// Mostly a reference that may be read.
+pub fn any_reference(rng: &mut Xorshift, map: &DepotMap) -> Vec<u8> {
+    match rng.below(12) {
+        0 => random_bytes(rng, &[0, 1, 15, 16, 17, 18, 19, 23, 459, 460, 466, 3000]),
+        1 => [vec![STATUS_BYTE], random_bytes(rng, &[15, 16, 17, 22, 458])].concat(),
+        _ => composed_reference(rng, map),
+    }
+}
+
+/// The reference of a walk that is cut anywhere. Its legs need not be readings.
+fn composed_reference(rng: &mut Xorshift, map: &DepotMap) -> Vec<u8> {
+    let count = any_count(rng);
+    let lines = walk(rng, map, count);
+    let rarity = *rng.pick(&[1, 2, 4, 16]);
+    let inner = (1..lines.len()).filter(|_| rng.below(rarity) == 0);
+    let places: Vec<usize> = std::iter::once(0)
+        .chain(inner)
+        .chain([lines.len()])
+        .collect();
+    let (positive, negative) = any_offsets(rng, map, &lines);
+    let stretch = Stretch {
+        lines: &lines,
+        positive,
+        negative,
+    };
+    reference_bytes(map, &stretch, &places)
+}
+
+/// A reference with this many lines, at least 64, on a chain: 64 legs to and fro.
+pub fn reference_along_chain(map: &DepotMap, count: usize) -> Vec<u8> {
+    let last_node = map.nodes.len() as u32 - 1;
+    let mut lines = Vec::new();
+    let mut places = vec![0];
+    let (mut node, mut forward) = (0, true);
+    for leg in 0..MOST_LEGS {
+        let leg_lines = (count + leg) / MOST_LEGS;
+        let room = if forward { last_node - node } else { node };
+        forward ^= (room as usize) < leg_lines;
+        for _ in 0..leg_lines {
+            let next = if forward { node + 1 } else { node - 1 };
+            lines.extend(shortest_line(map, node, next));
+            node = next;
+        }
+        places.push(lines.len());
+    }
+    let stretch = Stretch {
+        lines: &lines,
+        positive: 0,
+        negative: 0,
+    };
+    reference_bytes(map, &stretch, &places)
+}
+
+fn shortest_line(map: &DepotMap, start: u32, end: u32) -> Option<u32> {
+    let between = |line: &&u32| map.line(**line).end == end;
+    let lines = map.outgoing.of(start).iter().filter(between);
+    lines.min_by_key(|line| map.line(**line).length).copied()
+}
+
+/// As many bytes as one of the counts says.
+pub fn random_bytes(rng: &mut Xorshift, counts: &[u32]) -> Vec<u8> {
+    let count = *rng.pick(counts);
+    (0..count).map(|_| rng.below(256) as u8).collect()
+}

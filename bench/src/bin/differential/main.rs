@@ -1,0 +1,64 @@
+//! Compares the C functions with the plain writer and reader on random calls.
+//!
+//! `differential [COUNT [SEED]]` makes that many calls or a few more. It stops at the first
+//! difference and shows the call. `differential replay` makes the calls in the rows of the
+//! standard input, which have the form in which a call is shown.
+
+mod c_functions;
+mod calls;
+mod damages;
+mod inputs;
+mod memory;
+mod run;
+
+use std::io;
+use std::process::ExitCode;
+
+use plain::maps::Xorshift;
+
+use calls::{ReadCall, WriteCall};
+use run::Run;
+
+const DEFAULT_COUNT: u64 = 400_000;
+const DEFAULT_SEED: u64 = 1;
+
+fn main() -> ExitCode {
+    let arguments: Vec<String> = std::env::args().skip(1).collect();
+    let done = match arguments.first().map(String::as_str) {
+        Some("replay") => replay(),
+        _ => compare(&arguments),
+    };
+    if let Err(message) = done {
+        println!("{message}");
+        return ExitCode::FAILURE;
+    }
+    ExitCode::SUCCESS
+}
+
+fn replay() -> Result<(), String> {
+    for row in io::stdin().lines() {
+        let row = row.map_err(|error| error.to_string())?;
+        let compared = ReadCall::compare_row(&row).or_else(|| WriteCall::compare_row(&row));
+        let compared = compared.ok_or_else(|| format!("not a call: {row}"))?;
+        compared.map_err(|difference| format!("{row}\n{difference}"))?;
+    }
+    Ok(())
+}
+
+fn compare(arguments: &[String]) -> Result<(), String> {
+    let number = |place: usize, default: u64| match arguments.get(place) {
+        Some(word) => word.parse().map_err(|_| format!("not a number: {word}")),
+        None => Ok(default),
+    };
+    let (count, seed) = (number(0, DEFAULT_COUNT)?, number(1, DEFAULT_SEED)?);
+    let mut run = Run::default();
+    let mut turn = 0;
+    while run.calls < count {
+        let rng = &mut Xorshift::new(seed.wrapping_mul(1_000_003).wrapping_add(turn));
+        let compared = run.turn(rng, turn);
+        compared.map_err(|difference| format!("seed {seed} call {}\n{difference}", run.calls))?;
+        turn += 1;
+    }
+    println!("seed {seed}, {} calls, maps {turn}", run.calls);
+    run.report()
+}

@@ -1,0 +1,143 @@
+"""Holds the plain Rust implementation (bench) to the stored cases, as oracle/pack.py makes them.
+
+Usage: python3 oracle/check_plain.py ANSWER. ANSWER is the program of bench/src/bin/answer.rs. Each case in crates/NAME/data/cases.bin is given to it, and what
+it answers must be what crates/NAME/stdout says. Cases with different answers are printed, and the status is 1.
+"""
+
+import argparse
+import re
+import sys
+
+from compare import answers, hexadecimal
+from pack import CRATES, WRITES_LINE_ROOM, number_sum
+from reader import LEAST_WORK_LENGTH
+
+
+def parts_of(data):
+    """The parts that were packed."""
+    at = 0
+    while at < len(data):
+        start = at + 2
+        at = start + int.from_bytes(data[at:start], "little")
+        yield data[start:at]
+
+
+def numbers_in(part):
+    return [int.from_bytes(part[at:at + 4], "little") for at in range(0, len(part), 4)]
+
+
+def in_groups(parts, size):
+    return zip(*[iter(parts)] * size)
+
+
+def call(kind, map_bytes, *words):
+    return " ".join(map(str, [kind, hexadecimal(map_bytes), *words]))
+
+
+def map_calls(parts):
+    return [call("map", map_bytes) for map_bytes in parts]
+
+
+def leg_calls(parts):
+    """An empty map is that of the leg before."""
+    calls, map_before = [], b""
+    for map_bytes, leg in in_groups(parts, 2):
+        map_before = map_bytes or map_before
+        *numbers, is_last, frc, fow, sector = numbers_in(leg)
+        calls.append(call("leg", map_before, *numbers, *([frc, fow, sector] if is_last else [])))
+    return calls
+
+
+def cases_on_maps(parts):
+    """Maps, references or stretches, and numbers."""
+    map_before = b""
+    for map_bytes, subject, numbers in in_groups(parts, 3):
+        *numbers, same = numbers_in(numbers)
+        map_before = map_before if same else map_bytes
+        yield map_before, subject, numbers
+
+
+def read_calls(parts):
+    return [call("read", map_bytes, hexadecimal(reference), *numbers) for map_bytes, reference, numbers in cases_on_maps(parts)]
+
+
+def write_calls(parts):
+    return [call("write", map_bytes, *numbers, *numbers_in(stretch)) for map_bytes, stretch, numbers in cases_on_maps(parts)]
+
+
+def map_row(answer):
+    """The program has no sum: it answers this only if the map, put into bytes again, gives the same bytes."""
+    return re.sub(r"map of (\d+) nodes and (\d+) lines", r"nodes \1 lines \2", answer)
+
+
+def lines_row(answer):
+    """The counts and spans, and the sum over the lines."""
+    words = answer.split()
+    if words[0] == "refused":
+        return answer
+    return " ".join([*words[:8], "sum", str(number_sum(map(int, words[8:])))])
+
+
+def written_row(answer, read_back):
+    _, count, reference = answer.split()
+    return f"bytes {count} sum {number_sum(bytes.fromhex(reference))} read {lines_row(read_back)}"
+
+
+def simple_rows(row):
+    def rows_of(program, calls):
+        return [row(answer) for answer in answers(program, calls)]
+    return rows_of
+
+
+def write_rows(program, calls):
+    """The bytes of each acceptance are read back."""
+    rows = answers(program, calls)
+    written = [index for index, answer in enumerate(rows) if answer.startswith("bytes")]
+    read_calls = [f"read {calls[index].split()[1]} {rows[index].split()[2]} {LEAST_WORK_LENGTH} {WRITES_LINE_ROOM}" for index in written]
+    for index, read_back in zip(written, answers(program, read_calls)):
+        rows[index] = written_row(rows[index], read_back)
+    return rows
+
+
+def stored_row(row):
+    """What a row says of the answer. The rest is about memory and sums that the plain implementation does not have."""
+    row = re.sub(r" work (kept|cleared) rest kept", "", row)
+    row = re.sub(r"^(nodes \d+ lines \d+) sum \d+$", r"\1", row)
+    return re.sub(r"^one .*:", "one", row)
+
+
+PROGRAMS = {
+    "test_maps": (map_calls, simple_rows(map_row)),
+    "test_legs": (leg_calls, simple_rows(str)),
+    "test_reads": (read_calls, simple_rows(lines_row)),
+    "test_writes": (write_calls, write_rows),
+}
+
+
+def differences(program, name):
+    """The count of cases, and those that are answered otherwise: the call, what is stored and the answer."""
+    make_calls, rows_of = PROGRAMS[name]
+    calls = make_calls(parts_of((CRATES / name / "data" / "cases.bin").read_bytes()))
+    stored = [stored_row(row) for row in (CRATES / name / "stdout").read_text().splitlines()]
+    if len(stored) != len(calls):
+        raise RuntimeError(f"{len(calls)} cases, {len(stored)} rows")
+    rows = rows_of(program, calls)
+    return len(calls), [row for row in zip(calls, stored, rows) if row[1] != row[2]]
+
+
+def main():
+    parser = argparse.ArgumentParser(description="Hold the plain Rust implementation to the stored cases.")
+    parser.add_argument("answer")
+    program = parser.parse_args().answer
+    differ = False
+    for name in PROGRAMS:
+        count, found = differences(program, name)
+        print(f"{name}: {count} cases in plain Rust, {len(found)} differ")
+        for row in found:
+            print(" | ".join(row))
+            differ = True
+    sys.exit(1 if differ else 0)
+
+
+if __name__ == "__main__":
+    main()
