@@ -18,5 +18,6 @@ pub mod Rows
 pub mod Cleared
 pub mod Once
 pub mod Calls
+pub mod Answering
 pub mod Demand3
 pub mod Cases

@@ -42,6 +42,22 @@ pub data WriteAnswers : WriteAnswer → WriteOutcome → Type 0 where
   bytes : {bs : List ℕ} → WriteAnswers (Writer.Written (length bs)) (written bs)
   refusal : {why : Refusal} → WriteAnswers (Writer.Refused why) (WriteOutcome.refused (refusalOf why))
 
+-- An answer to a part of the definitions' question: an outcome that the part allows, the answer that tells it, and the buffer before and after. The
+-- parts of a call promise it; a whole call has the work area besides.
+pub record Answered {Outcome Answer : Type 0} (Tells : Answer → Outcome → Type 0) (left : Outcome → List ℕ → List ℕ) (Asks : Outcome → Type 0)
+    (before after : List ℕ) (a : Answer) : Type 0 where
+  pub outcome : Outcome
+  pub asked : Asks outcome
+  pub answers : Tells a outcome
+  pub buffer-after : after ≡ left outcome before
+
+-- An answer of the reader, with the line buffer; one of the writer, with the byte buffer.
+abbrev pub ReadAnswered : (ReadOutcome → Type 0) → List ℕ → List ℕ → ReadAnswer → Type 0
+ReadAnswered Asks before after a = Answered ReadAnswers linesAfter Asks before after a
+
+abbrev pub WriteAnswered : (WriteOutcome → Type 0) → List ℕ → List ℕ → WriteAnswer → Type 0
+WriteAnswered Asks before after a = Answered WriteAnswers bytesAfter Asks before after a
+
 -- A call of the reader: its answer, and the work area and the line buffer before and after it.
 pub record ReadCall (mb ref work lines : List ℕ) (a : ReadAnswer) (work′ lines′ : List ℕ) : Type 0 where
   pub outcome : ReadOutcome

@@ -11,9 +11,8 @@ use Rattle.model.specs.declared.ReadAnswer.{ReadAnswer}
 use Rattle.model.specs.declared.ReadAnswer.the-variants.{Read, Refused}
 use Rattle.model.specs.Refusal.{refusalOf}
 use Rattle.model.specs.Outcome.{ReadOutcome, read, workLength, Reads}
-use Rattle.model.specs.Call.{placed, linesAfter, ReadAnswers, lines, refusal}
+use Rattle.model.specs.Call.{placed, linesAfter, ReadAnswers, lines, refusal, ReadAnswered}
 use Rattle.model.specs.Host.{wordBytes, hostRoom, HostRead, hostRead, hostLinesAfter, HostReadCall}
-use Rattle.openlr.specs.Host.{ReadInto}
 
 -- ---- the reader
 
@@ -44,40 +43,44 @@ accepted count pos neg =
       negGreatest = neg .greatest;
     }
 
-module _ {mb ref front front′ : List ℕ} {a : ReadAnswer} (d : ReadInto mb ref front a front′) where
-  module _ {count : ℕ} {pos neg : Span} (e : a ≡ Read count pos neg) (kept : length front′ ≡ length front) where
-    ls : List ℕ
-    ls = told-read (d .answers) e .0
+-- Line numbers that are read, whatever was asked: they stand first, and there is room for them.
+module _ {Asks : ReadOutcome → Type 0} {front front′ : List ℕ} {a : ReadAnswer} (d : ReadAnswered Asks front front′ a) {count : ℕ} {pos neg : Span}
+    (e : a ≡ Read count pos neg) (kept : length front′ ≡ length front) where
+  ls : List ℕ
+  ls = told-read (d .answers) e .0
 
-    outcome-is : d .outcome ≡ read ls pos neg
-    unfolding ls
-    outcome-is = told-read (d .answers) e .1
+  outcome-is : d .outcome ≡ read ls pos neg
+  unfolding ls
+  outcome-is = told-read (d .answers) e .1
 
-    count-is : count ≡ length ls
-    unfolding ls
-    count-is = told-read (d .answers) e .2
+  count-is : count ≡ length ls
+  unfolding ls
+  count-is = told-read (d .answers) e .2
 
-    stands : front′ ≡ ls ++ drop (length ls) front
-    unfolding placed linesAfter
-    stands = d .lines-after ∙ ap (λ (o : ReadOutcome). linesAfter o front) outcome-is
+  stands : front′ ≡ ls ++ drop (length ls) front
+  unfolding placed linesAfter
+  stands = d .buffer-after ∙ ap (λ (o : ReadOutcome). linesAfter o front) outcome-is
 
-    pub count-fits : count ≤ length front
-    count-fits = omega (arith, count-is, kept, ap (length {A = ℕ}) stands, length-append ls (drop (length ls) front))
+  pub count-fits : count ≤ length front
+  count-fits = omega (arith, count-is, kept, ap (length {A = ℕ}) stands, length-append ls (drop (length ls) front))
 
-    first : (rest : List ℕ) → take count (front′ ++ rest) ≡ ls
-    first rest =
-        take-append-le count front′ rest (omega (arith, count-fits, kept)) ∙ ap (take count) stands ∙ take-at ls (drop (length ls) front) count (sym count-is)
+  first : (rest : List ℕ) → take count (front′ ++ rest) ≡ ls
+  first rest =
+      take-append-le count front′ rest (omega (arith, count-fits, kept)) ∙ ap (take count) stands ∙ take-at ls (drop (length ls) front) count (sym count-is)
 
-    pub host-read : {room room′ : List ℕ} (rest : List ℕ) → length front ≡ hostRoom (length room) → room′ ≡ placed (wordBytes (take count (front′ ++ rest))) room →
-        HostReadCall mb ref room (accepted count pos neg) room′
-    unfolding hostRead hostLinesAfter
-    host-read {room = room} rest size put =
-        record {
-          outcome = d .outcome;
-          reads = subst (λ (n : ℕ). Reads mb ref workLength n (d .outcome)) size (d .reads);
-          answers = ap (λ (n : ℕ). accepted n pos neg) count-is ∙ ap hostRead (sym outcome-is);
-          lines-after = put ∙ ap (λ (l : List ℕ). placed (wordBytes l) room) (first rest) ∙ ap (λ (o : ReadOutcome). hostLinesAfter o room) (sym outcome-is);
-        }
+module _ {mb ref front front′ : List ℕ} {a : ReadAnswer} (d : ReadAnswered (Reads mb ref workLength (length front)) front front′ a) where
+  pub host-read : {count : ℕ} {pos neg : Span} {room room′ : List ℕ} → a ≡ Read count pos neg → length front′ ≡ length front → (rest : List ℕ) →
+      length front ≡ hostRoom (length room) → room′ ≡ placed (wordBytes (take count (front′ ++ rest))) room →
+      HostReadCall mb ref room (accepted count pos neg) room′
+  unfolding hostRead hostLinesAfter
+  host-read {pos = pos} {neg = neg} {room = room} e kept rest size put =
+      let same = outcome-is d e kept in
+      record {
+        outcome = d .outcome;
+        reads = subst (λ (n : ℕ). Reads mb ref workLength n (d .outcome)) size (d .asked);
+        answers = ap (λ (n : ℕ). accepted n pos neg) (count-is d e kept) ∙ ap hostRead (sym same);
+        lines-after = put ∙ ap (λ (l : List ℕ). placed (wordBytes l) room) (first d e kept rest) ∙ ap (λ (o : ReadOutcome). hostLinesAfter o room) (sym same);
+      }
 
   pub host-not-read : {why : Refusal} {room : List ℕ} {r : HostRead} → a ≡ Refused why → length front ≡ hostRoom (length room) →
       r ≡ hostRead (ReadOutcome.refused (refusalOf why)) → HostReadCall mb ref room r room
@@ -86,7 +89,7 @@ module _ {mb ref front front′ : List ℕ} {a : ReadAnswer} (d : ReadInto mb re
       let outcome-is = told-refused (d .answers) e in
       record {
         outcome = d .outcome;
-        reads = subst (λ (n : ℕ). Reads mb ref workLength n (d .outcome)) size (d .reads);
+        reads = subst (λ (n : ℕ). Reads mb ref workLength n (d .outcome)) size (d .asked);
         answers = given ∙ ap hostRead (sym outcome-is);
         lines-after = ap (λ (o : ReadOutcome). hostLinesAfter o room) (sym outcome-is);
       }

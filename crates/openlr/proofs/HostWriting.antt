@@ -15,11 +15,11 @@ use Rattle.model.specs.Map.{Map, MapAnswer, whole, decode}
 use Rattle.model.specs.Refusal.{refusalOf}
 use Rattle.model.specs.Stretch.{Stretch, StretchAnswer, checkStretch, greatestStretch}
 use Rattle.model.specs.Outcome.{WriteOutcome, written, workLength, WriteStretch, WriteMap, WriteWork, Writes}
-use Rattle.model.specs.Call.{bytesAfter, WriteAnswers, bytes, refusal}
+use Rattle.model.specs.Call.{bytesAfter, WriteAnswers, bytes, refusal, WriteAnswered}
 use Rattle.model.specs.Host.{hostStretch, HostWritten, hostWritten, hostBytesAfter, HostWriteCall}
 use Rattle.model.proofs.Demand3.{written-bytes}
 use Rattle.stretches.specs.Stretch.{stretchOf}
-use Rattle.openlr.specs.Host.{stretchLines, WriteFrom}
+use Rattle.openlr.specs.Host.{stretchLines}
 
 -- ---- long stretches
 
@@ -65,35 +65,36 @@ told-refused : {a : WriteAnswer} {o : WriteOutcome} {why : Refusal} → WriteAns
 told-refused bytes e = absurd (let z : _≡_ {A = ℕ} 0 1 = cc in omega arith)
 told-refused refusal e = cc
 
-module _ {mb ns room room′ : List ℕ} {pos neg : ℕ} {a : WriteAnswer} (d : WriteFrom mb (stretchOf ns pos neg) room a room′) where
-  -- A reference has 459 bytes at most.
-  pub count-small : {count : ℕ} → a ≡ Written count → count ≤ 459
-  count-small e =
+-- A reference has 459 bytes at most.
+pub count-small : (mb : List ℕ) (s : Stretch) {room room′ : List ℕ} {a : WriteAnswer} {count : ℕ} →
+    WriteAnswered (Writes mb s workLength (length room)) room room′ a → a ≡ Written count → count ≤ 459
+count-small mb s {room = room} d e =
+    let t = told-written (d .answers) e in
+    let w = written-bytes mb (t .0) s workLength (length room) (subst (λ (o : WriteOutcome). Writes mb s workLength (length room) o) (t .1) (d .asked)) in
+    omega (arith, t .2, w .2)
+
+same-bytes : (room : List ℕ) (o : WriteOutcome) → bytesAfter o room ≡ hostBytesAfter o room
+unfolding bytesAfter hostBytesAfter
+same-bytes room (written bs) = refl
+same-bytes room (WriteOutcome.refused r) = refl
+
+module _ {mb ns room room′ : List ℕ} {pos neg : ℕ} {a : WriteAnswer} (d : WriteAnswered (Writes mb (stretchOf ns pos neg) workLength (length room)) room room′ a)
+    (stretch : List ℕ) (taken : ns ≡ take 65 (stretchLines stretch)) where
+  host-call : {r : HostWritten} → r ≡ hostWritten (d .outcome) → HostWriteCall mb stretch pos neg room r room′
+  host-call given =
+      record {
+        outcome = d .outcome;
+        writes = stretch-stands mb stretch ns pos neg workLength (length room) (d .outcome) taken (d .asked);
+        answers = given;
+        bytes-after = d .buffer-after ∙ same-bytes room (d .outcome);
+      }
+
+  pub host-written : {count : ℕ} → a ≡ Written count → HostWriteCall mb stretch pos neg room (record { refusal = 0; bytes = count }) room′
+  unfolding hostWritten
+  host-written e =
       let t = told-written (d .answers) e in
-      let w = written-bytes mb (t .0) (stretchOf ns pos neg) workLength (length room) (subst (λ (o : WriteOutcome). Writes mb (stretchOf ns pos neg) workLength (length room) o) (t .1) (d .writes)) in
-      omega (arith, t .2, w .2)
+      host-call (ap (λ (n : ℕ). record { refusal = 0; bytes = n }) (t .2) ∙ ap hostWritten (sym (t .1)))
 
-  same-bytes : (o : WriteOutcome) → bytesAfter o room ≡ hostBytesAfter o room
-  unfolding bytesAfter hostBytesAfter
-  same-bytes (written bs) = refl
-  same-bytes (WriteOutcome.refused r) = refl
-
-  module _ (stretch : List ℕ) (taken : ns ≡ take 65 (stretchLines stretch)) where
-    host-call : {r : HostWritten} → r ≡ hostWritten (d .outcome) → HostWriteCall mb stretch pos neg room r room′
-    host-call given =
-        record {
-          outcome = d .outcome;
-          writes = stretch-stands mb stretch ns pos neg workLength (length room) (d .outcome) taken (d .writes);
-          answers = given;
-          bytes-after = d .bytes-after ∙ same-bytes (d .outcome);
-        }
-
-    pub host-written : {count : ℕ} → a ≡ Written count → HostWriteCall mb stretch pos neg room (record { refusal = 0; bytes = count }) room′
-    unfolding hostWritten
-    host-written e =
-        let t = told-written (d .answers) e in
-        host-call (ap (λ (n : ℕ). record { refusal = 0; bytes = n }) (t .2) ∙ ap hostWritten (sym (t .1)))
-
-    pub host-not-written : {why : Refusal} {r : HostWritten} → a ≡ Refused why → r ≡ hostWritten (WriteOutcome.refused (refusalOf why)) →
-        HostWriteCall mb stretch pos neg room r room′
-    host-not-written e given = host-call (given ∙ ap hostWritten (sym (told-refused (d .answers) e)))
+  pub host-not-written : {why : Refusal} {r : HostWritten} → a ≡ Refused why → r ≡ hostWritten (WriteOutcome.refused (refusalOf why)) →
+      HostWriteCall mb stretch pos neg room r room′
+  host-not-written e given = host-call (given ∙ ap hostWritten (sym (told-refused (d .answers) e)))

@@ -14,10 +14,11 @@ ghost use Prim.Native.Nat.{ℕ};
 ghost use mathlib.Core.List.{List};
 ghost use lib.ListN.{length, take};
 ghost use Rattle.model.specs.Refusal.{refusalOf};
-ghost use Rattle.model.specs.Outcome.{ReadOutcome};
+ghost use Rattle.model.specs.Outcome.{ReadOutcome, workLength, Reads, Writes};
+ghost use Rattle.model.specs.Call.{ReadAnswered, WriteAnswered};
 ghost use Rattle.model.specs.Host.{hostRead, HostReadCall, HostWriteCall};
 ghost use Rattle.stretches.specs.Stretch.{stretchOf};
-ghost use Rattle.openlr.specs.Host.{asRead, asWritten, stretchLines, ReadInto, WriteFrom};
+ghost use Rattle.openlr.specs.Host.{asRead, asWritten, stretchLines};
 
 mod words;
 
@@ -65,7 +66,7 @@ fn no_lines(why: Refusal) -> Lines
 
 // Reads with a work area of its own.
 fn read_into(map: &[u8], reference: &[u8], numbers: &mut [u32]) -> ReadAnswer
-    ensures { λ r. ⌜ ReadInto (now (map .entry)) (now (reference .entry)) (now (numbers .entry)) r (now (numbers .exit)) ⌝ }
+    ensures { λ r. ⌜ ReadAnswered (Reads (now (map .entry)) (now (reference .entry)) workLength (length (now (numbers .entry)))) (now (numbers .entry)) (now (numbers .exit)) r ⌝ }
 {
     let mut work = [0u32; WORK_LENGTH];
     reader::read(map, reference, &mut work, numbers)
@@ -105,7 +106,7 @@ pub extern "C" fn openlr_read(map: &[u8], reference: &[u8], lines: &mut [u8]) ->
 
 // Writes with a work area of its own.
 fn write_from(map: &[u8], stretch: &[u32], pos: u32, neg: u32, bytes: &mut [u8]) -> WriteAnswer
-    ensures { λ r. ⌜ WriteFrom (now (map .entry)) (stretchOf (now (stretch .entry)) pos neg) (now (bytes .entry)) r (now (bytes .exit)) ⌝ }
+    ensures { λ r. ⌜ WriteAnswered (Writes (now (map .entry)) (stretchOf (now (stretch .entry)) pos neg) workLength (length (now (bytes .entry)))) (now (bytes .entry)) (now (bytes .exit)) r ⌝ }
 {
     let mut work = [0u32; WORK_LENGTH];
     writer::write(map, stretch, pos, neg, &mut work, bytes)

@@ -7,23 +7,24 @@ use lib.ListN.{length, take, drop}
 use lib.Seq.{take-at}
 use borrow.Author.Tests.{lt-ltb, le-ltb}
 use Rattle.model.specs.Map.{Map, MapAnswer, decode}
-use Rattle.model.specs.Refusal.{row, numberOf, refusalOf}
+use Rattle.model.specs.Refusal.{numberOf, refusalOf}
 use Rattle.model.specs.Reference.{Reference, ParseAnswer, parse}
 use Rattle.model.specs.Reading.{Leg, joined}
-use Rattle.model.specs.Outcome.{located, no-node, locate, LegsRead, every, failed, ReadOutcome, read, ReadEnd, ReadOn, no-point, no-leg, every-leg, ReadParsed, workLength, ReadMap}
-use Rattle.model.specs.Call.{cleared, placed, linesAfter, ReadCall, ReadAnswers, lines, refusal}
+use Rattle.model.specs.Outcome.{located, no-node, locate, LegsRead, every, failed, ReadOutcome, read, ReadEnd, ReadOn, no-point, no-leg, every-leg, ReadParsed, ReadMap, workLength, Reads}
+use Rattle.model.specs.Call.{cleared, placed, linesAfter, ReadAnswers, lines, refusal, ReadAnswered, ReadCall}
 use Rattle.model.specs.declared.Refusal.{Refusal}
 use Rattle.model.specs.declared.Span.{Span}
 use Rattle.model.specs.declared.ReadAnswer.{ReadAnswer}
 use Rattle.model.specs.declared.ReadAnswer.the-variants.{Read, Refused}
 use Rattle.model.proofs.Legs.{legs-same}
 use Rattle.model.proofs.Cleared.{cleared-short}
+use Rattle.model.proofs.Answering.{answered-by, refused-read}
 use Rattle.model.proofs.Rows.{row-of, map-row, form-row}
 use Rattle.reader.specs.declared.every_leg.Sums.{Sums}
 use Rattle.reader.specs.declared.every_leg.Legs.{Legs}
 use Rattle.reader.specs.declared.every_leg.Legs.the-variants.{Every, Unread, Several}
 use Rattle.reader.specs.Every.{Laid, AllRead, LegsTell, LegsDone}
-use Rattle.reader.specs.Ending.{Ended, Answered}
+use Rattle.reader.specs.Ending.{Ended}
 use Rattle.model.specs.Refusal as definitions
 use Rattle.model.specs.declared.Refusal.the-variants as why
 
@@ -65,65 +66,56 @@ not-both : {a : ReadAnswer} {o : ReadOutcome} {q : definitions.Refused} {count :
 not-both lines e f = let z : _≡_ {A = ℕ} 0 1 = cc in omega arith
 not-both refusal e f = let z : _≡_ {A = ℕ} 0 1 = cc in omega arith
 
-not-neither : {a : ReadAnswer} {o : ReadOutcome} {r : Refusal} {ls : List ℕ} {pos neg : Span} → ReadAnswers a o → a ≡ Refused r → o ≡ read ls pos neg → ⊥
-not-neither lines e f = let z : _≡_ {A = ℕ} 0 1 = cc in omega arith
-not-neither refusal e f = let z : _≡_ {A = ℕ} 0 1 = cc in omega arith
+unchanged : {a : ReadAnswer} {o : ReadOutcome} {r : Refusal} (before : List ℕ) → ReadAnswers a o → a ≡ Refused r → before ≡ linesAfter o before
+unfolding linesAfter
+unchanged before lines e = absurd (let z : _≡_ {A = ℕ} 0 1 = cc in omega arith)
+unchanged before refusal e = refl
 
 count-of : {a : ReadAnswer} {o : ReadOutcome} {count : ℕ} {ls : List ℕ} {p n pos neg : Span} → ReadAnswers a o → a ≡ Read count p n → o ≡ read ls pos neg →
     length ls ≡ count
 count-of {count = count} {ls = ls} (lines {ls = ks}) e f = let same : ks ≡ ls = cc in let k : length ks ≡ count = cc in rw (sym same) k
 count-of refusal e f = absurd (let z : _≡_ {A = ℕ} 0 1 = cc in omega arith)
 
--- ---- an answer of one part is the answer of the next
-
-pub answered-by : {R R′ : ReadOutcome → Type 0} {before after : List ℕ} {a : ReadAnswer} → ((o : ReadOutcome) → R o → R′ o) → Answered R before after a →
-    Answered R′ before after a
-answered-by f d = record { outcome = d .outcome; reads = f (d .outcome) (d .reads); answers = d .answers; lines-after = d .lines-after }
-
-pub refused-by : {R : ReadOutcome → Type 0} {lines : List ℕ} (r : Refusal) → R (ReadOutcome.refused (refusalOf r)) → Answered R lines lines (Refused r)
-unfolding linesAfter
-refused-by r h = record { outcome = ReadOutcome.refused (refusalOf r); reads = h; answers = refusal; lines-after = refl }
+-- ---- the answer for a reference taken apart, from those on its points and legs
 
 module _ {m : Map} {r : Reference} {room : ℕ} where
-  pub no-point-read : {lines : List ℕ} (k : ℕ) → locate m r ≡ no-node k → Answered (ReadOn m r room) lines lines (Refused (why.NoNode k))
+  pub no-point-read : {lines : List ℕ} (k : ℕ) → locate m r ≡ no-node k → ReadAnswered (ReadOn m r room) lines lines (Refused (why.NoNode k))
   unfolding refusalOf
-  no-point-read k e = refused-by (why.NoNode k) (no-point e)
+  no-point-read k e = refused-read (why.NoNode k) (no-point e)
 
   module _ {legs : List Leg} (found : locate m r ≡ located legs) where
-    pub no-reading : {lines : List ℕ} (k : ℕ) → LegsRead m 0 legs (failed 17 k) → Answered (ReadOn m r room) lines lines (Refused (why.NoReading k))
+    pub no-reading : {lines : List ℕ} (k : ℕ) → LegsRead m 0 legs (failed 17 k) → ReadAnswered (ReadOn m r room) lines lines (Refused (why.NoReading k))
     unfolding refusalOf
-    no-reading k f = refused-by (why.NoReading k) (no-leg found f)
+    no-reading k f = refused-read (why.NoReading k) (no-leg found f)
 
     pub several-readings : {lines : List ℕ} (k : ℕ) → LegsRead m 0 legs (failed 18 k) →
-        Answered (ReadOn m r room) lines lines (Refused (why.SeveralReadings k))
+        ReadAnswered (ReadOn m r room) lines lines (Refused (why.SeveralReadings k))
     unfolding refusalOf
-    several-readings k f = refused-by (why.SeveralReadings k) (no-leg found f)
+    several-readings k f = refused-read (why.SeveralReadings k) (no-leg found f)
 
     -- Every leg is read, and the lines are written; or the answer is a refusal.
     module _ {lists : List (List ℕ)} (all : LegsRead m 0 legs (every lists)) {a : ReadAnswer} (ended : Ended m r room lists a) where
       pub all-read : {before after : List ℕ} {count : ℕ} {pos neg : Span} → a ≡ Read count pos neg → after ≡ placed (joined lists) before →
-          Answered (ReadOn m r room) before after (Read count pos neg)
+          ReadAnswered (ReadOn m r room) before after (Read count pos neg)
       unfolding linesAfter
-      all-read {before} {after} e put = subst (λ (b : ReadAnswer). Answered (ReadOn m r room) before after b) e (go (ended .outcome) (ended .ends) (ended .answers))
+      all-read {before} {after} e put = subst (λ (b : ReadAnswer). ReadAnswered (ReadOn m r room) before after b) e (go (ended .outcome) (ended .ends) (ended .answers))
         where
-          go : (o : ReadOutcome) → ReadEnd m r room lists o → ReadAnswers a o → Answered (ReadOn m r room) before after a
+          go : (o : ReadOutcome) → ReadEnd m r room lists o → ReadAnswers a o → ReadAnswered (ReadOn m r room) before after a
           go o (ReadEnd.no-pos x) h = absurd (not-both h e refl)
           go o (ReadEnd.no-neg x) h = absurd (not-both h e refl)
           go o (ReadEnd.too-far s x) h = absurd (not-both h e refl)
           go o (ReadEnd.no-room s x y) h = absurd (not-both h e refl)
           go o (ReadEnd.accepted s x y) h =
-              record { outcome = o; reads = every-leg found all (ReadEnd.accepted s x y); answers = h; lines-after = put }
+              record { outcome = o; asked = every-leg found all (ReadEnd.accepted s x y); answers = h; buffer-after = put }
 
-      pub none-read : {before : List ℕ} {r′ : Refusal} → a ≡ Refused r′ → Answered (ReadOn m r room) before before a
-      unfolding linesAfter
-      none-read {before} e = go (ended .outcome) (ended .ends) (ended .answers)
-        where
-          go : (o : ReadOutcome) → ReadEnd m r room lists o → ReadAnswers a o → Answered (ReadOn m r room) before before a
-          go o (ReadEnd.no-pos x) h = record { outcome = o; reads = every-leg found all (ReadEnd.no-pos x); answers = h; lines-after = refl }
-          go o (ReadEnd.no-neg x) h = record { outcome = o; reads = every-leg found all (ReadEnd.no-neg x); answers = h; lines-after = refl }
-          go o (ReadEnd.too-far s x) h = record { outcome = o; reads = every-leg found all (ReadEnd.too-far s x); answers = h; lines-after = refl }
-          go o (ReadEnd.no-room s x y) h = record { outcome = o; reads = every-leg found all (ReadEnd.no-room s x y); answers = h; lines-after = refl }
-          go o (ReadEnd.accepted s x y) h = absurd (not-neither h e refl)
+      pub none-read : {before : List ℕ} {r′ : Refusal} → a ≡ Refused r′ → ReadAnswered (ReadOn m r room) before before a
+      none-read {before} e =
+          record {
+            outcome = ended .outcome;
+            asked = every-leg found all (ended .ends);
+            answers = ended .answers;
+            buffer-after = unchanged before (ended .answers) e;
+          }
 
 -- The count of lines of an accepted reference, and that there is room for them.
 pub counted : {m : Map} {r : Reference} {room : ℕ} {lists : List (List ℕ)} {a : ReadAnswer} {count : ℕ} {pos neg : Span} → Ended m r room lists a →
@@ -140,34 +132,24 @@ counted {m} {r} {room} {lists} {a} {count} ended e = go (ended .outcome) (ended 
 -- ---- a map, or a reference's bytes, that are refused
 
 pub form-refused : (m : Map) (bytes : List ℕ) {lines : List ℕ} (room : ℕ) (r : Refusal) → parse bytes ≡ ParseAnswer.refused (numberOf (refusalOf r)) →
-    Answered (ReadParsed m (parse bytes) room) lines lines (Refused r)
-form-refused m bytes room r e = refused-by r (rw e (ap ReadOutcome.refused (row-of r (form-row bytes _ e))))
+    ReadAnswered (ReadParsed m (parse bytes) room) lines lines (Refused r)
+form-refused m bytes room r e = refused-read r (rw e (ap ReadOutcome.refused (row-of r (form-row bytes _ e))))
 
 pub map-refused : (map bytes : List ℕ) {lines : List ℕ} (room : ℕ) (r : Refusal) → decode map ≡ MapAnswer.refused (numberOf (refusalOf r)) →
-    Answered (ReadMap (decode map) bytes room) lines lines (Refused r)
-map-refused map bytes room r e = refused-by r (rw e (ap ReadOutcome.refused (row-of r (let h = map-row map _ e in omega arith))))
+    ReadAnswered (ReadMap (decode map) bytes room) lines lines (Refused r)
+map-refused map bytes room r e = refused-read r (rw e (ap ReadOutcome.refused (row-of r (let h = map-row map _ e in omega arith))))
 
 -- ---- the whole call
 
 module _ (mb ref lines : List ℕ) where
-  pub area-short : (work : List ℕ) → length work < workLength → ReadCall mb ref work lines (Refused why.WorkAreaShort) work lines
-  unfolding linesAfter refusalOf
-  area-short work h =
-      record {
-        outcome = ReadOutcome.refused (row 1);
-        reads = rw (lt-ltb (length work) workLength h) refl;
-        answers = refusal {why = why.WorkAreaShort};
-        work-after = cleared-short work h;
-        lines-after = refl;
-      }
+  call : {after work work′ : List ℕ} {a : ReadAnswer} → ReadAnswered (Reads mb ref (length work) (length lines)) lines after a → work′ ≡ cleared work →
+      ReadCall mb ref work lines a work′ after
+  call d e = record { outcome = d .outcome; reads = d .asked; answers = d .answers; work-after = e; lines-after = d .buffer-after }
 
-  pub called : {after work work′ : List ℕ} {a : ReadAnswer} → workLength ≤ length work → Answered (ReadMap (decode mb) ref (length lines)) lines after a →
+  pub area-short : (work : List ℕ) → length work < workLength → ReadCall mb ref work lines (Refused why.WorkAreaShort) work lines
+  unfolding refusalOf
+  area-short work h = call (refused-read why.WorkAreaShort (rw (lt-ltb (length work) workLength h) refl)) (cleared-short work h)
+
+  pub called : {after work work′ : List ℕ} {a : ReadAnswer} → workLength ≤ length work → ReadAnswered (ReadMap (decode mb) ref (length lines)) lines after a →
       work′ ≡ cleared work → ReadCall mb ref work lines a work′ after
-  called {work = work} h d e =
-      record {
-        outcome = d .outcome;
-        reads = rw (le-ltb (length work) workLength h) (d .reads);
-        answers = d .answers;
-        work-after = e;
-        lines-after = d .lines-after;
-      }
+  called {work = work} h d e = call (answered-by (λ o r. rw (le-ltb (length work) workLength h) r) d) e

@@ -1,11 +1,11 @@
--- What is promised once every leg is read, and of the whole call.
+-- What is promised once every leg is read.
 use Prim.Native.Nat.{ℕ}
 use mathlib.Core.Path.{_≡_}
 use mathlib.Core.List.{List}
 use Rattle.model.specs.Map.{Map}
 use Rattle.model.specs.Reference.{Offset, Reference}
 use Rattle.model.specs.Outcome.{SpanRead, NoOffset, ReadOutcome, ReadEnd}
-use Rattle.model.specs.Call.{ReadAnswers, linesAfter}
+use Rattle.model.specs.Call.{ReadAnswers}
 use Rattle.model.specs.declared.Span.{Span}
 use Rattle.model.specs.declared.ReadAnswer.{ReadAnswer}
 use Rattle.fields.specs.declared.offset.Offsets.{Offsets}
@@ -21,10 +21,3 @@ pub record Ended (m : Map) (r : Reference) (room : ℕ) (lists : List (List ℕ)
   pub outcome : ReadOutcome
   pub ends : ReadEnd m r room lists outcome
   pub answers : ReadAnswers a outcome
-
--- An answer to one of the definitions' questions `R`, with the line buffer before and after.
-pub record Answered (R : ReadOutcome → Type 0) (before after : List ℕ) (a : ReadAnswer) : Type 0 where
-  pub outcome : ReadOutcome
-  pub reads : R outcome
-  pub answers : ReadAnswers a outcome
-  pub lines-after : after ≡ linesAfter outcome before

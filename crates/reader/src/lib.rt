@@ -21,13 +21,12 @@ ghost use Rattle.model.specs.Map.{Map, decode};
 ghost use Rattle.model.specs.Reference.{referenceAt, parse};
 ghost use Rattle.model.specs.Reading.{joined};
 ghost use Rattle.model.specs.Outcome.{LegsRead, every, located, ReadOn, ReadParsed, ReadMap, workLength};
-ghost use Rattle.model.specs.Call.{placed, ReadCall};
+ghost use Rattle.model.specs.Call.{placed, ReadAnswered, ReadCall};
 ghost use Rattle.depot_map.specs.Area.{Holds};
 ghost use Rattle.legs.specs.Verdict.{Set};
 ghost use Rattle.references.specs.Form.{SoundBytes};
 ghost use Rattle.references.specs.Legs.{legsAt};
 ghost use Rattle.reader.specs.Every.{PlacesIn};
-ghost use Rattle.reader.specs.Ending.{Answered};
 ghost use Rattle.model.specs.Outcome as definitions;
 
 mod ending;
@@ -87,7 +86,7 @@ fn on_places(
     requires { ⌜ ((m : Map) × Set m lines (now work) × PlacesIn m points (now places)) ⌝ }
     ensures { λ r. ⌜ ((m : Map) → Set m lines (now (work .entry)) → PlacesIn m points (now (places .entry))
         → definitions.locate m (referenceAt (now (bytes .entry)) points) ≡ located (legsAt (now (bytes .entry)) points (now (places .entry)))
-        → Answered (ReadOn m (referenceAt (now (bytes .entry)) points) (length (now (out .entry)))) (now (out .entry)) (now (out .exit)) r) ⌝ }
+        → ReadAnswered (ReadOn m (referenceAt (now (bytes .entry)) points) (length (now (out .entry)))) (now (out .entry)) (now (out .exit)) r) ⌝ }
 {
     let mut kept = [0; KEPT_LINES];
     match read_legs(bytes, points, places, work, lines, &mut kept) {
@@ -115,7 +114,7 @@ fn on_points(
     requires { ⌜ SoundBytes (now bytes) points ⌝ }
     requires { ⌜ ((m : Map) × Set m lines (now work) × (length (m .nodes) ≡ nodes)) ⌝ }
     ensures { λ r. ⌜ ((m : Map) → Set m lines (now (work .entry)) → length (m .nodes) ≡ nodes
-        → Answered (ReadOn m (referenceAt (now (bytes .entry)) points) (length (now (out .entry)))) (now (out .entry)) (now (out .exit)) r) ⌝ }
+        → ReadAnswered (ReadOn m (referenceAt (now (bytes .entry)) points) (length (now (out .entry)))) (now (out .entry)) (now (out .exit)) r) ⌝ }
 {
     let mut places = [0; Reference::MOST_POINTS];
     match locate(bytes, points, work, nodes, &mut places) {
@@ -128,7 +127,7 @@ fn on_points(
 fn on_map(reference: &[u8], work: &mut [u32], nodes: u32, lines: u32, out: &mut [u32]) -> ReadAnswer
     requires { ⌜ ((m : Map) × Holds (now work) nodes lines m) ⌝ }
     ensures { λ r. ⌜ ((m : Map) → Holds (now (work .entry)) nodes lines m
-        → Answered (ReadParsed m (parse (now (reference .entry))) (length (now (out .entry)))) (now (out .entry)) (now (out .exit)) r) ⌝ }
+        → ReadAnswered (ReadParsed m (parse (now (reference .entry))) (length (now (out .entry)))) (now (out .entry)) (now (out .exit)) r) ⌝ }
 {
     match Reference::of(reference) {
         Form::Sound(sound) => {
@@ -143,7 +142,7 @@ fn on_map(reference: &[u8], work: &mut [u32], nodes: u32, lines: u32, out: &mut 
 // The answer where the work area is large enough.
 fn on_bytes(map: &[u8], reference: &[u8], work: &mut [u32], out: &mut [u32]) -> ReadAnswer
     requires { ⌜ workLength ≤ length (now work) ⌝ }
-    ensures { λ r. ⌜ Answered (ReadMap (decode (now (map .entry))) (now (reference .entry)) (length (now (out .entry)))) (now (out .entry)) (now (out .exit)) r ⌝ }
+    ensures { λ r. ⌜ ReadAnswered (ReadMap (decode (now (map .entry))) (now (reference .entry)) (length (now (out .entry)))) (now (out .entry)) (now (out .exit)) r ⌝ }
 {
     match read_map(map, work) {
         MapRead::Whole(nodes, lines) => on_map(reference, work, nodes, lines, out),

@@ -1,6 +1,6 @@
 -- The parts put together: tested legs, the choice of points over them and the bytes put make an outcome of the writer.
 use Prim.Native.Nat.{ℕ, _+_, _≤_, _<_}
-use mathlib.Core.Path.{refl, sym, subst, _∙_, ap}
+use mathlib.Core.Path.{sym, subst, _∙_, ap}
 use mathlib.Core.List.{List, _∷_}
 use native.Mathlib.Omega.{arith}
 use lib.ListN.{length, getD, drop, List·getD-append}
@@ -13,8 +13,9 @@ use Rattle.model.specs.Lines.{Connected}
 use Rattle.model.specs.Refusal.{row, refusalOf}
 use Rattle.model.specs.Stretch.{Stretch}
 use Rattle.model.specs.Choice.{good, Chosen, stretchBytes}
-use Rattle.model.specs.Outcome.{WriteOutcome, written, no-choice, no-room, accepted}
-use Rattle.model.specs.Call.{WriteAnswers, bytesAfter}
+use Rattle.model.specs.Outcome.{WriteOutcome, written, WriteOn, no-choice, no-room, accepted}
+use Rattle.model.specs.Call.{bytesAfter, WriteAnswers, WriteAnswered}
+use Rattle.model.proofs.Answering.{refused-write}
 use Rattle.model.proofs.Joining.{filled}
 use Rattle.model.proofs.Skipping.{Left}
 use Rattle.stretches.specs.declared.cuts.Cut.the-variants.{Legs}
@@ -22,7 +23,6 @@ use Rattle.stretches.specs.Stretch.{stretchOf}
 use Rattle.stretches.specs.Cuts.{Marked, Route, there, leg, Best, NoRoute, Answers, legsFrom, Sound, Complete}
 use Rattle.stretches.specs.Put.{CutInto, Inside, Puts}
 use Rattle.stretches.specs.LegTests.{AllTested}
-use Rattle.stretches.specs.Written.{WrittenOn}
 use Rattle.stretches.proofs.Routes.{short}
 use Rattle.stretches.proofs.Choosing.{good-filled, chosen}
 use Rattle.stretches.proofs.Rows.{connected-lines}
@@ -61,31 +61,26 @@ module _ {m : Map} {lines : ℕ} {ls table₀ table w v : List ℕ} (joint : Con
       }
 
   module _ (pos neg : ℕ) (before : List ℕ) where
-    pub none-written : NoRoute (Marked table) (length ls) 0 → WrittenOn m (stretchOf ls pos neg) before before (Refused NoChoice)
-    unfolding bytesAfter refusalOf
-    none-written none =
-        record {
-          outcome = WriteOutcome.refused (row 10);
-          writes = no-choice (Choosing.no-choice (good m) ls (good-filled m) complete none);
-          answers = WriteAnswers.refusal;
-          bytes-after = refl;
-        }
+    pub none-written : NoRoute (Marked table) (length ls) 0 → WriteAnswered (WriteOn m (stretchOf ls pos neg) (length before)) before before (Refused NoChoice)
+    unfolding refusalOf
+    none-written none = refused-write NoChoice (no-choice (Choosing.no-choice (good m) ls (good-filled m) complete none))
 
     pub put-written : {cs after : List ℕ} → Best (Marked table) (length ls) 0 cs → (a : WriteAnswer) →
-        Puts (stretchBytes m (legsFrom ls 0 cs) (stretchOf ls pos neg)) before after a → WrittenOn m (stretchOf ls pos neg) before after a
+        Puts (stretchBytes m (legsFrom ls 0 cs) (stretchOf ls pos neg)) before after a →
+        WriteAnswered (WriteOn m (stretchOf ls pos neg) (length before)) before after a
     unfolding bytesAfter refusalOf
     put-written {cs} b (Written n) (size, room, e) =
         let bs = stretchBytes m (legsFrom ls 0 cs) (stretchOf ls pos neg) in
         record {
           outcome = written bs;
-          writes = accepted (takes b) (omega (arith, size, room));
+          asked = accepted (takes b) (omega (arith, size, room));
           answers = subst (λ (k : ℕ). WriteAnswers (Written k) (written bs)) (sym size) WriteAnswers.bytes;
-          bytes-after = e;
+          buffer-after = e;
         }
     put-written b (Refused why) (is, room, e) =
         record {
           outcome = WriteOutcome.refused (row 11);
-          writes = no-room (takes b) room;
+          asked = no-room (takes b) room;
           answers = subst (λ (r : Refusal). WriteAnswers (Refused r) (WriteOutcome.refused (row 11))) (sym is) WriteAnswers.refusal;
-          bytes-after = e;
+          buffer-after = e;
         }

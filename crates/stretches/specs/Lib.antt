@@ -4,4 +4,3 @@ pub mod Cuts
 pub mod Point
 pub mod Put
 pub mod LegTests
-pub mod Written

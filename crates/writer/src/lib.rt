@@ -18,12 +18,10 @@ ghost use Rattle.model.specs.Map.{Map, decode};
 ghost use Rattle.model.specs.Lines.{Connected};
 ghost use Rattle.model.specs.Stretch.{checkStretch};
 ghost use Rattle.model.specs.Outcome.{WriteOn, WriteStretch, WriteMap, workLength};
-ghost use Rattle.model.specs.Call.{WriteCall};
+ghost use Rattle.model.specs.Call.{WriteAnswered, WriteCall};
 ghost use Rattle.legs.specs.Verdict.{Set};
 ghost use Rattle.stretches.specs.Stretch.{stretchOf};
 ghost use Rattle.stretches.specs.Put.{Inside};
-ghost use Rattle.stretches.specs.Written.{WrittenOn};
-ghost use Rattle.writer.specs.Answer.{Answered};
 
 // A number for each leg of a stretch of up to 64 lines, and one for each of its positions.
 const LEG_TESTS: usize = 4_160;
@@ -42,7 +40,7 @@ fn on_part(
     requires { ⌜ length (now part) ≤ 64 ⌝ }
     requires { ⌜ ((m : Map) × Set m lines (now work) × Connected m (now part) × Inside m (stretchOf (now part) pos neg)) ⌝ }
     ensures { λ r. ⌜ ((m : Map) → Set m lines (now (work .entry)) → Connected m (now (part .entry)) → Inside m (stretchOf (now (part .entry)) pos neg)
-        → WrittenOn m (stretchOf (now (part .entry)) pos neg) (now (bytes .entry)) (now (bytes .exit)) r) ⌝ }
+        → WriteAnswered (WriteOn m (stretchOf (now (part .entry)) pos neg) (length (now (bytes .entry)))) (now (bytes .entry)) (now (bytes .exit)) r) ⌝ }
 {
     let mut table = [0; LEG_TESTS];
     test_legs(work, lines, part, &mut table);
@@ -64,7 +62,7 @@ fn on_stretch(
 ) -> WriteAnswer
     requires { ⌜ ((m : Map) × Set m lines (now work)) ⌝ }
     ensures { λ r. ⌜ ((m : Map) → Set m lines (now (work .entry))
-        → Answered (WriteStretch m (checkStretch m (stretchOf (now (stretch .entry)) pos neg)) (length (now (bytes .entry)))) (now (bytes .entry)) (now (bytes .exit)) r) ⌝ }
+        → WriteAnswered (WriteStretch m (checkStretch m (stretchOf (now (stretch .entry)) pos neg)) (length (now (bytes .entry)))) (now (bytes .entry)) (now (bytes .exit)) r) ⌝ }
 {
     match check(work, lines, stretch, pos, neg) {
         Checked::Remains(left) => {
@@ -86,7 +84,7 @@ fn on_map(
     bytes: &mut [u8],
 ) -> WriteAnswer
     requires { ⌜ workLength ≤ length (now work) ⌝ }
-    ensures { λ r. ⌜ Answered (WriteMap (decode (now (map .entry))) (stretchOf (now (stretch .entry)) pos neg) (length (now (bytes .entry)))) (now (bytes .entry)) (now (bytes .exit)) r ⌝ }
+    ensures { λ r. ⌜ WriteAnswered (WriteMap (decode (now (map .entry))) (stretchOf (now (stretch .entry)) pos neg) (length (now (bytes .entry)))) (now (bytes .entry)) (now (bytes .exit)) r ⌝ }
 {
     match read_map(map, work) {
         MapRead::Whole(_, count) => {

@@ -19,7 +19,7 @@ enum-known-count : tie.Need-enum-known-count
 enum-known-count c = search needs
 
 cast-t13 : tie.Need-cast-t13
-cast-t13 c = search (needs, count-small (c .before .before .before .before .before .write-from .ensures) (c .before .count .given .1))
+cast-t13 c = search (needs, count-small _ _ (c .before .before .before .before .before .write-from .ensures) (c .before .count .given .1))
 
 enum-known-why : tie.Need-enum-known-why
 enum-known-why c = search needs

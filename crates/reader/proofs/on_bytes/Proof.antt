@@ -1,7 +1,8 @@
 -- `on_bytes` meets its contract: bytes that are no map, or the answer on the map.
 use borrow.Author.Needs.{needs}
+use Rattle.model.proofs.Answering.{answered-by}
 use Rattle.depot_map.proofs.Whole.{read-whole, read-refused}
-use Rattle.reader.proofs.Answers.{answered-by, map-refused}
+use Rattle.reader.proofs.Answers.{map-refused}
 use Rattle.reader.proofs.on_bytes.Statement.{statement}
 use Rattle.reader.proofs.on_bytes.Tie as tie
 

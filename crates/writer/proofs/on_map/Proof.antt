@@ -1,9 +1,10 @@
 -- `on_map` meets its contract: bytes that are no map, or the answer on the map.
 use native.Mathlib.Omega.{arith}
 use borrow.Author.Needs.{needs}
+use Rattle.model.proofs.Answering.{answered-by}
 use Rattle.depot_map.proofs.Whole.{read-whole, read-refused}
 use Rattle.search.proofs.Frame.{held, held-kept}
-use Rattle.writer.proofs.Answers.{answered-by, map-refused}
+use Rattle.writer.proofs.Answers.{map-refused}
 use Rattle.writer.proofs.on_map.Statement.{statement}
 use Rattle.writer.proofs.on_map.Tie as tie
 

@@ -1,10 +1,11 @@
 -- `on_stretch` meets its contract: a stretch that is refused, or the answer for what remains of it.
 use native.Mathlib.Omega.{arith}
 use borrow.Author.Needs.{needs}
+use Rattle.model.proofs.Answering.{answered-by}
 use Rattle.stretches.specs.Stretch.{stretchOf}
 use Rattle.stretches.proofs.Checks.{left-of, left-connected}
 use Rattle.stretches.proofs.Writing.{left-inside}
-use Rattle.writer.proofs.Answers.{answered-by, part-written, left-passes, check-refuses, stretch-refused}
+use Rattle.writer.proofs.Answers.{left-passes, check-refuses, stretch-refused}
 use Rattle.writer.proofs.on_stretch.Statement.{statement}
 use Rattle.writer.proofs.on_stretch.Tie as tie
 
@@ -63,7 +64,7 @@ returns : tie.Need-returns
 returns c m set =
     let a = c .before .before .before .before .before .before .before .before .before .before .before .before .before .before .before .before .args in
     let l = left-passes m (stretchOf (a .stretch .now) (a .pos) (a .neg)) (c .before .before .before .before .before .before .before .before .before .before .before .check .result) (c .before .before .before .before .before .before .before .before .before .before .before .check .ensures m (set .held)) (c .before .before .before .before .before .before .before .before .before .left .given .1) in
-    answered-by (λ o r. rw (l .checked) r) (part-written (c .before .before .before .before .on-part .ensures m set (left-connected l) (left-inside (left-of l))))
+    answered-by (λ o r. rw (l .checked) r) (c .before .before .before .before .on-part .ensures m set (left-connected l) (left-inside (left-of l)))
 
 same-length-3 : tie.Need-same-length-3
 same-length-3 c = search needs

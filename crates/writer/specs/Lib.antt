@@ -1,2 +1,0 @@
--- What the writer's parts answer.
-pub mod Answer
