@@ -2,9 +2,8 @@
 use libc::STDOUT_FILENO;
 ghost use mathlib.Core.Path.{_≡_};
 ghost use Prim.Native.Nat.{_<_};
-ghost use mathlib.Core.Bool.{true};
 ghost use lib.ListN.{length};
-ghost use Rattle.marks.specs.Marks.{markOf, byteMarkOf, Marked, Cleared};
+ghost use Rattle.marks.specs.Marks.{markOf, byteMarkOf, Marked, Cleared, Tells};
 
 // What stands at place `i` of a buffer before a call. It is no line's number and not 0.
 fn mark(i: usize) -> u32
@@ -45,7 +44,7 @@ pub fn fill_bytes(buffer: &mut [u8])
 // Whether a buffer is as `fill` left it from place `from` on.
 pub fn is_kept(buffer: &[u32], from: usize) -> bool
     requires { ⌜ length (now buffer) < 1_000_000 ⌝ }
-    ensures { λ r. ⌜ (r ≡ true → Marked markOf (now (buffer .entry)) from (length (now (buffer .entry)))) ⌝ }
+    ensures { λ r. ⌜ Tells (Marked markOf (now (buffer .entry)) from (length (now (buffer .entry)))) r ⌝ }
 {
     let mut i = from;
     while i < buffer.len() {
@@ -59,7 +58,7 @@ pub fn is_kept(buffer: &[u32], from: usize) -> bool
 
 // Whether a buffer is as `fill_bytes` left it from place `from` on.
 pub fn bytes_kept(buffer: &[u8], from: usize) -> bool
-    ensures { λ r. ⌜ (r ≡ true → Marked byteMarkOf (now (buffer .entry)) from (length (now (buffer .entry)))) ⌝ }
+    ensures { λ r. ⌜ Tells (Marked byteMarkOf (now (buffer .entry)) from (length (now (buffer .entry)))) r ⌝ }
 {
     let mut i = from;
     while i < buffer.len() {
@@ -74,7 +73,7 @@ pub fn bytes_kept(buffer: &[u8], from: usize) -> bool
 // Whether the first 12,288 numbers are 0 and the rest is as `fill` left it.
 pub fn is_cleared(work: &[u32]) -> bool
     requires { ⌜ length (now work) < 1_000_000 ⌝ }
-    ensures { λ r. ⌜ (r ≡ true → Cleared (now (work .entry))) ⌝ }
+    ensures { λ r. ⌜ Tells (Cleared (now (work .entry))) r ⌝ }
 {
     if work.len() < 12288 {
         return false;

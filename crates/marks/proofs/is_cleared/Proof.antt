@@ -3,9 +3,9 @@ use native.Mathlib.Omega.{arith}
 use borrow.Author.Needs.{needs}
 use Prim.Native.Nat.{ℕ, _-_, _≤_, _<_}
 use mathlib.Core.Path.{_≡_}
-use lib.ListN.{length, getD}
+use lib.ListN.{getD}
 use borrow.Author.Count.{below-more}
-use Rattle.marks.proofs.Marks.{said-no}
+use Rattle.marks.proofs.Marks.{says-no}
 use Rattle.marks.proofs.is_cleared.Statement.{statement}
 use Rattle.marks.proofs.is_cleared.Tie as tie
 
@@ -16,7 +16,7 @@ abbrev μ-loop : tie.MeasureT-loop
 μ-loop work i₀ i = 12_288 - i
 
 returns : tie.Need-returns Inv-loop μ-loop
-returns c = said-no
+returns c = says-no (λ all. let l = all .long in let t = c .if1 .taken in omega arith)
 
 loop-holds : tie.Need-loop-holds Inv-loop μ-loop
 loop-holds c = (search needs, λ k b. absurd (omega arith))
@@ -28,7 +28,7 @@ shared-slice-read-if2 : tie.Need-shared-slice-read-if2 Inv-loop μ-loop
 shared-slice-read-if2 c = search needs
 
 returns-2 : tie.Need-returns-2 Inv-loop μ-loop
-returns-2 c = said-no
+returns-2 c = says-no (λ all. c .if2 .taken (all .zeros _ (c .before .before .loop-test .taken)))
 
 add-i : tie.Need-add-i Inv-loop μ-loop
 add-i c = search needs
@@ -43,7 +43,12 @@ is-kept-requires : tie.Need-is-kept-requires Inv-loop μ-loop
 is-kept-requires c κs = search needs
 
 returns-3 : tie.Need-returns-3 Inv-loop μ-loop
-returns-3 c = λ e. record { zeros = λ k b. c .before .before .loop .inv .1 k (omega arith); rest = c .is-kept .ensures e }
+returns-3 c = (
+  λ e.
+      let t = c .before .before .before .if1 .left in
+      record { long = omega arith; zeros = λ k b. c .before .before .loop .inv .1 k (omega arith); rest = c .is-kept .ensures .0 e },
+  λ e all. c .is-kept .ensures .1 e (all .rest),
+)
 
 pub is-cleared-spec : {M : Type 1} → statement M
 is-cleared-spec =
