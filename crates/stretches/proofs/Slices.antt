@@ -60,9 +60,6 @@ module _ (s : List ℕ) (i j : ℕ) (h : i < j) (l : j ≤ length s) where
   unfolding toNode
   to-of-slice m = ap (λ (k : ℕ). lineAt m k .end) (sym last-of-slice)
 
-  pub slice-no-longer : (m : Map) → total m (slice i j s) ≤ total m (drop i s)
-  slice-no-longer m = omega (arith, ap (total m) (cut-at i j s (omega arith) l), total-append m (slice i j s) (drop j s))
-
 -- Two parts, one after the other.
 pub slice-then : (i j k : ℕ) (s : List ℕ) → i ≤ j → j ≤ k → k ≤ length s → slice i k s ≡ slice i j s ++ slice j k s
 slice-then i j k s h l inside =

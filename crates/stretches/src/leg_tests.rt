@@ -137,6 +137,7 @@ fn test_own_cell(
             end,
         };
     }
+    let size = len as u32;
     let first = wide(stretch[i]);
     let limit = prepare(
         work,
@@ -145,13 +146,13 @@ fn test_own_cell(
         j,
         first,
         class,
-        len as u32,
+        size,
         reach,
         searched,
         done,
     );
     let searched = class + 1;
-    if test_leg(work, lines, stretch, i, j, first, class, len as u32, limit) {
+    if test_leg(work, lines, stretch, i, j, first, class, size, limit) {
         return OwnCell {
             mark: 1,
             searched,
@@ -159,7 +160,7 @@ fn test_own_cell(
             end,
         };
     }
-    let end = end_after(work, lines, stretch, i, j, class, len as u32, limit, end);
+    let end = end_after(work, lines, stretch, i, j, class, size, limit, end);
     OwnCell {
         mark: 0,
         searched,

@@ -9,11 +9,11 @@ is-sole-way-requires : tie.Need-is-sole-way-requires
 is-sole-way-requires c κs = search needs
 
 returns : tie.Need-returns
-returns c = ((c .before .before .before .before .pre .0, omega arith), λ m t x short up k a b. absurd (omega arith))
+returns c = ((omega (arith, c .before .before .before .before .pre .0), omega (arith, c .before .before .before .before .pre .0)), λ m t x short up k a b. absurd (omega arith))
 
 returns-2 : tie.Need-returns-2
 returns-2 c = (
-  (omega arith, c .before .before .before .before .pre .0),
+  (omega (arith, c .before .before .before .before .pre .0), omega (arith, c .before .before .before .before .pre .0)),
   λ m t x short up k a b. none-later (x .ordered) (x .inside) (rw (c .if1 .left) at (c .before .is-sole-way .ensures m t x short up)) k a,
 )
 

@@ -49,6 +49,9 @@ returns c = (
   },
 )
 
+cast-size : tie.Need-cast-size
+cast-size c = let p = c .before .before .before .before .before .pre .1 in omega (arith, short c (p .0) (p .1) (p .3))
+
 mul-wide : tie.Need-mul-wide
 mul-wide c = search needs
 
@@ -57,9 +60,6 @@ shared-slice-read-wide c = omega (arith, c .before .before .before .before .befo
 
 wide-requires : tie.Need-wide-requires
 wide-requires c κs = search needs
-
-cast-prepare : tie.Need-cast-prepare
-cast-prepare c = let p = c .before .before .before .before .before .before .before .before .pre .1 in omega (arith, short (c .before .before .before) (p .0) (p .1) (p .3))
 
 prepare-requires : tie.Need-prepare-requires
 prepare-requires c κs =
@@ -70,9 +70,6 @@ prepare-requires c κs =
 
 add-searched : tie.Need-add-searched
 add-searched c = let p = c .before .before .before .before .before .before .before .before .before .before .before .pre .1 in omega (arith, class-small (p .1 .held .formed) (p .2) (p .3))
-
-cast-test-leg : tie.Need-cast-test-leg
-cast-test-leg c = let p = c .before .before .before .before .before .before .before .before .before .before .before .before .pre .1 in omega (arith, short (c .before .before .before .before .before .before .before) (p .0) (p .1) (p .3))
 
 test-leg-requires : tie.Need-test-leg-requires
 test-leg-requires c κs =
@@ -106,9 +103,6 @@ returns-2 c = (
       },
 )
 
-cast-end-after : tie.Need-cast-end-after
-cast-end-after c = let p = c .before .before .before .before .before .before .before .before .before .before .before .before .before .before .before .pre .1 in omega (arith, short (c .before .before .before .before .before .before .before .before .before .before) (p .0) (p .1) (p .3))
-
 end-after-requires : tie.Need-end-after-requires
 end-after-requires c κs =
     let p = c .before .before .before .before .before .before .before .before .before .before .before .before .before .before .before .pre in
@@ -137,17 +131,15 @@ test-own-cell-spec =
     first-mark-requires
     same-length
     returns
+    cast-size
     mul-wide
     shared-slice-read-wide
     wide-requires
-    cast-prepare
     prepare-requires
     add-searched
-    cast-test-leg
     test-leg-requires
     same-length-2
     returns-2
-    cast-end-after
     end-after-requires
     same-length-3
     returns-3)
