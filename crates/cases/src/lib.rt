@@ -2,7 +2,7 @@
 // What a part means is for the program that reads it.
 ghost use mathlib.Core.Path.{_≡_};
 ghost use Prim.Native.Nat.{_+_, _*_, _≤_, _<_};
-ghost use lib.ListN.{length, getD};
+ghost use lib.ListN.{length};
 ghost use Rattle.cases.specs.Part.{PartIs, wordAt};
 
 // Room for a file of cases. A literal of this size in `main` itself is too large for the checker.

@@ -3,7 +3,6 @@ use libc::STDOUT_FILENO;
 use model::ReadAnswer;
 use model::Refusal;
 use model::number_of;
-use model::place_of;
 ghost use Rattle.io.specs.Counts.{Counts};
 
 // The bytes of a file, first in the buffer, as many as fit. A missing file counts as empty.

@@ -8,7 +8,7 @@ use fields::bytes::at2;
 use fields::bytes::at3;
 ghost use mathlib.Core.Path.{_≡_};
 ghost use Prim.Native.Nat.{_+_, _*_, _≤_, _<_};
-ghost use lib.ListN.{length, getD};
+ghost use lib.ListN.{length};
 ghost use Rattle.model.specs.Map.{greatestNodeCount};
 ghost use Rattle.model.specs.Outcome.{workLength};
 ghost use Rattle.references.specs.Form.{SoundBytes};

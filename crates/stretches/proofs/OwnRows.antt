@@ -11,7 +11,7 @@ use Rattle.model.specs.Lines.{total, lowest}
 use Rattle.depot_map.specs.Area.{Kept}
 use Rattle.depot_map.proofs.Kept.{kept-none, kept-then}
 use Rattle.legs.specs.Verdict.{Set}
-use Rattle.stretches.specs.declared.leg_tests.OwnCell.{OwnCell}
+use Rattle.stretches.specs.declared.cells.OwnCell.{OwnCell}
 use Rattle.stretches.specs.declared.leg_tests.Row.{Row}
 use Rattle.stretches.specs.LegTests.{mark, Says1, DoneFor, OwnRead, Measured, Worked, OwnTested, RowOwned, RowTested}
 use Rattle.stretches.proofs.Slices.{total-slice-none, lowest-slice-none, row-set}

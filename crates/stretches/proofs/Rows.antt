@@ -16,7 +16,7 @@ use Rattle.depot_map.proofs.Kept.{kept-none, kept-then}
 use Rattle.search.specs.Area.{latest}
 use Rattle.search.proofs.Leaving.{latest-le, latest-hit}
 use Rattle.legs.specs.Verdict.{Set}
-use Rattle.stretches.specs.declared.leg_tests.Cell.{Cell}
+use Rattle.stretches.specs.declared.cells.Cell.{Cell}
 use Rattle.stretches.specs.declared.leg_tests.Row.{Row}
 use Rattle.stretches.specs.Stretch.{Known}
 use Rattle.stretches.specs.Cuts.{Tested}

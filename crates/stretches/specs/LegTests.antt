@@ -18,8 +18,8 @@ use Rattle.search.specs.Area.{Chained, Searched, Reaching}
 use Rattle.legs.specs.Verdict.{LimitFor, FromLine, FromLines, Set}
 use Rattle.stretches.specs.Stretch.{Known}
 use Rattle.stretches.specs.Cuts.{Tested}
-use Rattle.stretches.specs.declared.leg_tests.Cell.{Cell}
-use Rattle.stretches.specs.declared.leg_tests.OwnCell.{OwnCell}
+use Rattle.stretches.specs.declared.cells.Cell.{Cell}
+use Rattle.stretches.specs.declared.cells.OwnCell.{OwnCell}
 use Rattle.stretches.specs.declared.leg_tests.Row.{Row}
 
 -- The number of a leg in a table.

@@ -20,7 +20,6 @@ use search::search;
 use search::ways::Ways;
 use search::ways::to_line;
 use search::ways::write_lines;
-ghost use mathlib.Core.Path.{_≡_};
 ghost use Prim.Native.Nat.{_≤_, _<_};
 ghost use lib.ListN.{length};
 ghost use Rattle.model.specs.Map.{Map};

@@ -3,8 +3,8 @@ use Rattle.depot_map.proofs.Kept.{kept-none}
 use Rattle.stretches.proofs.Trials.{class-small, done-for}
 use Rattle.stretches.proofs.Opening.{not-tested, passes, fails}
 use native.Mathlib.Omega.{arith}
-use Rattle.stretches.proofs.leg_tests.test_cell.Statement.{statement}
-use Rattle.stretches.proofs.leg_tests.test_cell.Tie as tie
+use Rattle.stretches.proofs.cells.test_cell.Statement.{statement}
+use Rattle.stretches.proofs.cells.test_cell.Tie as tie
 
 returns : tie.Need-returns
 returns c m set t alike x within done = record { sifted = not-tested (c .if1 .taken); done = done; worked = record { set = set; kept = kept-none } }

@@ -14,8 +14,8 @@ use Rattle.stretches.proofs.Marks.{says-yes, says-no}
 use Rattle.stretches.proofs.Trials.{class-small, done-for}
 use native.Mathlib.Omega.{arith}
 use borrow.Author.Needs.{needs}
-use Rattle.stretches.proofs.leg_tests.test_own_cell.Statement.{statement}
-use Rattle.stretches.proofs.leg_tests.test_own_cell.Tie as tie
+use Rattle.stretches.proofs.cells.test_own_cell.Statement.{statement}
+use Rattle.stretches.proofs.cells.test_own_cell.Tie as tie
 
 -- The leg that is tested is usual.
 module _ (c : tie.Else1) (m : Map) (set : Set m (c .before .before .before .before .before .args .lines) (c .before .before .before .before .before .args .work .now)) (x : Measured m (c .before .before .before .before .before .args .stretch .now) (c .before .before .before .before .before .args .i) (c .before .before .before .before .before .args .j) (c .before .before .before .before .before .args .class) (c .before .before .before .before .before .args .len)) where
