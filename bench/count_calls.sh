@@ -22,7 +22,7 @@ cat >"$copy/count.py" <<'END'
 import os
 
 row_file = os.environ["ROW_FILE"]
-names = ("search::search", "stretches::leg_tests::test_leg")
+names = ("search::search", "stretches::leg_search::test_leg")
 breakpoints = [gdb.Breakpoint(name) for name in names]
 for breakpoint in breakpoints:
     if breakpoint.pending:
