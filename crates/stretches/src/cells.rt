@@ -14,14 +14,14 @@ ghost use Rattle.stretches.specs.LegTests.{DoneFor, Trial, Alike, Measur
 
 // A leg's number in the table, and what the work area is searched for: 1 + the class, or 0, and the limit.
 pub struct Cell {
-    pub mark: u32,
+    pub mark: u8,
     pub searched: u32,
     pub limit: u32,
 }
 
 // The same after the test of a leg's own first line, and the position that its row ends at: no leg to a later one can be used.
 pub struct OwnCell {
-    pub mark: u32,
+    pub mark: u8,
     pub searched: u32,
     pub limit: u32,
     pub end: usize,

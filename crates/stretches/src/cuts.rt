@@ -17,7 +17,7 @@ struct Next {
 }
 
 // The first leg from `i`, given how many legs it takes from each later position. Of equal ones the longest is taken.
-fn first_cut(good: &[u32], n: usize, best: &[usize; 65], i: usize) -> Next
+fn first_cut(good: &[u8], n: usize, best: &[usize; 65], i: usize) -> Next
     requires { ⌜ (i < n) × (n ≤ 64) × (65 * n ≤ length (now good)) ⌝ }
     requires { ⌜ Tells (Marked (now good)) n (now best) (i + 1) ⌝ }
     ensures { λ r. ⌜ FirstCut (Marked (now (good .entry))) n i (r .to) (r .legs) ⌝ }
@@ -40,7 +40,7 @@ fn first_cut(good: &[u32], n: usize, best: &[usize; 65], i: usize) -> Next
 }
 
 // How many legs it takes from each position.
-fn fewest(good: &[u32], n: usize) -> [usize; 65]
+fn fewest(good: &[u8], n: usize) -> [usize; 65]
     requires { ⌜ (n ≤ 64) × (65 * n ≤ length (now good)) ⌝ }
     ensures { λ r. ⌜ Tells (Marked (now (good .entry))) n r 0 ⌝ }
 {
@@ -55,7 +55,7 @@ fn fewest(good: &[u32], n: usize) -> [usize; 65]
 }
 
 // The route to take: `cuts` gets 0 and then where each leg ends.
-pub fn choose(good: &[u32], n: usize, cuts: &mut [u32]) -> Cut
+pub fn choose(good: &[u8], n: usize, cuts: &mut [u32]) -> Cut
     requires { ⌜ (n ≤ 64) × (65 * n ≤ length (now good)) × (n < length (now cuts)) ⌝ }
     ensures { λ r. ⌜ Answers (Marked (now (good .entry))) n r (now (cuts .entry)) (now (cuts .exit)) ⌝ }
 {

@@ -38,7 +38,7 @@ pub struct Row {
 }
 
 // Gives 0 to each leg from position `i`.
-fn clear_row(table: &mut [u32], i: usize, count: usize)
+fn clear_row(table: &mut [u8], i: usize, count: usize)
     requires { ⌜ (i < count) × (count ≤ 64) × (65 * count ≤ length (now table)) ⌝ }
     ensures { λ _. ⌜ RowCleared i count (now (table .entry)) (now (table .exit)) ⌝ }
 {
@@ -57,7 +57,7 @@ fn test_own_line(
     stretch: &[u32],
     i: usize,
     reach: usize,
-    table: &mut [u32],
+    table: &mut [u8],
 ) -> Row
     requires { ⌜ (i < length (now stretch)) × (length (now stretch) ≤ 64) × (65 * length (now stretch) ≤ length (now table)) ⌝ }
     requires { ⌜ ((m : Map) × Set m lines (now work) × Connected m (now stretch)) ⌝ }
@@ -96,7 +96,7 @@ fn test_first_line(
     i: usize,
     first: usize,
     row: Row,
-    table: &mut [u32],
+    table: &mut [u8],
 )
     requires { ⌜ (65 * length (now stretch) ≤ length (now table)) × (i ≤ row .end) × (row .end ≤ length (now stretch)) ⌝ }
     requires { ⌜ ((m : Map) × Set m lines (now work) × Trial m lines (now stretch) i first × Alike m (now stretch) i first
@@ -147,7 +147,7 @@ fn test_candidate(
     first: usize,
     leaves: Attributes,
     row: Row,
-    table: &mut [u32],
+    table: &mut [u8],
 )
     requires { ⌜ (65 * length (now stretch) ≤ length (now table)) × (i ≤ row .end) × (row .end ≤ length (now stretch)) ⌝ }
     requires { ⌜ ((m : Map) × Set m lines (now work) × Trial m lines (now stretch) i first × Owned m (now stretch) i (row .end) (now table)
@@ -173,7 +173,7 @@ fn test_from(
     stretch: &[u32],
     i: usize,
     reach: usize,
-    table: &mut [u32],
+    table: &mut [u8],
 ) -> usize
     requires { ⌜ (i < length (now stretch)) × (length (now stretch) ≤ 64) × (65 * length (now stretch) ≤ length (now table)) ⌝ }
     requires { ⌜ ((m : Map) × Set m lines (now work) × Connected m (now stretch)) ⌝ }
@@ -192,7 +192,7 @@ fn test_from(
 }
 
 // Tests all legs of a stretch: number 65 * i + j of the table becomes 1 where the leg from position `i` to position `j` may be used.
-pub fn test_legs(work: &mut [u32], lines: usize, stretch: &[u32], table: &mut [u32])
+pub fn test_legs(work: &mut [u32], lines: usize, stretch: &[u32], table: &mut [u8])
     requires { ⌜ (length (now stretch) ≤ 64) × (65 * length (now stretch) ≤ length (now table)) ⌝ }
     requires { ⌜ ((m : Map) × Set m lines (now work) × Connected m (now stretch)) ⌝ }
     ensures { λ _. ⌜ ((m : Map) → Set m lines (now (work .entry)) → Connected m (now (stretch .entry))

@@ -42,7 +42,7 @@ fn on_part(
     ensures { λ r. ⌜ ((m : Map) → Set m lines (now (work .entry)) → Connected m (now (part .entry)) → Inside m (stretchOf (now (part .entry)) pos neg)
         → WriteAnswered (WriteOn m (stretchOf (now (part .entry)) pos neg) (length (now (bytes .entry)))) (now (bytes .entry)) (now (bytes .exit)) r) ⌝ }
 {
-    let mut table = [0; LEG_TESTS];
+    let mut table: [u8; LEG_TESTS] = [0; LEG_TESTS];
     test_legs(work, lines, part, &mut table);
     let mut cuts = [0; CUTS];
     match choose(&table, part.len(), &mut cuts) {

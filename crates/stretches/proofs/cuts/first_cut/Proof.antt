@@ -32,9 +32,6 @@ mul-if1 c = omega arith
 add-if1 : tie.Need-add-if1 Inv-loop μ-loop
 add-if1 c = omega arith
 
-mul-if1-2 : tie.Need-mul-if1-2 Inv-loop μ-loop
-mul-if1-2 c = omega arith
-
 shared-slice-read-if1 : tie.Need-shared-slice-read-if1 Inv-loop μ-loop
 shared-slice-read-if1 c = omega arith
 
@@ -77,7 +74,6 @@ first-cut-spec =
     element-copy-out-after
     mul-if1
     add-if1
-    mul-if1-2
     shared-slice-read-if1
     loop-less
     loop-again

@@ -32,9 +32,6 @@ mul-table c = search needs
 add-table : tie.Need-add-table Inv-loop μ-loop
 add-table c = search needs
 
-mul-table-2 : tie.Need-mul-table-2 Inv-loop μ-loop
-mul-table-2 c = search needs
-
 slice-write-table : tie.Need-slice-write-table Inv-loop μ-loop
 slice-write-table c = let p = c .before .before .pre in omega (arith, p .0, p .1, p .2, c .loop-test .taken, c .before .loop .inv .2)
 
@@ -72,7 +69,6 @@ clear-row-spec =
     add-j
     mul-table
     add-table
-    mul-table-2
     slice-write-table
     loop-less
     loop-again

@@ -72,9 +72,6 @@ mul-mark c = let p = c .before .before .before .before .before .before .before .
 add-mark : tie.Need-add-mark Inv-loop μ-loop
 add-mark c = let p = c .before .before .before .before .before .before .before .before .before .before .before .pre .1 in omega (arith, p .2 .few, p .2 .before, c .before .before .before .before .before .before .loop-test .taken, c .before .before .before .before .before .before .before .before .before .before .before .pre .0 .2)
 
-mul-mark-2 : tie.Need-mul-mark-2 Inv-loop μ-loop
-mul-mark-2 c = let p = c .before .before .before .before .before .before .before .before .before .before .before .pre .1 in omega (arith, p .2 .few, p .2 .before, c .before .before .before .before .before .before .loop-test .taken, c .before .before .before .before .before .before .before .before .before .before .before .pre .0 .2)
-
 slice-read-mark : tie.Need-slice-read-mark Inv-loop μ-loop
 slice-read-mark c = let p = c .before .before .before .before .before .before .before .before .before .before .before .before .pre in omega (arith, p .0 .0, p .0 .2, p .1 .2 .few, p .1 .2 .before, c .before .before .before .before .before .before .before .loop-test .taken, c .before .before .before .before .before .before .before .before .loop .inv .3)
 
@@ -98,9 +95,6 @@ mul-table c = let p = c .before .before .before .before .before .before .before 
 
 add-table : tie.Need-add-table Inv-loop μ-loop
 add-table c = let p = c .before .before .before .before .before .before .before .before .before .before .before .before .before .before .before .before .pre .1 in omega (arith, p .2 .few, p .2 .before, c .before .before .before .before .before .before .before .before .before .before .before .loop-test .taken, c .before .before .before .before .before .before .before .before .before .before .before .before .before .before .before .before .pre .0 .2)
-
-mul-table-2 : tie.Need-mul-table-2 Inv-loop μ-loop
-mul-table-2 c = let p = c .before .before .before .before .before .before .before .before .before .before .before .before .before .before .before .before .pre .1 in omega (arith, p .2 .few, p .2 .before, c .before .before .before .before .before .before .before .before .before .before .before .loop-test .taken, c .before .before .before .before .before .before .before .before .before .before .before .before .before .before .before .before .pre .0 .2)
 
 slice-write-table : tie.Need-slice-write-table Inv-loop μ-loop
 slice-write-table c = let p = c .before .before .before .before .before .before .before .before .before .before .before .before .before .before .before .before .pre in omega (arith, p .0 .0, p .0 .2, p .1 .2 .few, p .1 .2 .before, c .before .before .before .before .before .before .before .before .before .before .before .loop-test .taken, c .before .before .before .before .before .before .before .before .before .before .before .before .loop .inv .3)
@@ -154,12 +148,10 @@ test-first-line-spec =
     add-j
     mul-mark
     add-mark
-    mul-mark-2
     slice-read-mark
     test-cell-requires
     mul-table
     add-table
-    mul-table-2
     slice-write-table
     loop-less
     loop-again
