@@ -5,7 +5,7 @@
 
    - Each pointer is valid for the count of bytes beside it and is not NULL, even where the count is 0. No alignment is asked.
    - An output buffer does not overlap another argument. Input slices may overlap each other.
-   - About 64 KiB of stack for reading, and up to 96 KiB for writing: the work area stands there.
+   - About 64 KiB of stack: the work area stands there.
 
    The functions keep nothing between calls and may run in several threads at once, as far as their buffers differ.
 

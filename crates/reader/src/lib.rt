@@ -33,7 +33,7 @@ mod ending;
 mod every_leg;
 
 // How many lines are kept until all is asked. The lines of a longer reading are found a second time.
-const KEPT_LINES: usize = 3_072;
+const KEPT_LINES: usize = 2_304;
 
 // Writes `kept` into `lines`, from its start on.
 fn copy_lines(kept: &[u32], lines: &mut [u32])
