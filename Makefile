@@ -6,7 +6,9 @@
 
 CALLS = 400000
 SEED = 1
-BUILD = cargo build --release --offline --quiet --manifest-path bench/Cargo.toml
+# Where it is not on the path, cargo is sought where rustup puts it.
+CARGO := $(shell command -v cargo || echo "$$HOME/.cargo/bin/cargo")
+BUILD = $(CARGO) build --release --offline --quiet --manifest-path bench/Cargo.toml
 PROGRAMS = bench/target/release
 
 C_FLAGS = -std=c11 -pedantic -Wall -Wextra -Werror -Iinclude
@@ -24,7 +26,7 @@ test:
 
 bench:
 	rt staticlib measured
-	cargo run --release --offline --quiet --manifest-path bench/Cargo.toml -- $(ROWS)
+	$(CARGO) run --release --offline --quiet --manifest-path bench/Cargo.toml -- $(ROWS)
 
 count:
 	bash bench/count_calls.sh
