@@ -4,11 +4,10 @@ Usage: python3 oracle/check_host.py PROGRAM COUNT [--seed N]. PROGRAM is that of
 """
 
 import argparse
-import sys
 from dataclasses import replace
 
 from cases import one_row, read_cases, write_cases
-from compare import answers, hexadecimal
+from compare import answers, hexadecimal, report
 from read_recipes import read_outcome
 from reader import LEAST_WORK_LENGTH
 from write_recipes import write_outcome
@@ -54,14 +53,11 @@ def main():
     parser.add_argument("count", type=int)
     parser.add_argument("--seed", type=int, default=1)
     arguments = parser.parse_args()
-    differ = False
+    groups = []
     for kind, make_calls in (("read", read_calls), ("write", write_calls)):
         found = differences(arguments.program, list(make_calls(arguments.seed, arguments.count)))
-        print(f"{kind}: {arguments.count} calls from C, {len(found)} differ")
-        for row in found:
-            print(" | ".join(row))
-            differ = True
-    sys.exit(1 if differ else 0)
+        groups.append((f"{kind}: {arguments.count} calls from C", found))
+    report(groups)
 
 
 if __name__ == "__main__":

@@ -6,9 +6,8 @@ it answers must be what crates/NAME/stdout says. Cases with different answers ar
 
 import argparse
 import re
-import sys
 
-from compare import answers, hexadecimal
+from compare import answers, hexadecimal, report
 from pack import CRATES, WRITES_LINE_ROOM, number_sum
 from reader import LEAST_WORK_LENGTH
 
@@ -129,14 +128,11 @@ def main():
     parser = argparse.ArgumentParser(description="Hold the plain Rust implementation to the stored cases.")
     parser.add_argument("answer")
     program = parser.parse_args().answer
-    differ = False
+    groups = []
     for name in PROGRAMS:
         count, found = differences(program, name)
-        print(f"{name}: {count} cases in plain Rust, {len(found)} differ")
-        for row in found:
-            print(" | ".join(row))
-            differ = True
-    sys.exit(1 if differ else 0)
+        groups.append((f"{name}: {count} cases in plain Rust", found))
+    report(groups)
 
 
 if __name__ == "__main__":

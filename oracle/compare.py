@@ -59,6 +59,17 @@ def differences(program, kind, seed, count):
     return [(case, answer) for case, answer in zip(cases, answers(program, calls)) if answer != case.row()[-1]]
 
 
+def report(groups):
+    """Prints how many answers of each group differ, and their rows. The status is 1 where there are any."""
+    differ = False
+    for heading, found in groups:
+        print(f"{heading}, {len(found)} differ")
+        for row in found:
+            print(" | ".join(row))
+            differ = True
+    sys.exit(1 if differ else 0)
+
+
 def main():
     parser = argparse.ArgumentParser(description="Compare the plain Rust implementation with the oracle.")
     parser.add_argument("answer")
@@ -66,14 +77,11 @@ def main():
     parser.add_argument("--kind", choices=KINDS)
     parser.add_argument("--seed", type=int, default=1)
     arguments = parser.parse_args()
-    differ = False
+    groups = []
     for kind in [arguments.kind] if arguments.kind else KINDS:
         found = differences(arguments.answer, kind, arguments.seed, arguments.count)
-        print(f"{kind}: {arguments.count} cases, {len(found)} differ")
-        for case, answer in found:
-            print(" | ".join(case.row() + [answer]))
-            differ = True
-    sys.exit(1 if differ else 0)
+        groups.append((f"{kind}: {arguments.count} cases", [case.row() + [answer] for case, answer in found]))
+    report(groups)
 
 
 if __name__ == "__main__":
