@@ -7,7 +7,7 @@ use lib.ListN.{length, getD}
 
 -- The mark of place `k` in a buffer of numbers.
 abbrev pub markOf : ℕ → ℕ
-markOf k = 3_000_000_000 + k
+markOf k = 3_000_000_000 + k % 1_000_000
 
 -- The mark of place `k` in a buffer of bytes.
 abbrev pub byteMarkOf : ℕ → ℕ

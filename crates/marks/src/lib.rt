@@ -1,19 +1,17 @@
 // Marks that a test program puts into the buffers that it lends, and what a call left of them.
 use libc::STDOUT_FILENO;
 ghost use mathlib.Core.Path.{_≡_};
-ghost use Prim.Native.Nat.{_<_};
 ghost use lib.ListN.{length};
 ghost use Rattle.marks.specs.Marks.{markOf, byteMarkOf, Marked, Cleared, Tells};
 
-// What stands at place `i` of a buffer before a call. It is no line's number and not 0.
+// What stands at place `i` of a buffer before a call. It is no line's number and not 0, and numbers next to each other differ.
 fn mark(i: usize) -> u32
-    requires { ⌜ i < 1_000_000 ⌝ }
     ensures { λ r. ⌜ r ≡ markOf i ⌝ }
 {
-    3_000_000_000 + i as u32
+    3_000_000_000 + (i % 1_000_000) as u32
 }
 
-// The same for a buffer of bytes. Bytes next to each other differ.
+// The same for a buffer of bytes.
 fn byte_mark(i: usize) -> u8
     ensures { λ r. ⌜ r ≡ byteMarkOf i ⌝ }
 {
@@ -21,7 +19,6 @@ fn byte_mark(i: usize) -> u8
 }
 
 pub fn fill(buffer: &mut [u32])
-    requires { ⌜ length (now buffer) < 1_000_000 ⌝ }
     ensures { λ _. ⌜ Marked markOf (now (buffer .exit)) 0 (length (now (buffer .exit))) ⌝ }
 {
     let mut i: usize = 0;
@@ -43,7 +40,6 @@ pub fn fill_bytes(buffer: &mut [u8])
 
 // Whether a buffer is as `fill` left it from place `from` on.
 pub fn is_kept(buffer: &[u32], from: usize) -> bool
-    requires { ⌜ length (now buffer) < 1_000_000 ⌝ }
     ensures { λ r. ⌜ Tells (Marked markOf (now (buffer .entry)) from (length (now (buffer .entry)))) r ⌝ }
 {
     let mut i = from;
@@ -72,7 +68,6 @@ pub fn bytes_kept(buffer: &[u8], from: usize) -> bool
 
 // Whether the first 12,288 numbers are 0 and the rest is as `fill` left it.
 pub fn is_cleared(work: &[u32]) -> bool
-    requires { ⌜ length (now work) < 1_000_000 ⌝ }
     ensures { λ r. ⌜ Tells (Cleared (now (work .entry))) r ⌝ }
 {
     if work.len() < 12288 {
@@ -88,9 +83,7 @@ pub fn is_cleared(work: &[u32]) -> bool
     is_kept(work, 12288)
 }
 
-pub fn show_work(work: &[u32])
-    requires { ⌜ length (now work) < 1_000_000 ⌝ }
-{
+pub fn show_work(work: &[u32]) {
     if is_kept(work, 0) {
         io::write_all(STDOUT_FILENO, b" work kept");
     } else if is_cleared(work) {
