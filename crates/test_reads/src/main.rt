@@ -13,8 +13,6 @@ use marks::show_rest;
 use marks::show_work;
 use model::ReadAnswer;
 use reader::read;
-ghost use Prim.Native.Nat.{_<_};
-ghost use lib.ListN.{length};
 
 // How many lines an answer hands back.
 fn count_of(answer: ReadAnswer) -> usize {
@@ -25,9 +23,7 @@ fn count_of(answer: ReadAnswer) -> usize {
 }
 
 // Prints a row. The sum is over the lines handed back; a count beyond the buffer shows by itself.
-fn show_row(answer: ReadAnswer, work: &[u32], lines: &[u32])
-    requires { ⌜ (length (now work) < 1_000_000) × (length (now lines) < 1_000_000) ⌝ }
-{
+fn show_row(answer: ReadAnswer, work: &[u32], lines: &[u32]) {
     show(answer);
     let count = lesser(count_of(answer), lines.len());
     if let ReadAnswer::Read(_, _, _) = answer {
@@ -39,9 +35,7 @@ fn show_row(answer: ReadAnswer, work: &[u32], lines: &[u32])
 }
 
 // Fills the buffers, reads into them and prints the row.
-fn call(map: &[u8], reference: &[u8], work: &mut [u32], lines: &mut [u32])
-    requires { ⌜ (length (now work) < 1_000_000) × (length (now lines) < 1_000_000) ⌝ }
-{
+fn call(map: &[u8], reference: &[u8], work: &mut [u32], lines: &mut [u32]) {
     fill(work);
     fill(lines);
     let answer = read(map, reference, work, lines);
@@ -49,9 +43,7 @@ fn call(map: &[u8], reference: &[u8], work: &mut [u32], lines: &mut [u32])
 }
 
 // Makes the call with a work area and a line buffer of the lengths that the numbers of the case say.
-fn run_case(map: &[u8], reference: &[u8], words: &[u8], work: &mut [u32], lines: &mut [u32])
-    requires { ⌜ (length (now work) < 1_000_000) × (length (now lines) < 1_000_000) ⌝ }
-{
+fn run_case(map: &[u8], reference: &[u8], words: &[u8], work: &mut [u32], lines: &mut [u32]) {
     let work_length = lesser(word_at(words, 0) as usize, work.len());
     let line_room = lesser(word_at(words, 4) as usize, lines.len());
     call(
@@ -64,9 +56,7 @@ fn run_case(map: &[u8], reference: &[u8], words: &[u8], work: &mut [u32], lines:
 
 // Each case has three parts: a map, a reference, and three numbers of four bytes each. These are the lengths of the work area and of the line buffer,
 // and 1 where the map is that of the case before.
-fn run(bytes: &[u8], work: &mut [u32], lines: &mut [u32])
-    requires { ⌜ (length (now work) < 1_000_000) × (length (now lines) < 1_000_000) ⌝ }
-{
+fn run(bytes: &[u8], work: &mut [u32], lines: &mut [u32]) {
     let mut at: usize = 0;
     let mut map_from: usize = 0;
     let mut map_to: usize = 0;

@@ -40,9 +40,7 @@ fn show_answer(answer: WriteAnswer) {
 }
 
 // Prints a row's first part. The sum is over the bytes handed back; a count beyond the buffer shows by itself.
-fn show_call(answer: WriteAnswer, work: &[u32], bytes: &[u8])
-    requires { ⌜ length (now work) < 1_000_000 ⌝ }
-{
+fn show_call(answer: WriteAnswer, work: &[u32], bytes: &[u8]) {
     show_answer(answer);
     let count = lesser(count_of(answer), bytes.len());
     if let WriteAnswer::Written(_) = answer {
@@ -81,9 +79,7 @@ fn call(
     work: &mut [u32],
     bytes: &mut [u8],
     lines: &mut [u32],
-)
-    requires { ⌜ length (now work) < 1_000_000 ⌝ }
-{
+) {
     fill(work);
     fill_bytes(bytes);
     let answer = write(map, stretch, pos, neg, work, bytes);
@@ -113,9 +109,7 @@ fn run_case(
     work: &mut [u32],
     bytes: &mut [u8],
     lines: &mut [u32],
-)
-    requires { ⌜ length (now work) < 1_000_000 ⌝ }
-{
+) {
     let work_length = lesser(word_at(words, 8) as usize, work.len());
     let byte_room = lesser(word_at(words, 12) as usize, bytes.len());
     call(
@@ -130,9 +124,7 @@ fn run_case(
 }
 
 // A case on its map: the stretch is taken out of its part, and the call made.
-fn run_parts(map: &[u8], part: &[u8], words: &[u8], work: &mut [u32])
-    requires { ⌜ length (now work) < 1_000_000 ⌝ }
-{
+fn run_parts(map: &[u8], part: &[u8], words: &[u8], work: &mut [u32]) {
     let mut stretch = [0; 80];
     let mut bytes = [0; 480];
     let mut lines = [0; 80];
@@ -142,9 +134,7 @@ fn run_parts(map: &[u8], part: &[u8], words: &[u8], work: &mut [u32])
 
 // Each case has three parts: a map, a stretch, and five numbers of four bytes each. These are the two offsets, the lengths of the work area and of the
 // byte buffer, and 1 where the map is that of the case before.
-fn run(file: &[u8], work: &mut [u32])
-    requires { ⌜ length (now work) < 1_000_000 ⌝ }
-{
+fn run(file: &[u8], work: &mut [u32]) {
     let mut at: usize = 0;
     let mut map_from: usize = 0;
     let mut map_to: usize = 0;

@@ -1,7 +1,7 @@
 -- `run` is safe and ends: each part lies inside the bytes and behind the one before it.
 use native.Mathlib.Omega.{arith}
 use borrow.Author.Needs.{needs}
-use Prim.Native.Nat.{_-_, _≤_, _<_}
+use Prim.Native.Nat.{_-_, _≤_}
 use mathlib.Core.Path.{_≡_}
 use mathlib.Core.Logic.{⊎-elim}
 use lib.ListN.{length}
@@ -13,7 +13,7 @@ use Rattle.test_reads.proofs.run.Tie as tie
 
 abbrev Inv-loop : tie.InvT-loop
 Inv-loop bytes work₀ lines₀ at₀ map-from₀ map-to₀ work lines at map-from map-to =
-    (at ≤ length bytes) × (length work ≡ length work₀) × (length lines ≡ length lines₀) × (length work₀ < 1_000_000) × (length lines₀ < 1_000_000) × (map-from ≤ map-to) × (map-to ≤ length bytes)
+    (at ≤ length bytes) × (length work ≡ length work₀) × (length lines ≡ length lines₀) × (map-from ≤ map-to) × (map-to ≤ length bytes)
 
 abbrev μ-loop : tie.MeasureT-loop
 μ-loop bytes work₀ lines₀ at₀ map-from₀ map-to₀ work lines at map-from map-to = length bytes - at
@@ -36,7 +36,7 @@ mapped : (c : tie.After-row-known2 Inv-loop μ-loop) →
     (c .before .before .if1 .map-from ≤ c .before .before .if1 .map-to) × (c .before .before .if1 .map-to ≤ length (now (c .before .before .before .before .before .before .before .before .before .before .before .before .before .before .before .before .before .before .before .before .before .args .bytes)))
 mapped c =
     let v = c .before .before .before .before .before .before .before .before .before .before .before .before .before .before .before .before .before .loop .inv in
-    ⊎-elim (λ w. omega (arith, first (c .before .before .before .before .before))) (λ w. omega (arith, v .5, v .6)) (c .before .before .if1 .came)
+    ⊎-elim (λ w. omega (arith, first (c .before .before .before .before .before))) (λ w. omega (arith, v .3, v .4)) (c .before .before .if1 .came)
 
 loop-holds : tie.Need-loop-holds Inv-loop μ-loop
 loop-holds c = search needs
@@ -135,9 +135,7 @@ part-run-case-end-3 : tie.Need-part-run-case-end-3 Inv-loop μ-loop
 part-run-case-end-3 c = omega (arith, third (c .before .before .before .before .before .before .before))
 
 run-case-requires : tie.Need-run-case-requires Inv-loop μ-loop
-run-case-requires c κs =
-    let v = c .before .before .before .before .before .before .before .before .before .before .before .before .before .before .before .before .before .before .before .before .before .before .loop .inv in
-    (omega (arith, v .1, v .3), omega (arith, v .2, v .4))
+run-case-requires c κs = search needs
 
 loop-less : tie.Need-loop-less Inv-loop μ-loop
 loop-less c = let d = c .before .before .before .before .before .before .before .before .before .before .before .before .before .before .before in omega (arith, first d, second d, third d)
@@ -147,7 +145,7 @@ loop-again c =
     let v = c .before .before .before .before .before .before .before .before .before .before .before .before .before .before .before .before .before .before .before .before .before .before .before .before .before .before .before .loop .inv in
     let p = mapped (c .before .before .before .before .before .before .before .before .before .before) in
     let k = c .before .before .before .before .run-case .kept in
-    (omega (arith, third (c .before .before .before .before .before .before .before .before .before .before .before .before .before .before .before)), omega (arith, k .1 .1 .1 .0, v .1), omega (arith, k .1 .1 .1 .1 .0, v .2), v .3, v .4, p .0, p .1)
+    (omega (arith, third (c .before .before .before .before .before .before .before .before .before .before .before .before .before .before .before)), omega (arith, k .1 .1 .1 .0, v .1), omega (arith, k .1 .1 .1 .1 .0, v .2), p .0, p .1)
 
 pub run-spec : {M : Type 1} → statement M
 run-spec =

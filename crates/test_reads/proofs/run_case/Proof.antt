@@ -1,5 +1,4 @@
 -- `run_case` is safe: the parts that it lends are no longer than the buffers.
-use native.Mathlib.Omega.{arith}
 use borrow.Author.Needs.{needs}
 use mathlib.Core.Path.{sym}
 use lib.Seq.{length-take-le}
@@ -37,11 +36,7 @@ slice-aggregate-call-2 : tie.Need-slice-aggregate-call-2
 slice-aggregate-call-2 c = sym (length-take-le _ _ (c .before .before .lesser2 .ensures .1))
 
 call-requires : tie.Need-call-requires
-call-requires c κs =
-    let p = c .before .before .before .before .before .before .before .before .before .before .before .pre in
-    let w = c .before .before .before .before .lesser .ensures .1 in
-    let l = c .before .before .lesser2 .ensures .1 in
-    (omega (arith, length-take-le _ (c .before .before .before .before .before .before .before .before .before .before .before .args .work .now) w, w, p .0), omega (arith, length-take-le _ (c .before .before .before .before .before .before .before .before .before .before .before .args .lines .now) l, l, p .1))
+call-requires c κs = search needs
 
 same-length : tie.Need-same-length
 same-length c = search needs

@@ -1,7 +1,7 @@
 -- `run` is safe and ends: each part lies inside the bytes and behind the one before it.
 use native.Mathlib.Omega.{arith}
 use borrow.Author.Needs.{needs}
-use Prim.Native.Nat.{_-_, _≤_, _<_}
+use Prim.Native.Nat.{_-_, _≤_}
 use mathlib.Core.Path.{_≡_}
 use mathlib.Core.Logic.{⊎-elim}
 use lib.ListN.{length}
@@ -13,7 +13,7 @@ use Rattle.test_writes.proofs.run.Tie as tie
 
 abbrev Inv-loop : tie.InvT-loop
 Inv-loop file work₀ at₀ map-from₀ map-to₀ work at map-from map-to =
-    (at ≤ length file) × (length work ≡ length work₀) × (length work₀ < 1_000_000) × (map-from ≤ map-to) × (map-to ≤ length file)
+    (at ≤ length file) × (length work ≡ length work₀) × (map-from ≤ map-to) × (map-to ≤ length file)
 
 abbrev μ-loop : tie.MeasureT-loop
 μ-loop file work₀ at₀ map-from₀ map-to₀ work at map-from map-to = length file - at
@@ -36,7 +36,7 @@ mapped : (c : tie.After-row-known2 Inv-loop μ-loop) →
     (c .before .before .if1 .map-from ≤ c .before .before .if1 .map-to) × (c .before .before .if1 .map-to ≤ length (now (c .before .before .before .before .before .before .before .before .before .before .before .before .before .before .before .before .before .before .before .before .args .file)))
 mapped c =
     let v = c .before .before .before .before .before .before .before .before .before .before .before .before .before .before .before .before .before .loop .inv in
-    ⊎-elim (λ w. omega (arith, first (c .before .before .before .before .before))) (λ w. omega (arith, v .3, v .4)) (c .before .before .if1 .came)
+    ⊎-elim (λ w. omega (arith, first (c .before .before .before .before .before))) (λ w. omega (arith, v .2, v .3)) (c .before .before .if1 .came)
 
 loop-holds : tie.Need-loop-holds Inv-loop μ-loop
 loop-holds c = search needs
@@ -126,7 +126,7 @@ part-run-parts-end-3 : tie.Need-part-run-parts-end-3 Inv-loop μ-loop
 part-run-parts-end-3 c = omega (arith, third (c .before .before .before .before .before .before .before))
 
 run-parts-requires : tie.Need-run-parts-requires Inv-loop μ-loop
-run-parts-requires c κs = let v = c .before .before .before .before .before .before .before .before .before .before .before .before .before .before .before .before .before .before .before .before .before .loop .inv in omega (arith, v .1, v .2)
+run-parts-requires c κs = search needs
 
 loop-less : tie.Need-loop-less Inv-loop μ-loop
 loop-less c = let d = c .before .before .before .before .before .before .before .before .before .before .before .before in omega (arith, first d, second d, third d)
@@ -136,7 +136,7 @@ loop-again c =
     let v = c .before .before .before .before .before .before .before .before .before .before .before .before .before .before .before .before .before .before .before .before .before .before .before .before .loop .inv in
     let p = mapped (c .before .before .before .before .before .before .before) in
     let k = c .before .before .run-parts .kept in
-    (omega (arith, third (c .before .before .before .before .before .before .before .before .before .before .before .before)), omega (arith, k .1 .1 .1 .0, v .1), v .2, p .0, p .1)
+    (omega (arith, third (c .before .before .before .before .before .before .before .before .before .before .before .before)), omega (arith, k .1 .1 .1 .0, v .1), p .0, p .1)
 
 pub run-spec : {M : Type 1} → statement M
 run-spec =
