@@ -11,7 +11,7 @@ use lib.Seq.{sets}
 use lib.Dec.{eqb, lit<}
 use borrow.Author.Tests.{eq-eqb, ne-eqb}
 use Rattle.model.specs.declared.Refusal.the-variants.{MapCoordinate, MapLine}
-use Rattle.model.specs.Refusal.{numberOf, refusalOf}
+use Rattle.model.specs.Refusal.{row, refusalOf}
 use Rattle.model.specs.Map.{Line, MapAnswer, refused, field, readNode, readLine}
 use Rattle.depot_map.specs.Held.{linePlace, heldNode, lineFrom, heldLine}
 use Rattle.depot_map.specs.Step.{goOn, FieldRead, NodeRead, readAttributes, heldAttributes, AttributesRead, LineRead}
@@ -28,7 +28,7 @@ pub node-read : {bytes : List ℕ} {from lon after lat next : ℕ} {w v : List �
     FieldRead bytes from 0 35_999_998 MapCoordinate r₁ → r₁ ≡ Read.Got lon after →
     FieldRead bytes after 0 18_000_000 MapCoordinate r₂ → r₂ ≡ Read.Got lat next →
     2 * i + 2 ≤ length w → v ≡ sets w (2 * i) (lon ∷ lat ∷ []) → NodeRead bytes from i w v (Read.Got lat next)
-unfolding readNode heldNode numberOf refusalOf
+unfolding readNode heldNode refusalOf
 node-read {bytes} {lon = lon} {lat = lat} {w = w} i f₁ e₁ f₂ e₂ fits put =
     let s = stored (lon ∷ lat ∷ []) w (2 * i) fits put in
     step-read bytes _ (λ rest. field-on f₁ e₁ _ ∙ field-on f₂ e₂ _) (node-path (stored-first (2 * i) s) (s .held 1 (lit< tt))) (s .kept)
@@ -42,7 +42,7 @@ pub attributes-read : {bytes : List ℕ} {from len n₁ frc n₂ fow n₃ out n�
     FieldRead bytes n₃ 0 359 MapLine r₄ → r₄ ≡ Read.Got out n₄ →
     FieldRead bytes n₄ 0 359 MapLine r₅ → r₅ ≡ Read.Got back n₅ →
     at + 7 ≤ length w → v ≡ sets w (at + 2) (len ∷ frc ∷ fow ∷ out ∷ back ∷ []) → AttributesRead bytes from at w v (Read.Got back n₅)
-unfolding readAttributes heldAttributes numberOf refusalOf
+unfolding readAttributes heldAttributes refusalOf
 attributes-read {bytes} {len = len} {frc = frc} {fow = fow} {out = out} {back = back} {w = w} {v = v} at f₁ e₁ f₂ e₂ f₃ e₃ f₄ e₄ f₅ e₅ fits put =
     let s = stored (len ∷ frc ∷ fow ∷ out ∷ back ∷ []) w (at + 2) (omega arith) put in
     let f : (k : ℕ) → k < 5 → getD v (at + (2 + k)) 0 ≡ getD (len ∷ frc ∷ fow ∷ out ∷ back ∷ []) k 0 = λ k h. rw (add-assoc at 2 k) at (s .held k h) in
@@ -53,10 +53,10 @@ attributes-read {bytes} {len = len} {frc = frc} {fow = fow} {out = out} {back = 
 -- ---- a line
 
 module _ (a b : ℕ) (x : MapAnswer) where
-  equal-ends : a ≡ b → elim (eqb a b) [ true ↦ refused 5 | false ↦ x ] ≡ refused 5
+  equal-ends : a ≡ b → elim (eqb a b) [ true ↦ refused (row 5) | false ↦ x ] ≡ refused (row 5)
   equal-ends h = rw (eq-eqb a b h)
 
-  other-ends : a ≢ b → elim (eqb a b) [ true ↦ refused 5 | false ↦ x ] ≡ x
+  other-ends : a ≢ b → elim (eqb a b) [ true ↦ refused (row 5) | false ↦ x ] ≡ x
   other-ends h = rw (ne-eqb a b h)
 
 -- Its two ends have been read.
@@ -64,12 +64,12 @@ module _ {bytes : List ℕ} {from last start after end next : ℕ} (i : ℕ) {w 
     (f₁ : FieldRead bytes from 0 last MapLine r₁) (e₁ : r₁ ≡ Read.Got start after)
     (f₂ : FieldRead bytes after 0 last MapLine r₂) (e₂ : r₂ ≡ Read.Got end next) where
   pub line-equal : start ≡ end → LineRead bytes from last i w w (Read.Refused MapLine)
-  unfolding readLine numberOf refusalOf
+  unfolding readLine refusalOf
   line-equal h = step-refused bytes refl (λ rest. field-on f₁ e₁ _ ∙ field-on f₂ e₂ _ ∙ equal-ends _ _ _ h)
 
   pub line-read : {v u : List ℕ} {r : Read} → start ≢ end → linePlace i + 2 ≤ length w → AttributesRead bytes next (linePlace i) v u r →
       v ≡ sets w (linePlace i) (start ∷ end ∷ []) → LineRead bytes from last i w u r
-  unfolding readLine readAttributes heldAttributes heldLine lineFrom numberOf refusalOf
+  unfolding readLine readAttributes heldAttributes heldLine lineFrom refusalOf
   line-read {r = r} h fits attributes put =
       let s = stored (start ∷ end ∷ []) w (linePlace i) fits put in
       let k = attributes .kept in

@@ -6,7 +6,7 @@ use mathlib.Core.List.{List, [], _∷_, _++_}
 use native.Mathlib.Omega.{arith}
 use lib.ListN.{length, drop}
 use Rattle.model.specs.declared.Refusal.{Refusal}
-use Rattle.model.specs.Refusal.{numberOf, refusalOf}
+use Rattle.model.specs.Refusal.{refusalOf}
 use Rattle.model.specs.Map.{Node, Line, MapAnswer, whole, refused, ended, readLine, decodeLines, decodeNodes, decode, clash, greatestNodeCount, greatestLineCount}
 use Rattle.depot_map.specs.Area.{Kept}
 use Rattle.depot_map.specs.Held.{linesFrom, codesFrom, codesTo, listed, heldNode, heldNodes, heldLines}
@@ -25,7 +25,7 @@ use Rattle.depot_map.specs.declared.MapRead.the-variants as MapRead
 
 -- ---- any stage
 
-pub stage-refused : {S : MapAnswer} {low : ℕ} {w v : List ℕ} {why : Refusal} → S ≡ refused (numberOf (refusalOf why)) → Kept low codesTo w v →
+pub stage-refused : {S : MapAnswer} {low : ℕ} {w v : List ℕ} {why : Refusal} → S ≡ refused (refusalOf why) → Kept low codesTo w v →
     Stage S low w v (MapRead.Refused why)
 unfolding answered
 stage-refused e kept = record { right = e; kept = kept }

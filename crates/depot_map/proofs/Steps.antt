@@ -5,7 +5,7 @@ use mathlib.Core.List.{List}
 use lib.ListN.{drop}
 use borrow.Author.Tests.{le-leb, lt-leb}
 use Rattle.model.specs.declared.Refusal.{Refusal}
-use Rattle.model.specs.Refusal.{numberOf, refusalOf}
+use Rattle.model.specs.Refusal.{Refused, row, refusalOf}
 use Rattle.model.specs.Number.{got, faulty, number}
 use Rattle.model.specs.Map.{MapAnswer, refused, field}
 use Rattle.depot_map.specs.Step.{goOn, FieldRead, StepRead}
@@ -14,8 +14,8 @@ use Rattle.depot_map.proofs.Kept.{kept-none}
 use Rattle.depot_map.specs.Area.{Kept}
 use Rattle.depot_map.specs.declared.field.Read.the-variants as Read
 
-module _ (bs : List ℕ) (low high n : ℕ) (rest : ℕ → List ℕ → MapAnswer) where
-  pub field-faulty : number bs ≡ faulty → field bs low high n rest ≡ refused 2
+module _ (bs : List ℕ) (low high : ℕ) (n : Refused) (rest : ℕ → List ℕ → MapAnswer) where
+  pub field-faulty : number bs ≡ faulty → field bs low high n rest ≡ refused (row 2)
   unfolding field
   field-faulty e = rw (field, e)
 
@@ -39,18 +39,18 @@ unfolding goOn
 on bytes e rest = ap (goOn bytes rest) e
 
 pub off : (bytes : List ℕ) {r : Read} {why : Refusal} → r ≡ Read.Refused why → (rest : ℕ → List ℕ → MapAnswer) →
-    goOn bytes rest r ≡ refused (numberOf (refusalOf why))
+    goOn bytes rest r ≡ refused (refusalOf why)
 unfolding goOn
 off bytes e rest = ap (goOn bytes rest) e
 
 -- The answer of the code's `field`, taken apart.
 module _ {bytes : List ℕ} {from low high : ℕ} {why : Refusal} {r : Read} (f : FieldRead bytes from low high why r) where
   pub field-on : {x next : ℕ} → r ≡ Read.Got x next → (rest : ℕ → List ℕ → MapAnswer) →
-      field (drop from bytes) low high (numberOf (refusalOf why)) rest ≡ rest x (drop next bytes)
+      field (drop from bytes) low high (refusalOf why) rest ≡ rest x (drop next bytes)
   field-on e rest = f .goes rest ∙ on bytes e rest
 
   pub field-off : {other : Refusal} → r ≡ Read.Refused other → (rest : ℕ → List ℕ → MapAnswer) →
-      field (drop from bytes) low high (numberOf (refusalOf why)) rest ≡ refused (numberOf (refusalOf other))
+      field (drop from bytes) low high (refusalOf why) rest ≡ refused (refusalOf other)
   field-off e rest = f .goes rest ∙ off bytes e rest
 
   pub field-range : {x next : ℕ} → r ≡ Read.Got x next → (low ≤ x) × (x ≤ high)
@@ -59,7 +59,7 @@ module _ {bytes : List ℕ} {from low high : ℕ} {why : Refusal} {r : Read} (f 
 -- A refused number is handed on; after the last number the step is done.
 module _ {A : Type 0} {step : (A → List ℕ → MapAnswer) → MapAnswer} {held : A} {low high : ℕ} {w : List ℕ} (bytes : List ℕ) where
   pub step-refused : {r : Read} {why : Refusal} → r ≡ Read.Refused why →
-      ((rest : A → List ℕ → MapAnswer) → step rest ≡ refused (numberOf (refusalOf why))) → StepRead step bytes held low high w w r
+      ((rest : A → List ℕ → MapAnswer) → step rest ≡ refused (refusalOf why)) → StepRead step bytes held low high w w r
   step-refused e goes = record { goes = λ rest. goes rest ∙ sym (off bytes e _); kept = kept-none }
 
   pub step-read : {v : List ℕ} {x next : ℕ} (thing : A) → ((rest : A → List ℕ → MapAnswer) → step rest ≡ rest thing (drop next bytes)) →

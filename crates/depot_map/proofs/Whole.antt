@@ -5,7 +5,7 @@ use mathlib.Core.List.{List}
 use native.Mathlib.Nat.{add-zero}
 use native.Mathlib.Omega.{arith}
 use lib.ListN.{length, getD}
-use Rattle.model.specs.Refusal.{numberOf, refusalOf}
+use Rattle.model.specs.Refusal.{refusalOf}
 use Rattle.model.specs.declared.Refusal.{Refusal}
 use Rattle.model.specs.Map.{Node, Line, Map, whole, refused, decode}
 use Rattle.model.specs.Lines.{nodeAt, lineAt}
@@ -71,6 +71,6 @@ module _ {bytes w v : List ℕ} {r : MapRead} (a : MapIsRead bytes w v r) where
   unfolding Answers
   read-whole e = subst (λ (q : MapRead). Answers bytes v q) e (a .answers)
 
-  pub read-refused : {why : Refusal} → r ≡ Refused why → decode bytes ≡ refused (numberOf (refusalOf why))
+  pub read-refused : {why : Refusal} → r ≡ Refused why → decode bytes ≡ refused (refusalOf why)
   unfolding Answers
   read-refused e = subst (λ (q : MapRead). Answers bytes v q) e (a .answers)

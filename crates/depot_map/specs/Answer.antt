@@ -2,7 +2,7 @@
 use Prim.Native.Nat.{ℕ}
 use mathlib.Core.Path.{_≡_}
 use mathlib.Core.List.{List}
-use Rattle.model.specs.Refusal.{numberOf, refusalOf}
+use Rattle.model.specs.Refusal.{refusalOf}
 use Rattle.model.specs.Map.{Map, whole, refused, decode}
 use Rattle.depot_map.specs.Area.{Holds, Kept}
 use Rattle.depot_map.specs.declared.MapRead.{MapRead}
@@ -16,7 +16,7 @@ pub record WholeMap (bytes v : List ℕ) (nodes lines : ℕ) : Type 0 where
 
 unfoldable pub Answers : List ℕ → List ℕ → MapRead → Type 0
 Answers bytes v (Whole nodes lines) = WholeMap bytes v nodes lines
-Answers bytes v (Refused why) = decode bytes ≡ refused (numberOf (refusalOf why))
+Answers bytes v (Refused why) = decode bytes ≡ refused (refusalOf why)
 
 -- The work area was `w` and is `v`: after a refusal too, only its first 10,240 numbers are changed.
 pub record MapIsRead (bytes w v : List ℕ) (r : MapRead) : Type 0 where

@@ -2,7 +2,7 @@
 use Prim.Native.Nat.{ℕ}
 use mathlib.Core.Path.{_≡_}
 use mathlib.Core.List.{List}
-use Rattle.model.specs.Refusal.{numberOf, refusalOf}
+use Rattle.model.specs.Refusal.{refusalOf}
 use Rattle.model.specs.Map.{MapAnswer, whole, refused}
 use Rattle.depot_map.specs.Area.{Kept}
 use Rattle.depot_map.specs.Held.{codesTo, heldNodes, heldLines}
@@ -12,7 +12,7 @@ use Rattle.depot_map.specs.declared.MapRead.the-variants.{Whole, Refused
 -- An answer with the work area that it leaves.
 unfoldable pub answered : List ℕ → MapRead → MapAnswer
 answered w (Whole nodes lines) = whole (record { nodes = heldNodes w nodes; lines = heldLines w lines })
-answered w (Refused why) = refused (numberOf (refusalOf why))
+answered w (Refused why) = refused (refusalOf why)
 
 -- The stage is defined to be `stage`. The work area was `w` and is `v`.
 pub record Stage (stage : MapAnswer) (low : ℕ) (w v : List ℕ) (r : MapRead) : Type 0 where

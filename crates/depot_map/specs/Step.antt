@@ -4,7 +4,7 @@ use mathlib.Core.Path.{_≡_}
 use mathlib.Core.List.{List}
 use lib.ListN.{getD, drop}
 use Rattle.model.specs.declared.Refusal.{Refusal}
-use Rattle.model.specs.Refusal.{numberOf, refusalOf}
+use Rattle.model.specs.Refusal.{row, refusalOf}
 use Rattle.model.specs.Map.{greatestLineLength, MapAnswer, refused, field, readNode, readLine}
 use Rattle.depot_map.specs.Area.{Kept}
 use Rattle.depot_map.specs.Held.{linePlace, heldNode, heldLine}
@@ -14,14 +14,14 @@ use Rattle.depot_map.specs.declared.field.Read.the-variants as Read
 -- How reading goes on after an answer: by `rest` from the position that it gives, or not at all.
 unfoldable pub goOn : List ℕ → (ℕ → List ℕ → MapAnswer) → Read → MapAnswer
 goOn bytes rest (Read.Got x next) = rest x (drop next bytes)
-goOn bytes rest (Read.Refused why) = refused (numberOf (refusalOf why))
+goOn bytes rest (Read.Refused why) = refused (refusalOf why)
 
 abbrev pub Within : ℕ → ℕ → Read → Type 0
 Within low high (Read.Got x next) = (low ≤ x) × (x ≤ high)
 Within low high (Read.Refused why) = Unit {0}
 
 pub record FieldRead (bytes : List ℕ) (from low high : ℕ) (why : Refusal) (r : Read) : Type 0 where
-  pub goes : (rest : ℕ → List ℕ → MapAnswer) → field (drop from bytes) low high (numberOf (refusalOf why)) rest ≡ goOn bytes rest r
+  pub goes : (rest : ℕ → List ℕ → MapAnswer) → field (drop from bytes) low high (refusalOf why) rest ≡ goOn bytes rest r
   pub within : Within low high r
 
 -- A node, a line or a part of one, put into the work area, which was `w` and is `v`: what `step` reads is `held` there, and only the
@@ -44,11 +44,11 @@ pub record Attributes : Type 0 where
 
 unfoldable pub readAttributes : List ℕ → (Attributes → List ℕ → MapAnswer) → MapAnswer
 readAttributes bs rest =
-    field bs 1 greatestLineLength 5 λ len bs₁.
-    field bs₁ 0 7 5 λ frc bs₂.
-    field bs₂ 0 7 5 λ fow bs₃.
-    field bs₃ 0 359 5 λ out bs₄.
-    field bs₄ 0 359 5 λ back bs₅.
+    field bs 1 greatestLineLength (row 5) λ len bs₁.
+    field bs₁ 0 7 (row 5) λ frc bs₂.
+    field bs₂ 0 7 (row 5) λ fow bs₃.
+    field bs₃ 0 359 (row 5) λ out bs₄.
+    field bs₄ 0 359 (row 5) λ back bs₅.
     rest (record { length = len; frc = frc; fow = fow; out = out; back = back }) bs₅
 
 unfoldable pub heldAttributes : List ℕ → ℕ → Attributes

@@ -17,7 +17,7 @@ use Rattle.model.specs.declared.WriteAnswer.the-variants as writer
 
 unfoldable pub refusedBy : MapAnswer → ℕ
 refusedBy (whole m) = 0
-refusedBy (MapAnswer.refused n) = n
+refusedBy (MapAnswer.refused r) = numberOf r
 
 unfoldable pub mapRefusal : ℕ → List ℕ → ℕ
 mapRefusal work bytes = cond (ltb work workLength) 1 (refusedBy (decode bytes))

@@ -8,6 +8,7 @@ use native.Mathlib.Omega.{arith}
 use lib.ListN.{length, length-append}
 use lib.Dec.{leb, eqb}
 use borrow.Author.Tests.{leb-true, eqb-false}
+use Rattle.model.specs.Refusal.{Refused, row}
 use Rattle.model.specs.Number.{Number, got, faulty, number}
 use Rattle.model.specs.Map.{Node, Line, Map, greatestNodeCount, greatestLineCount, MapAnswer, whole, refused, field, clash, ended, readLine, decodeLines, readNode, decodeNodes, decode}
 use Rattle.model.specs.Lines.{lineAt, nodeAt}
@@ -15,11 +16,11 @@ use Rattle.model.specs.WellFormed.{NodeOk, LineOk, WellFormed}
 use Rattle.model.proofs.Tests.{both}
 use Rattle.model.proofs.Every.{Every, none, also, every-append, every-at}
 
-not-whole : {n : ℕ} {m : Map} → refused n ≡ whole m → ⊥
+not-whole : {n : Refused} {m : Map} → refused n ≡ whole m → ⊥
 not-whole e = let z : _≡_ {A = ℕ} 0 1 = cc in omega arith
 
 -- A number that was read lies in its range.
-module _ {m : Map} {low high : ℕ} (n : ℕ) {rest : ℕ → List ℕ → MapAnswer} {G : Type 0}
+module _ {m : Map} {low high : ℕ} (n : Refused) {rest : ℕ → List ℕ → MapAnswer} {G : Type 0}
     (then : (x : ℕ) (after : List ℕ) → low ≤ x → x ≤ high → rest x after ≡ whole m → G) where
   ranged : (x : ℕ) (after : List ℕ) (t : Bool) → (leb low x && leb x high) ≡ t →
       elim t [ true ↦ rest x after | false ↦ refused n ] ≡ whole m → G
@@ -31,21 +32,21 @@ module _ {m : Map} {low high : ℕ} (n : ℕ) {rest : ℕ → List ℕ → MapAn
   numbered : (v : Number) →
       elim v [
         | got x after ↦ elim (leb low x && leb x high) [ true ↦ rest x after | false ↦ refused n ]
-        | faulty ↦ refused 2
+        | faulty ↦ refused (row 2)
       ] ≡ whole m → G
   numbered (got x after) e = ranged x after _ refl e
   numbered faulty e = absurd (not-whole e)
 
-next : {m : Map} {low high : ℕ} (n : ℕ) {rest : ℕ → List ℕ → MapAnswer} {G : Type 0} (bs : List ℕ) → field bs low high n rest ≡ whole m →
+next : {m : Map} {low high : ℕ} (n : Refused) {rest : ℕ → List ℕ → MapAnswer} {G : Type 0} (bs : List ℕ) → field bs low high n rest ≡ whole m →
     ((x : ℕ) (after : List ℕ) → low ≤ x → x ≤ high → rest x after ≡ whole m → G) → G
 unfolding field
 next n bs e then = numbered n then (number bs) e
 
-ends-differ : {m : Map} {G : Type 0} (a b : ℕ) (rest : MapAnswer) → elim (eqb a b) [ true ↦ refused 5 | false ↦ rest ] ≡ whole m →
+ends-differ : {m : Map} {G : Type 0} (a b : ℕ) (rest : MapAnswer) → elim (eqb a b) [ true ↦ refused (row 5) | false ↦ rest ] ≡ whole m →
     (a ≢ b → rest ≡ whole m → G) → G
 ends-differ {m} {G} a b rest e then = go (eqb a b) refl e
   where
-    go : (t : Bool) → eqb a b ≡ t → elim t [ true ↦ refused 5 | false ↦ rest ] ≡ whole m → G
+    go : (t : Bool) → eqb a b ≡ t → elim t [ true ↦ refused (row 5) | false ↦ rest ] ≡ whole m → G
     go true t e = absurd (not-whole e)
     go false t e = then (eqb-false a b t) e
 
@@ -54,22 +55,22 @@ next-node : {m : Map} {rest : Node → List ℕ → MapAnswer} {G : Type 0} (bs 
     ((a : Node) (after : List ℕ) → NodeOk a → rest a after ≡ whole m → G) → G
 unfolding readNode
 next-node bs e then =
-    next 4 bs e λ lon bs₁ _ lon≤ e₁.
-    next 4 bs₁ e₁ λ lat bs₂ _ lat≤ e₂.
+    next (row 4) bs e λ lon bs₁ _ lon≤ e₁.
+    next (row 4) bs₁ e₁ λ lat bs₂ _ lat≤ e₂.
     then _ bs₂ (record { lon = lon≤; lat = lat≤ }) e₂
 
 next-line : {m : Map} {rest : Line → List ℕ → MapAnswer} {G : Type 0} (nodes : ℕ) (bs : List ℕ) → 1 ≤ nodes →
     readLine (nodes - 1) bs rest ≡ whole m → ((l : Line) (after : List ℕ) → LineOk nodes l → rest l after ≡ whole m → G) → G
 unfolding readLine
 next-line nodes bs some e then =
-    next 5 bs e λ start bs₁ _ start≤ e₁.
-    next 5 bs₁ e₁ λ end bs₂ _ end≤ e₂.
+    next (row 5) bs e λ start bs₁ _ start≤ e₁.
+    next (row 5) bs₁ e₁ λ end bs₂ _ end≤ e₂.
     ends-differ start end _ e₂ λ differ e₂′.
-    next 5 bs₂ e₂′ λ len bs₃ long len≤ e₃.
-    next 5 bs₃ e₃ λ frc bs₄ _ frc≤ e₄.
-    next 5 bs₄ e₄ λ fow bs₅ _ fow≤ e₅.
-    next 5 bs₅ e₅ λ out bs₆ _ out≤ e₆.
-    next 5 bs₆ e₆ λ back bs₇ _ back≤ e₇.
+    next (row 5) bs₂ e₂′ λ len bs₃ long len≤ e₃.
+    next (row 5) bs₃ e₃ λ frc bs₄ _ frc≤ e₄.
+    next (row 5) bs₄ e₄ λ fow bs₅ _ fow≤ e₅.
+    next (row 5) bs₅ e₅ λ out bs₆ _ out≤ e₆.
+    next (row 5) bs₆ e₆ λ back bs₇ _ back≤ e₇.
     then _ bs₇
     (record {
       start = omega arith;
@@ -94,7 +95,7 @@ ended-whole : {m : Map} (bs : List ℕ) (nodes : List Node) (lines : List Line) 
 unfolding ended lineAt nodeAt
 ended-whole {m} [] nodes lines a b one few e = go (clash nodes) refl e
   where
-    go : (t : Bool) → clash nodes ≡ t → cond t (refused 6) (whole (record { nodes = nodes; lines = lines })) ≡ whole m → WellFormed m
+    go : (t : Bool) → clash nodes ≡ t → cond t (refused (row 6)) (whole (record { nodes = nodes; lines = lines })) ≡ whole m → WellFormed m
     go true t e = absurd (not-whole e)
     go false t e =
         let made : Map = record { nodes = nodes; lines = lines } in
@@ -124,7 +125,7 @@ nodes-whole : {m : Map} (left : ℕ) (bs : List ℕ) (nodes : List Node) → 2 �
     Every NodeOk nodes → decodeNodes left bs nodes ≡ whole m → WellFormed m
 unfolding decodeNodes
 nodes-whole zero bs nodes two few a e =
-    next 3 bs e λ count bs₁ low high e₁.
+    next (row 3) bs e λ count bs₁ low high e₁.
     lines-whole count bs₁ nodes [] (record { ok = a; two = omega arith; few = omega arith }) none (omega arith) (omega arith) e₁
 nodes-whole (suc left) bs nodes two few a e =
     next-node bs e λ x after ok e′.
@@ -133,4 +134,4 @@ nodes-whole (suc left) bs nodes two few a e =
 
 pub well-formed : (m : Map) (mb : List ℕ) → decode mb ≡ whole m → WellFormed m
 unfolding decode
-well-formed m mb e = next 3 mb e λ count bs low high e₁. nodes-whole count bs [] (omega arith) (omega arith) none e₁
+well-formed m mb e = next (row 3) mb e λ count bs low high e₁. nodes-whole count bs [] (omega arith) (omega arith) none e₁

@@ -14,7 +14,6 @@ pub mod Parsed
 pub mod Points
 pub mod Composed
 pub mod Outcomes
-pub mod Rows
 pub mod Cleared
 pub mod Once
 pub mod Calls

@@ -10,6 +10,7 @@ use lib.ListN.{length, getD, drop, drop-of-length-le}
 use lib.Dec.{ltb, leb, eqb}
 use lib.Seq.{drop-cons}
 use borrow.Author.Tests.{ltb-false, leb-false, eqb-true}
+use Rattle.model.specs.Refusal.{Refused, row}
 use Rattle.model.specs.Reference.{Reference, statusByte, shortestReference, longestReference, bytes2, bytes3, byteP, byteQ, flag, byteR, pointBytes, offsetBytes, bytesOf, at2, at3, attributes, pointAt, pointsAt, positive, negative, offsetAt, pointCount, referenceAt, spareBits, flags, ParseAnswer, parsed, parse}
 use Rattle.model.proofs.Tests.{neither}
 use Rattle.model.proofs.Every.{Every, none, also, Byte, byte-at}
@@ -153,14 +154,14 @@ record Accepted (bs : List ℕ) (r : Reference) : Type 0 where
   flagged : (length bs - shortestReference) % 7 ≡ flags (getD bs (8 + 7 * pointCount bs) 0)
   same : referenceAt bs (pointCount bs) ≡ r
 
-not-parsed : {n : ℕ} {r : Reference} → ParseAnswer.refused n ≡ parsed r → ⊥
+not-parsed : {n : Refused} {r : Reference} → ParseAnswer.refused n ≡ parsed r → ⊥
 not-parsed e = let z : _≡_ {A = ℕ} 0 1 = cc in omega arith
 
-passed : (t : Bool) (n : ℕ) {rest : ParseAnswer} {r : Reference} → cond t (ParseAnswer.refused n) rest ≡ parsed r → (t ≡ false) × (rest ≡ parsed r)
+passed : (t : Bool) (n : Refused) {rest : ParseAnswer} {r : Reference} → cond t (ParseAnswer.refused n) rest ≡ parsed r → (t ≡ false) × (rest ≡ parsed r)
 passed true n e = absurd (not-parsed e)
 passed false n e = (refl, e)
 
-held : (t : Bool) (n : ℕ) {rest : ParseAnswer} {r : Reference} → cond t rest (ParseAnswer.refused n) ≡ parsed r → (t ≡ true) × (rest ≡ parsed r)
+held : (t : Bool) (n : Refused) {rest : ParseAnswer} {r : Reference} → cond t rest (ParseAnswer.refused n) ≡ parsed r → (t ≡ true) × (rest ≡ parsed r)
 held true n e = (refl, e)
 held false n e = absurd (not-parsed e)
 
@@ -168,10 +169,10 @@ accepted : (bs : List ℕ) (r : Reference) → parse bs ≡ parsed r → Accepte
 unfolding parse
 accepted bs r e =
     let n = length bs in
-    let r₁₂ = passed (ltb n shortestReference || ltb longestReference n || ltb 2 ((n - shortestReference) % 7)) 12 e in
-    let r₁₃ = held (eqb (getD bs 0 0) statusByte) 13 (r₁₂ .1) in
-    let r₁₄ = passed (spareBits bs 7 (pointCount bs)) 14 (r₁₃ .1) in
-    let r₁₅ = held (eqb ((n - shortestReference) % 7) (flags (getD bs (8 + 7 * pointCount bs) 0))) 15 (r₁₄ .1) in
+    let r₁₂ = passed (ltb n shortestReference || ltb longestReference n || ltb 2 ((n - shortestReference) % 7)) (row 12) e in
+    let r₁₃ = held (eqb (getD bs 0 0) statusByte) (row 13) (r₁₂ .1) in
+    let r₁₄ = passed (spareBits bs 7 (pointCount bs)) (row 14) (r₁₃ .1) in
+    let r₁₅ = held (eqb ((n - shortestReference) % 7) (flags (getD bs (8 + 7 * pointCount bs) 0))) (row 15) (r₁₄ .1) in
     let sizes = neither (ltb n shortestReference || ltb longestReference n) (ltb 2 ((n - shortestReference) % 7)) (r₁₂ .0) in
     let ends = neither (ltb n shortestReference) (ltb longestReference n) (sizes .0) in
     record {

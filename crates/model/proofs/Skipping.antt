@@ -7,6 +7,7 @@ use native.Mathlib.Omega.{arith}
 use lib.ListN.{length, length-append, length-reverse}
 use lib.Dec.{leb, ltb, eqb}
 use borrow.Author.Tests.{leb-true, leb-false, ltb-false, eqb-true, eq-eqb}
+use Rattle.model.specs.Refusal.{Refused, row}
 use Rattle.model.specs.Map.{Map}
 use Rattle.model.specs.Lines.{lineAt, total, firstOf, lastOf}
 use Rattle.model.specs.Stretch.{Stretch, greatestStretch, unknown, gap, Skipped, skip, remaining, StretchAnswer, remains, checkStretch}
@@ -133,7 +134,7 @@ module _ (m : Map) (s : Stretch) (below : s .pos + s .neg < total m (s .lines)) 
       skipped _ _ front (skips m (s .neg) _ (rw total-reverse (omega (arith, front .sum))))
 
 -- A stretch that is not refused.
-passed : (t : Bool) (n : ℕ) {rest : StretchAnswer} {r : Stretch} → cond t (StretchAnswer.refused n) rest ≡ remains r →
+passed : (t : Bool) (n : Refused) {rest : StretchAnswer} {r : Stretch} → cond t (StretchAnswer.refused n) rest ≡ remains r →
     (t ≡ false) × (rest ≡ remains r)
 passed true n e = absurd (let z : _≡_ {A = ℕ} 0 1 = cc in omega arith)
 passed false n e = (refl, e)
@@ -142,9 +143,9 @@ pub taken : (m : Map) (s r : Stretch) → checkStretch m s ≡ remains r → (r 
 unfolding checkStretch
 taken m s r e =
     let count = length (s .lines) in
-    let r₇ = passed (eqb count 0 || ltb greatestStretch count || unknown m (s .lines)) 7 e in
-    let r₈ = passed (gap m (s .lines)) 8 (r₇ .1) in
-    let r₉ = passed (leb (total m (s .lines)) (s .pos + s .neg)) 9 (r₈ .1) in
+    let r₇ = passed (eqb count 0 || ltb greatestStretch count || unknown m (s .lines)) (row 7) e in
+    let r₈ = passed (gap m (s .lines)) (row 8) (r₇ .1) in
+    let r₉ = passed (leb (total m (s .lines)) (s .pos + s .neg)) (row 9) (r₈ .1) in
     let many = neither (eqb count 0 || ltb greatestStretch count) (unknown m (s .lines)) (r₇ .0) in
     let few : count ≤ greatestStretch = ltb-false _ _ (neither (eqb count 0) (ltb greatestStretch count) (many .0) .1) in
     let same : remaining m s ≡ r = cc (r₉ .1) in

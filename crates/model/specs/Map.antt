@@ -6,6 +6,7 @@ use lib.ListN.{length}
 use lib.Dec.{leb, eqb}
 use Rattle.model.specs.Number.{got, faulty, number}
 use Rattle.model.specs.Field.{code}
+use Rattle.model.specs.Refusal.{Refused, row}
 
 -- Coordinates as the map stores them, in hundred-thousandths of a degree: longitude + 18,000,000, latitude + 9,000,000.
 pub record Node : Type 0 where
@@ -39,14 +40,14 @@ greatestLineLength = 150_000
 -- What some map bytes are: a map, or refused with a number of the table.
 pub data MapAnswer : Type 0 where
   whole : Map → MapAnswer
-  refused : ℕ → MapAnswer
+  refused : Refused → MapAnswer
 
 -- The next number, held to the range `low` to `high`, whose refusal is `n`; then `rest`.
-unfoldable pub field : List ℕ → ℕ → ℕ → ℕ → (ℕ → List ℕ → MapAnswer) → MapAnswer
+unfoldable pub field : List ℕ → ℕ → ℕ → Refused → (ℕ → List ℕ → MapAnswer) → MapAnswer
 field bs low high n rest =
     elim (number bs) [
       | got x after ↦ elim (leb low x && leb x high) [ true ↦ rest x after | false ↦ refused n ]
-      | faulty ↦ refused 2
+      | faulty ↦ refused (row 2)
     ]
 
 -- The codes of a node as 24 bits ("The bytes", "Code of a coordinate").
@@ -70,22 +71,22 @@ clash (a ∷ rest) = among a rest || clash rest
 
 -- All numbers read: "left-over bytes come last", and then refusal 6.
 unfoldable pub ended : List ℕ → List Node → List Line → MapAnswer
-ended [] nodes lines = cond (clash nodes) (refused 6) (whole (record { nodes = nodes; lines = lines }))
-ended (b ∷ bs) nodes lines = refused 2
+ended [] nodes lines = cond (clash nodes) (refused (row 6)) (whole (record { nodes = nodes; lines = lines }))
+ended (b ∷ bs) nodes lines = refused (row 2)
 
 -- One line: its seven numbers, the node numbers up to `last`; then `rest`. "Equal ends are a fault of the end node's number."
 unfoldable pub readLine : ℕ → List ℕ → (Line → List ℕ → MapAnswer) → MapAnswer
 readLine last bs rest =
-    field bs 0 last 5 λ start bs₁.
-    field bs₁ 0 last 5 λ end bs₂.
+    field bs 0 last (row 5) λ start bs₁.
+    field bs₁ 0 last (row 5) λ end bs₂.
     elim (eqb start end) [
-      | true ↦ refused 5
+      | true ↦ refused (row 5)
       | false ↦
-          field bs₂ 1 greatestLineLength 5 λ len bs₃.
-          field bs₃ 0 7 5 λ frc bs₄.
-          field bs₄ 0 7 5 λ fow bs₅.
-          field bs₅ 0 359 5 λ out bs₆.
-          field bs₆ 0 359 5 λ back bs₇.
+          field bs₂ 1 greatestLineLength (row 5) λ len bs₃.
+          field bs₃ 0 7 (row 5) λ frc bs₄.
+          field bs₄ 0 7 (row 5) λ fow bs₅.
+          field bs₅ 0 359 (row 5) λ out bs₆.
+          field bs₆ 0 359 (row 5) λ back bs₇.
           rest (record { start = start; end = end; length = len; frc = frc; fow = fow; out = out; back = back }) bs₇
     ]
 
@@ -98,15 +99,15 @@ decodeLines (suc left) bs nodes lines =
 -- One node: its two numbers; then `rest`. "Longitude -18,000,000 to 17,999,998, latitude -9,000,000 to 9,000,000."
 unfoldable pub readNode : List ℕ → (Node → List ℕ → MapAnswer) → MapAnswer
 readNode bs rest =
-    field bs 0 35_999_998 4 λ lon bs₁.
-    field bs₁ 0 18_000_000 4 λ lat bs₂.
+    field bs 0 35_999_998 (row 4) λ lon bs₁.
+    field bs₁ 0 18_000_000 (row 4) λ lat bs₂.
     rest (record { lon = lon; lat = lat }) bs₂
 
 -- `left` nodes more, after the nodes read so far; then the lines.
 unfoldable pub decodeNodes : ℕ → List ℕ → List Node → MapAnswer
-decodeNodes zero bs nodes = field bs 1 greatestLineCount 3 λ count bs₁. decodeLines count bs₁ nodes []
+decodeNodes zero bs nodes = field bs 1 greatestLineCount (row 3) λ count bs₁. decodeLines count bs₁ nodes []
 decodeNodes (suc left) bs nodes = readNode bs λ node after. decodeNodes left after (nodes ++ node ∷ [])
 
 -- The whole map: "the first faulty number in the map decides".
 unfoldable pub decode : List ℕ → MapAnswer
-decode bs = field bs 2 greatestNodeCount 3 λ count bs₁. decodeNodes count bs₁ []
+decode bs = field bs 2 greatestNodeCount (row 3) λ count bs₁. decodeNodes count bs₁ []

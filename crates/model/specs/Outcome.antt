@@ -136,11 +136,11 @@ workLength = 12_288
 -- Row by row: the reference (12 to 15) after the map (2 to 6) after the work area (1).
 abbrev pub ReadParsed : Map → ParseAnswer → ℕ → ReadOutcome → Type 0
 ReadParsed m (parsed r) room o = ReadOn m r room o
-ReadParsed m (ParseAnswer.refused n) room o = o ≡ refused (row n)
+ReadParsed m (ParseAnswer.refused r) room o = o ≡ refused r
 
 abbrev pub ReadMap : MapAnswer → List ℕ → ℕ → ReadOutcome → Type 0
 ReadMap (whole m) ref room o = ReadParsed m (parse ref) room o
-ReadMap (MapAnswer.refused n) ref room o = o ≡ refused (row n)
+ReadMap (MapAnswer.refused r) ref room o = o ≡ refused r
 
 abbrev pub ReadWork : Bool → List ℕ → List ℕ → ℕ → ReadOutcome → Type 0
 ReadWork true mb ref room o = o ≡ refused (row 1)
@@ -166,11 +166,11 @@ pub data WriteOn (m : Map) (s : Stretch) (room : ℕ) : WriteOutcome → Type 0 
 -- Row by row: the stretch as given (7 to 9) after the map (2 to 6) after the work area (1).
 abbrev pub WriteStretch : Map → StretchAnswer → ℕ → WriteOutcome → Type 0
 WriteStretch m (remains s) room o = WriteOn m s room o
-WriteStretch m (StretchAnswer.refused n) room o = o ≡ refused (row n)
+WriteStretch m (StretchAnswer.refused r) room o = o ≡ refused r
 
 abbrev pub WriteMap : MapAnswer → Stretch → ℕ → WriteOutcome → Type 0
 WriteMap (whole m) s room o = WriteStretch m (checkStretch m s) room o
-WriteMap (MapAnswer.refused n) s room o = o ≡ refused (row n)
+WriteMap (MapAnswer.refused r) s room o = o ≡ refused r
 
 abbrev pub WriteWork : Bool → List ℕ → Stretch → ℕ → WriteOutcome → Type 0
 WriteWork true mb s room o = o ≡ refused (row 1)

@@ -6,6 +6,7 @@ use lib.ListN.{length, getD}
 use lib.Dec.{ltb, leb, eqb}
 use Rattle.model.specs.Lines.{LineAttributes}
 use Rattle.model.specs.Difference.{Difference}
+use Rattle.model.specs.Refusal.{Refused, row}
 
 -- An offset byte, "only if flagged".
 pub data Offset : Type 0 where
@@ -142,17 +143,17 @@ longestReference = 459
 
 pub data ParseAnswer : Type 0 where
   parsed : Reference → ParseAnswer
-  refused : ℕ → ParseAnswer
+  refused : Refused → ParseAnswer
 
 -- Bytes taken apart, or refused with 12 to 15.
 unfoldable pub parse : List ℕ → ParseAnswer
 parse bs =
     cond
     (ltb (length bs) shortestReference || ltb longestReference (length bs) || ltb 2 ((length bs - shortestReference) % 7))
-    (refused 12)
+    (refused (row 12))
     (cond (eqb (getD bs 0 0) statusByte)
-    (cond (spareBits bs 7 (pointCount bs)) (refused 14)
+    (cond (spareBits bs 7 (pointCount bs)) (refused (row 14))
     (cond (eqb ((length bs - shortestReference) % 7) (flags (getD bs (8 + 7 * pointCount bs) 0)))
     (parsed (referenceAt bs (pointCount bs)))
-    (refused 15)))
-    (refused 13))
+    (refused (row 15))))
+    (refused (row 13)))

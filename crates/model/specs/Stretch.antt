@@ -6,6 +6,7 @@ use lib.ListN.{length}
 use lib.Dec.{ltb, leb, eqb}
 use Rattle.model.specs.Map.{Map}
 use Rattle.model.specs.Lines.{lineAt, total}
+use Rattle.model.specs.Refusal.{Refused, row}
 
 -- Line numbers in order, and the positive and the negative offset in decimetres.
 pub record Stretch : Type 0 where
@@ -52,10 +53,10 @@ remaining m s =
 -- A stretch as given, refused with 7 to 9, or what remains of it.
 pub data StretchAnswer : Type 0 where
   remains : Stretch → StretchAnswer
-  refused : ℕ → StretchAnswer
+  refused : Refused → StretchAnswer
 
 unfoldable pub checkStretch : Map → Stretch → StretchAnswer
 checkStretch m s =
-    cond (eqb (length (s .lines)) 0 || ltb greatestStretch (length (s .lines)) || unknown m (s .lines)) (refused 7)
-    (cond (gap m (s .lines)) (refused 8)
-    (cond (leb (total m (s .lines)) (s .pos + s .neg)) (refused 9) (remains (remaining m s))))
+    cond (eqb (length (s .lines)) 0 || ltb greatestStretch (length (s .lines)) || unknown m (s .lines)) (refused (row 7))
+    (cond (gap m (s .lines)) (refused (row 8))
+    (cond (leb (total m (s .lines)) (s .pos + s .neg)) (refused (row 9)) (remains (remaining m s))))

@@ -12,7 +12,7 @@ use Rattle.model.specs.declared.Refusal.{Refusal}
 use Rattle.model.specs.declared.WriteAnswer.{WriteAnswer}
 use Rattle.model.specs.declared.WriteAnswer.the-variants.{Written, Refused}
 use Rattle.model.specs.Map.{Map, MapAnswer, whole, decode}
-use Rattle.model.specs.Refusal.{refusalOf}
+use Rattle.model.specs.Refusal.{row, refusalOf}
 use Rattle.model.specs.Stretch.{Stretch, StretchAnswer, checkStretch, greatestStretch}
 use Rattle.model.specs.Outcome.{WriteOutcome, written, workLength, WriteStretch, WriteMap, WriteWork, Writes}
 use Rattle.model.specs.Call.{bytesAfter, WriteAnswers, bytes, refusal, WriteAnswered}
@@ -23,7 +23,7 @@ use Rattle.openlr.specs.Host.{stretchLines}
 
 -- ---- long stretches
 
-over-long : (m : Map) (s : Stretch) → greatestStretch < length (s .lines) → checkStretch m s ≡ StretchAnswer.refused 7
+over-long : (m : Map) (s : Stretch) → greatestStretch < length (s .lines) → checkStretch m s ≡ StretchAnswer.refused (row 7)
 unfolding checkStretch
 over-long m s long = rw (ne-eqb (length (s .lines)) 0 (λ e. absurd (omega arith)), lt-ltb greatestStretch (length (s .lines)) long) refl
 

@@ -7,7 +7,7 @@ use lib.ListN.{length, take, drop}
 use lib.Seq.{take-at}
 use borrow.Author.Tests.{lt-ltb, le-ltb}
 use Rattle.model.specs.Map.{Map, MapAnswer, decode}
-use Rattle.model.specs.Refusal.{numberOf, refusalOf}
+use Rattle.model.specs.Refusal.{refusalOf}
 use Rattle.model.specs.Reference.{Reference, ParseAnswer, parse}
 use Rattle.model.specs.Reading.{Leg, joined}
 use Rattle.model.specs.Outcome.{located, no-node, locate, LegsRead, every, failed, ReadOutcome, read, ReadEnd, ReadOn, no-point, no-leg, every-leg, ReadParsed, ReadMap, workLength, Reads}
@@ -19,7 +19,6 @@ use Rattle.model.specs.declared.ReadAnswer.the-variants.{Read, Refused}
 use Rattle.model.proofs.Legs.{legs-same}
 use Rattle.model.proofs.Cleared.{cleared-short}
 use Rattle.model.proofs.Answering.{answered-by, refused-read}
-use Rattle.model.proofs.Rows.{row-of, map-row, form-row}
 use Rattle.reader.specs.declared.every_leg.Sums.{Sums}
 use Rattle.reader.specs.declared.every_leg.Legs.{Legs}
 use Rattle.reader.specs.declared.every_leg.Legs.the-variants.{Every, Unread, Several}
@@ -131,13 +130,13 @@ counted {m} {r} {room} {lists} {a} {count} ended e = go (ended .outcome) (ended 
 
 -- ---- a map, or a reference's bytes, that are refused
 
-pub form-refused : (m : Map) (bytes : List ℕ) {lines : List ℕ} (room : ℕ) (r : Refusal) → parse bytes ≡ ParseAnswer.refused (numberOf (refusalOf r)) →
+pub form-refused : (m : Map) (bytes : List ℕ) {lines : List ℕ} (room : ℕ) (r : Refusal) → parse bytes ≡ ParseAnswer.refused (refusalOf r) →
     ReadAnswered (ReadParsed m (parse bytes) room) lines lines (Refused r)
-form-refused m bytes room r e = refused-read r (rw e (ap ReadOutcome.refused (row-of r (form-row bytes _ e))))
+form-refused m bytes room r e = refused-read r (rw e refl)
 
-pub map-refused : (map bytes : List ℕ) {lines : List ℕ} (room : ℕ) (r : Refusal) → decode map ≡ MapAnswer.refused (numberOf (refusalOf r)) →
+pub map-refused : (map bytes : List ℕ) {lines : List ℕ} (room : ℕ) (r : Refusal) → decode map ≡ MapAnswer.refused (refusalOf r) →
     ReadAnswered (ReadMap (decode map) bytes room) lines lines (Refused r)
-map-refused map bytes room r e = refused-read r (rw e (ap ReadOutcome.refused (row-of r (let h = map-row map _ e in omega arith))))
+map-refused map bytes room r e = refused-read r (rw e refl)
 
 -- ---- the whole call
 

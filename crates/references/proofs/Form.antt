@@ -8,7 +8,7 @@ use lib.ListN.{length, getD}
 use lib.Dec.{leb, eqb}
 use borrow.Author.Tests.{lt-ltb, le-ltb, eq-eqb}
 use Rattle.model.specs.Reference.{statusByte, shortestReference, longestReference, pointCount, referenceAt, spareBits, flags, parsed, refused, ParseAnswer, parse}
-use Rattle.model.specs.Refusal.{numberOf, refusalOf}
+use Rattle.model.specs.Refusal.{row, refusalOf}
 use Rattle.model.specs.declared.Refusal.{Refusal}
 use Rattle.references.specs.declared.reference.Reference.{Reference}
 use Rattle.references.specs.declared.reference.Form.{Form}
@@ -46,15 +46,15 @@ second-inside n at a b e f = omega arith
 -- ---- refusal 12
 
 module _ (bs : List ℕ) where
-  pub too-short : length bs < shortestReference → parse bs ≡ refused 12
+  pub too-short : length bs < shortestReference → parse bs ≡ refused (row 12)
   unfolding parse
   too-short h = rw (lt-ltb _ _ h, parse)
 
-  pub too-long : shortestReference ≤ length bs → longestReference < length bs → parse bs ≡ refused 12
+  pub too-long : shortestReference ≤ length bs → longestReference < length bs → parse bs ≡ refused (row 12)
   unfolding parse
   too-long h i = rw (le-ltb _ _ h, lt-ltb _ _ i, parse)
 
-  pub too-much-over : shortestReference ≤ length bs → length bs ≤ longestReference → 2 < (length bs - shortestReference) % 7 → parse bs ≡ refused 12
+  pub too-much-over : shortestReference ≤ length bs → length bs ≤ longestReference → 2 < (length bs - shortestReference) % 7 → parse bs ≡ refused (row 12)
   unfolding parse
   too-much-over h i j = rw (le-ltb _ _ h, le-ltb _ _ i, lt-ltb _ _ j, parse)
 
@@ -62,11 +62,11 @@ module _ (bs : List ℕ) where
 
 abbrev pub bitsAndFlags : List ℕ → ℕ → ParseAnswer
 bitsAndFlags bs points =
-    cond (spareBits bs 7 points) (refused 14)
-    (cond (eqb ((length bs - shortestReference) % 7) (flags (getD bs (8 + 7 * points) 0))) (parsed (referenceAt bs points)) (refused 15))
+    cond (spareBits bs 7 points) (refused (row 14))
+    (cond (eqb ((length bs - shortestReference) % 7) (flags (getD bs (8 + 7 * points) 0))) (parsed (referenceAt bs points)) (refused (row 15)))
 
 module _ (bs : List ℕ) (long : shortestReference ≤ length bs) (short : length bs ≤ longestReference) (few : (length bs - shortestReference) % 7 ≤ 2) where
-  pub after-length : parse bs ≡ cond (eqb (getD bs 0 0) statusByte) (bitsAndFlags bs (pointCount bs)) (refused 13)
+  pub after-length : parse bs ≡ cond (eqb (getD bs 0 0) statusByte) (bitsAndFlags bs (pointCount bs)) (refused (row 13))
   unfolding parse
   after-length = rw (le-ltb _ _ long, le-ltb _ _ short, le-ltb _ _ few, parse)
 
@@ -81,5 +81,5 @@ module _ (bytes : List ℕ) (r : Form) (form : FormOf bytes r) where
   pub sound-form : {q : Reference} → r ≡ Sound q → SoundBytes bytes (q .points)
   sound-form e = subst (λ (f : Form). FormOf bytes f) e form
 
-  pub refused-form : {why : Refusal} → r ≡ Refused why → parse bytes ≡ refused (numberOf (refusalOf why))
+  pub refused-form : {why : Refusal} → r ≡ Refused why → parse bytes ≡ refused (refusalOf why)
   refused-form e = subst (λ (f : Form). FormOf bytes f) e form

@@ -3,7 +3,7 @@ use Prim.Native.Nat.{ℕ, _+_, _*_, _≤_}
 use mathlib.Core.Path.{_≡_}
 use mathlib.Core.List.{List}
 use lib.ListN.{length, getD}
-use Rattle.model.specs.Refusal.{numberOf, refusalOf}
+use Rattle.model.specs.Refusal.{refusalOf}
 use Rattle.references.specs.declared.reference.Form.{Form}
 use Rattle.references.specs.declared.reference.Form.the-variants.{Sound, Refused}
 use Rattle.references.specs.declared.reference.Offset.{Offset}
@@ -20,7 +20,7 @@ pub record SoundBytes (bytes : List ℕ) (points : ℕ) : Type 0 where
 -- What a form says of the bytes: refused with 12 to 15, or a reference.
 abbrev pub FormOf : List ℕ → Form → Type 0
 FormOf bytes (Sound r) = SoundBytes bytes (r .points)
-FormOf bytes (Refused why) = definitions.parse bytes ≡ definitions.refused (numberOf (refusalOf why))
+FormOf bytes (Refused why) = definitions.parse bytes ≡ definitions.refused (refusalOf why)
 
 -- The offset of the definitions.
 unfoldable pub offsetIn : Offset → definitions.Offset

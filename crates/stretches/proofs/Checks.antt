@@ -8,6 +8,7 @@ use lib.ListN.{length, take, drop, length-take, length-drop}
 use lib.Seq.{getD-take}
 use lib.Dec.{ltb, eqb}
 use borrow.Author.Tests.{eq-eqb, ne-eqb, lt-ltb, le-ltb, le-leb, lt-leb}
+use Rattle.model.specs.Refusal.{row}
 use Rattle.model.specs.Map.{Map}
 use Rattle.model.specs.Lines.{total, Connected, single, linked}
 use Rattle.model.specs.Stretch.{Stretch, greatestStretch, unknown, gap, remaining, StretchAnswer, remains, refused, checkStretch}
@@ -23,26 +24,26 @@ some-taken m zero ls h = h
 some-taken m (suc n) ls h = omega arith
 
 module _ (m : Map) (s : Stretch) where
-  pub no-lines : length (s .lines) ≡ 0 → checkStretch m s ≡ refused 7
+  pub no-lines : length (s .lines) ≡ 0 → checkStretch m s ≡ refused (row 7)
   unfolding checkStretch
   no-lines e = rw (eq-eqb _ _ e, checkStretch)
 
-  pub too-many : (length (s .lines) ≡ 0 → ⊥) → greatestStretch < length (s .lines) → checkStretch m s ≡ refused 7
+  pub too-many : (length (s .lines) ≡ 0 → ⊥) → greatestStretch < length (s .lines) → checkStretch m s ≡ refused (row 7)
   unfolding checkStretch
   too-many n e = rw (ne-eqb _ _ n, lt-ltb _ _ e, checkStretch)
 
   module _ (some : length (s .lines) ≡ 0 → ⊥) (few : length (s .lines) ≤ greatestStretch) where
-    pub no-such-line : unknown m (s .lines) ≡ true → checkStretch m s ≡ refused 7
+    pub no-such-line : unknown m (s .lines) ≡ true → checkStretch m s ≡ refused (row 7)
     unfolding checkStretch
     no-such-line e = rw (ne-eqb _ _ some, le-ltb _ _ few, e, checkStretch)
 
     module _ (known : unknown m (s .lines) ≡ false) where
-      pub not-joined : gap m (s .lines) ≡ true → checkStretch m s ≡ refused 8
+      pub not-joined : gap m (s .lines) ≡ true → checkStretch m s ≡ refused (row 8)
       unfolding checkStretch
       not-joined e = rw (ne-eqb _ _ some, le-ltb _ _ few, known, e, checkStretch)
 
       module _ (joint : gap m (s .lines) ≡ false) where
-        pub too-far : total m (s .lines) ≤ s .pos + s .neg → checkStretch m s ≡ refused 9
+        pub too-far : total m (s .lines) ≤ s .pos + s .neg → checkStretch m s ≡ refused (row 9)
         unfolding checkStretch
         too-far e = rw (ne-eqb _ _ some, le-ltb _ _ few, known, joint, le-leb _ _ e, checkStretch)
 
@@ -71,7 +72,7 @@ known-take lines ls n known i h =
     rw (getD-take n ls i 0 (omega arith)) (known i (omega arith))
 
 -- A stretch that is not refused has no unknown line.
-not-refused : (t : Bool) {rest : StretchAnswer} {r : Stretch} → cond t (refused 7) rest ≡ remains r → (t ≡ false) × (rest ≡ remains r)
+not-refused : (t : Bool) {rest : StretchAnswer} {r : Stretch} → cond t (refused (row 7)) rest ≡ remains r → (t ≡ false) × (rest ≡ remains r)
 not-refused true e = absurd (let z : _≡_ {A = ℕ} 0 1 = cc in omega arith)
 not-refused false e = (refl, e)
 

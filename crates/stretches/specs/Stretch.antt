@@ -3,7 +3,7 @@ use Prim.Native.Nat.{ℕ, _-_, _≤_, _<_}
 use mathlib.Core.Path.{_≡_}
 use mathlib.Core.List.{List}
 use lib.ListN.{length, getD, take, drop}
-use Rattle.model.specs.Refusal.{numberOf, refusalOf}
+use Rattle.model.specs.Refusal.{refusalOf}
 use Rattle.model.specs.Map.{Map}
 use Rattle.model.specs.Stretch.{Stretch, skip, remaining, remains, refused, checkStretch}
 use Rattle.stretches.specs.declared.stretch.Remaining.{Remaining}
@@ -40,4 +40,4 @@ pub record Passes (m : Map) (s : Stretch) (r : Remaining) : Type 0 where
 -- What an answer says of a stretch.
 abbrev pub Checks : Map → Stretch → Checked → Type 0
 Checks m s (Remains r) = Passes m s r
-Checks m s (Refused why) = checkStretch m s ≡ refused (numberOf (refusalOf why))
+Checks m s (Refused why) = checkStretch m s ≡ refused (refusalOf why)

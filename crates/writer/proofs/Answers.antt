@@ -6,7 +6,7 @@ use native.Mathlib.Omega.{arith}
 use lib.ListN.{length}
 use borrow.Author.Tests.{lt-ltb, le-ltb}
 use Rattle.model.specs.Map.{Map, MapAnswer, decode}
-use Rattle.model.specs.Refusal.{numberOf, refusalOf}
+use Rattle.model.specs.Refusal.{refusalOf}
 use Rattle.model.specs.Stretch.{Stretch, StretchAnswer, checkStretch}
 use Rattle.model.specs.Outcome.{WriteOutcome, WriteStretch, WriteMap, workLength, Writes}
 use Rattle.model.specs.Call.{cleared, WriteAnswered, WriteCall}
@@ -15,7 +15,6 @@ use Rattle.model.specs.declared.WriteAnswer.{WriteAnswer}
 use Rattle.model.specs.declared.WriteAnswer.the-variants.{Refused}
 use Rattle.model.proofs.Cleared.{cleared-short}
 use Rattle.model.proofs.Answering.{answered-by, refused-write}
-use Rattle.model.proofs.Rows.{row-of, map-row, stretch-row}
 use Rattle.stretches.specs.declared.cuts.Cut.{Cut}
 use Rattle.stretches.specs.declared.cuts.Cut.the-variants.{Nowhere, Legs}
 use Rattle.stretches.specs.declared.stretch.Remaining.{Remaining}
@@ -40,17 +39,17 @@ module _ (m : Map) (s : Stretch) (r : Checked) (checks : Checks m s r) where
   pub left-passes : {q : Remaining} → r ≡ Remains q → Passes m s q
   left-passes e = subst (λ (a : Checked). Checks m s a) e checks
 
-  pub check-refuses : {r′ : Refusal} → r ≡ checked.Refused r′ → checkStretch m s ≡ StretchAnswer.refused (numberOf (refusalOf r′))
+  pub check-refuses : {r′ : Refusal} → r ≡ checked.Refused r′ → checkStretch m s ≡ StretchAnswer.refused (refusalOf r′)
   check-refuses e = subst (λ (a : Checked). Checks m s a) e checks
 
 -- A stretch, or a map, that is refused.
-pub stretch-refused : (m : Map) (s : Stretch) {bytes : List ℕ} (room : ℕ) (r : Refusal) → checkStretch m s ≡ StretchAnswer.refused (numberOf (refusalOf r)) →
+pub stretch-refused : (m : Map) (s : Stretch) {bytes : List ℕ} (room : ℕ) (r : Refusal) → checkStretch m s ≡ StretchAnswer.refused (refusalOf r) →
     WriteAnswered (WriteStretch m (checkStretch m s) room) bytes bytes (Refused r)
-stretch-refused m s room r e = refused-write r (rw e (ap WriteOutcome.refused (row-of r (let h = stretch-row m s _ e in omega arith))))
+stretch-refused m s room r e = refused-write r (rw e refl)
 
-pub map-refused : (map : List ℕ) (s : Stretch) {bytes : List ℕ} (room : ℕ) (r : Refusal) → decode map ≡ MapAnswer.refused (numberOf (refusalOf r)) →
+pub map-refused : (map : List ℕ) (s : Stretch) {bytes : List ℕ} (room : ℕ) (r : Refusal) → decode map ≡ MapAnswer.refused (refusalOf r) →
     WriteAnswered (WriteMap (decode map) s room) bytes bytes (Refused r)
-map-refused map s room r e = refused-write r (rw e (ap WriteOutcome.refused (row-of r (let h = map-row map _ e in omega arith))))
+map-refused map s room r e = refused-write r (rw e refl)
 
 -- The whole call.
 module _ (mb : List ℕ) (s : Stretch) (bytes : List ℕ) where

@@ -1,5 +1,5 @@
 -- `count_lines` meets its contract: a refused count, or the stage of the lines.
-use Rattle.model.specs.Refusal.{numberOf, refusalOf}
+use Rattle.model.specs.Refusal.{refusalOf}
 use Rattle.model.specs.Map.{decodeNodes}
 use Rattle.depot_map.proofs.Kept.{kept-none}
 use Rattle.depot_map.proofs.Steps.{field-on, field-off, field-range}
@@ -28,14 +28,14 @@ same-length : tie.Need-same-length
 same-length c = search needs
 
 returns : tie.Need-returns
-unfolding decodeNodes numberOf refusalOf
+unfolding decodeNodes refusalOf
 returns c =
     let known = c .before .before .before .before .before in
     let field = known .before .before in
     stage-then (field-on (field .field .ensures) (known .lines .given .1) _) kept-none (omega arith) (c .before .before .read-lines .ensures)
 
 returns-2 : tie.Need-returns-2
-unfolding decodeNodes numberOf refusalOf
+unfolding decodeNodes refusalOf
 returns-2 c =
     let field = c .before .before .before in
     stage-refused (field-off (field .field .ensures) (c .before .why .given .1) _) kept-none

@@ -1,6 +1,6 @@
 -- `finish` meets its contract: left-over bytes, equal codes, or a whole map.
 use mathlib.Core.Path.{sym, _∙_}
-use Rattle.model.specs.Refusal.{numberOf, refusalOf}
+use Rattle.model.specs.Refusal.{refusalOf}
 use Rattle.depot_map.proofs.Kept.{kept-none}
 use Rattle.depot_map.proofs.Ended.{left-over, none-over}
 use Rattle.depot_map.proofs.Stages.{stage-refused, stage-whole}
@@ -10,7 +10,7 @@ use Rattle.depot_map.proofs.finish.Statement.{statement}
 use Rattle.depot_map.proofs.finish.Tie as tie
 
 returns : tie.Need-returns
-unfolding numberOf refusalOf
+unfolding refusalOf
 returns c = stage-refused (left-over _ _ _ _ (c .if1 .taken)) kept-none
 
 equal-codes-requires : tie.Need-equal-codes-requires
@@ -20,7 +20,7 @@ same-length : tie.Need-same-length
 same-length c = search needs
 
 returns-2 : tie.Need-returns-2
-unfolding numberOf refusalOf
+unfolding refusalOf
 returns-2 c =
     let k = c .before .before .before .equal-codes .ensures in
     stage-refused (none-over _ _ _ _ (c .before .before .before .before .before .if1 .left) true (sym (c .if2 .taken) ∙ k .found)) (k .kept)

@@ -1,5 +1,5 @@
 -- `read_map` meets its contract: a refused count, or the stage of the nodes.
-use Rattle.model.specs.Refusal.{numberOf, refusalOf}
+use Rattle.model.specs.Refusal.{refusalOf}
 use Rattle.model.specs.Map.{decode}
 use Rattle.depot_map.proofs.Kept.{kept-none}
 use Rattle.depot_map.proofs.Steps.{field-on, field-off, field-range}
@@ -28,7 +28,7 @@ same-length : tie.Need-same-length
 same-length c = search needs
 
 returns : tie.Need-returns
-unfolding decode numberOf refusalOf
+unfolding decode refusalOf
 returns c =
     let known = c .before .before .before .before .before in
     let field = known .before .before in
@@ -36,7 +36,7 @@ returns c =
     (stage-then (field-on (field .field .ensures) (known .nodes .given .1) _) kept-none (omega arith) (c .before .before .read-nodes .ensures))
 
 returns-2 : tie.Need-returns-2
-unfolding decode numberOf refusalOf
+unfolding decode refusalOf
 returns-2 c =
     let field = c .before .before .before in
     map-is-read (field .before .before .before .pre) (stage-refused (field-off (field .field .ensures) (c .before .why .given .1) _) kept-none)

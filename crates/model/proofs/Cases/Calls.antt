@@ -49,7 +49,7 @@ pub record CallCases : Type 0 where
   pub host-stretch : hostStretch (1 ∷ 0 ∷ 0 ∷ 0 ∷ 3 ∷ 0 ∷ 0 ∷ 0 ∷ []) 20 30 ≡ record { lines = 1 ∷ 3 ∷ []; pos = 20; neg = 30 }
   pub odd-bytes : map (λ bs. checkStretch ridge (hostStretch bs 0 0))
       ((0 ∷ []) ∷ (0 ∷ 0 ∷ []) ∷ (0 ∷ 0 ∷ 0 ∷ []) ∷ (0 ∷ 0 ∷ 0 ∷ 0 ∷ 0 ∷ []) ∷ []) ≡
-      replicate 4 (StretchAnswer.refused 7)
+      replicate 4 (StretchAnswer.refused (row 7))
   -- "A quarter of its bytes, rounded down", and at most 1,024.
   pub host-rooms : map hostRoom (3 ∷ 4 ∷ 7 ∷ 8 ∷ 4_096 ∷ 4_100 ∷ []) ≡ 0 ∷ 1 ∷ 1 ∷ 2 ∷ 1_024 ∷ 1_024 ∷ []
   pub host-answers : map hostRead

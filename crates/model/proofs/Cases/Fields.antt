@@ -5,6 +5,7 @@ use mathlib.Core.Bool.{true, false}
 use mathlib.Core.List.{List, [], _∷_, map}
 use native.Mathlib.Omega.{arith}
 use lib.ListN.{replicate}
+use Rattle.model.specs.Refusal.{row}
 use Rattle.model.specs.Field.{code, sector, offsetByte}
 use Rattle.model.specs.Map.{Map, lonCode, latCode}
 use Rattle.model.specs.Difference.{Near, DifferencesFit, difference, moved, differences, standsAt}
@@ -37,7 +38,7 @@ laps (suc n) = 0 ∷ 1 ∷ laps n
 
 -- All of these stretches are refused so.
 abbrev Refuses : ℕ → List Stretch → Type 0
-Refuses n ss = map (checkStretch toAndFro) ss ≡ map (λ s. StretchAnswer.refused n) ss
+Refuses n ss = map (checkStretch toAndFro) ss ≡ map (λ s. StretchAnswer.refused (row n)) ss
 
 pub record FieldCases : Type 0 where
   -- "Plus ½ if c is positive, minus ½ if negative, cut towards zero": -2, -3, -100,000 and -18,000,000 give -1, -1, -46,603 and

@@ -3,13 +3,14 @@ use Prim.Native.Nat.{ℕ}
 use mathlib.Core.Path.{_≡_, refl}
 use mathlib.Core.List.{List, [], _∷_, _++_, map}
 use lib.ListN.{replicate}
+use Rattle.model.specs.Refusal.{row}
 use Rattle.model.specs.Number.{got, faulty, number, numberBytes}
 use Rattle.model.specs.Map.{MapAnswer, whole, decode}
 use Rattle.model.proofs.Cases.Computing.{computing}
 
 -- All of these bytes are refused so.
 abbrev Refuses : ℕ → List (List ℕ) → Type 0
-Refuses n bss = map decode bss ≡ map (λ bs. MapAnswer.refused n) bss
+Refuses n bss = map decode bss ≡ map (λ bs. MapAnswer.refused (row n)) bss
 
 -- Nodes stored as 0, 0 and 100, 0, and what follows them.
 abbrev twoNodes : List ℕ → List ℕ

@@ -5,7 +5,7 @@ use mathlib.Core.List.{List, [], _∷_, map}
 use lib.ListN.{replicate}
 use Rattle.model.specs.Reference.{Offset, absent, byte, Reference, bytesOf, ParseAnswer, parsed, parse}
 use Rattle.model.specs.Choice.{referenceOf}
-use Rattle.model.specs.Refusal.{rowAt}
+use Rattle.model.specs.Refusal.{row, rowAt}
 use Rattle.model.specs.Outcome.{no-node, locate, ReadOutcome, ReadOn}
 use Rattle.model.proofs.Cases.Computing.{computing}
 use Rattle.model.proofs.Cases.Ridge.{ridge, road}
@@ -49,7 +49,7 @@ eastward lon first second =
 
 -- All of these bytes are refused so.
 abbrev Refuses : ℕ → List (List ℕ) → Type 0
-Refuses n bss = map parse bss ≡ map (λ bs. ParseAnswer.refused n) bss
+Refuses n bss = map parse bss ≡ map (λ bs. ParseAnswer.refused (row n)) bss
 
 pub record ReferenceCases : Type 0 where
   -- Taken apart: without offsets, a positive one, a negative one, both. P is 3 × 8 + 5, Q 5 × 32 + 9, the last P 5 × 8 + 2.

@@ -3,7 +3,7 @@ use mathlib.Core.Path.{_≡_, sym, _∙_}
 use mathlib.Core.Bool.{false}
 use Rattle.model.specs.Map.{Map}
 use Rattle.model.specs.Stretch.{unknown, gap}
-use Rattle.model.specs.Refusal.{numberOf, refusalOf}
+use Rattle.model.specs.Refusal.{refusalOf}
 use Rattle.search.specs.Area.{Held}
 use Rattle.stretches.specs.Stretch.{Known}
 use Rattle.stretches.proofs.Stretches.{known-all}
@@ -25,18 +25,18 @@ joint : (c : tie.Else4) → let a = c .before .before .before .before .before .b
 joint c m h = sym (c .before .has-gap .ensures m h) ∙ c .if4 .left
 
 returns : tie.Need-returns
-unfolding numberOf refusalOf
+unfolding refusalOf
 returns c m h = no-lines m _ (c .if1 .taken)
 
 returns-2 : tie.Need-returns-2
-unfolding numberOf refusalOf
+unfolding refusalOf
 returns-2 c m h = too-many m _ (c .before .if1 .left) (c .if2 .taken)
 
 has-unknown-requires : tie.Need-has-unknown-requires
 has-unknown-requires c κs = search needs
 
 returns-3 : tie.Need-returns-3
-unfolding numberOf refusalOf
+unfolding refusalOf
 returns-3 c m h =
     no-such-line m _ (c .before .before .before .if1 .left) (omega (arith, c .before .before .if2 .left)) (sym (c .before .has-unknown .ensures m (h .line-count)) ∙ c .if3 .taken)
 
@@ -44,7 +44,7 @@ has-gap-requires : tie.Need-has-gap-requires
 has-gap-requires c κs = (known c, c .before .before .before .before .before .before .pre)
 
 returns-4 : tie.Need-returns-4
-unfolding numberOf refusalOf
+unfolding refusalOf
 returns-4 c m h =
     not-joined m _ (c .before .before .before .before .before .if1 .left) (omega (arith, c .before .before .before .before .if2 .left)) (all-known (c .before .before) m h) (sym (c .before .has-gap .ensures m h) ∙ c .if4 .taken)
 
@@ -61,7 +61,7 @@ add-if5 : tie.Need-add-if5
 add-if5 c = search needs
 
 returns-5 : tie.Need-returns-5
-unfolding numberOf refusalOf
+unfolding refusalOf
 returns-5 c m h =
     too-far m _ (c .before .before .before .before .before .before .before .before .before .if1 .left) (omega (arith, c .before .before .before .before .before .before .before .before .if2 .left)) (all-known (c .before .before .before .before .before .before) m h) (joint (c .before .before .before .before) m h)
     (omega (arith, c .if5 .taken, c .before .wide2 .ensures .0, c .before .before .wide .ensures .0, c .before .before .before .total-length .ensures m h))

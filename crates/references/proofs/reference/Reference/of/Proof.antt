@@ -6,7 +6,7 @@ use mathlib.Core.Bool.{false}
 use mathlib.Core.List.{List}
 use lib.ListN.{length, getD}
 use borrow.Author.Tests.{eq-eqb, ne-eqb}
-use Rattle.model.specs.Refusal.{numberOf, refusalOf}
+use Rattle.model.specs.Refusal.{refusalOf}
 use Rattle.model.specs.Reference.{shortestReference, spareBits, flags, parse}
 use Rattle.references.proofs.Form.{too-short, too-long, too-much-over, bitsAndFlags, after-length, after-status}
 use borrow.Author.Needs.{needs}
@@ -36,22 +36,22 @@ flagged : (c : tie.After-flag-count) →
 flagged c = c .flag-count .ensures ∙ ap flags (c .before .byte-r .ensures .0)
 
 returns : tie.Need-returns
-unfolding numberOf refusalOf
+unfolding refusalOf
 returns c = too-short _ (omega arith)
 
 returns-2 : tie.Need-returns-2
-unfolding numberOf refusalOf
+unfolding refusalOf
 returns-2 c = too-long _ (omega arith) (omega arith)
 
 returns-3 : tie.Need-returns-3
-unfolding numberOf refusalOf
+unfolding refusalOf
 returns-3 c = too-much-over _ (omega arith) (omega arith) (omega arith)
 
 shared-slice-read-if4 : tie.Need-shared-slice-read-if4
 shared-slice-read-if4 c = search needs
 
 returns-4 : tie.Need-returns-4
-unfolding numberOf refusalOf
+unfolding refusalOf
 returns-4 c = after-length _ (omega arith) (omega arith) (omega arith) ∙ rw (ne-eqb _ _ (c .if4 .taken))
 
 add-points : tie.Need-add-points
@@ -61,7 +61,7 @@ spare-bits-requires : tie.Need-spare-bits-requires
 spare-bits-requires c κs = search needs
 
 returns-5 : tie.Need-returns-5
-unfolding numberOf refusalOf
+unfolding refusalOf
 returns-5 c = status-read (c .before .before) ∙ rw (sym (c .before .spare-bits .ensures) ∙ c .if5 .taken)
 
 byte-r-requires : tie.Need-byte-r-requires
@@ -71,7 +71,7 @@ flag-count-requires : tie.Need-flag-count-requires
 flag-count-requires c κs = search needs
 
 returns-6 : tie.Need-returns-6
-unfolding numberOf refusalOf
+unfolding refusalOf
 returns-6 c =
     status-read (bits-read (c .before) .before .before)
     ∙ rw (no-bits (bits-read (c .before)), ne-eqb _ _ (λ e. c .if6 .taken (flagged (c .before) ∙ sym e)))
