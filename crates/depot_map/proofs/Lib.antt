@@ -1,13 +1,6 @@
 -- Laws of the work area and of what the map's bytes are, for the functions' proofs and for the crates above.
-pub mod Kept
-pub mod Stored
-pub mod Held
-pub mod Groups
 pub mod Steps
 pub mod Parts
 pub mod Ended
 pub mod Whole
 pub mod Stages
-pub mod Holding
-pub mod EqualCodes
-pub mod Chains

@@ -12,14 +12,15 @@ use lib.Dec.{eqb, lit<}
 use borrow.Author.Tests.{eq-eqb, ne-eqb}
 use Rattle.model.specs.declared.Refusal.the-variants.{MapCoordinate, MapLine}
 use Rattle.model.specs.Refusal.{row, refusalOf}
-use Rattle.model.specs.Map.{Line, MapAnswer, refused, field, readNode, readLine}
-use Rattle.depot_map.specs.Held.{linePlace, heldNode, lineFrom, heldLine}
-use Rattle.depot_map.specs.Step.{goOn, FieldRead, NodeRead, readAttributes, heldAttributes, AttributesRead, LineRead}
+use Rattle.model.specs.Map.{Line, MapAnswer, refused, readNode, readLine}
+use Rattle.work_area.specs.Held.{heldNode, lineFrom, heldLine}
+use Rattle.work_area.specs.Area.{linePlace}
+use Rattle.depot_map.specs.Step.{goOn, FieldRead, NodeRead, readAttributes, heldAttributes, AttributesRead, LineRead, Attributes}
 use Rattle.depot_map.specs.declared.field.Read.{Read}
-use Rattle.depot_map.proofs.Held.{node-path, attributes-path, line-path}
-use Rattle.depot_map.proofs.Kept.{kept-within, kept-over}
+use Rattle.work_area.proofs.Held.{node-path, line-path}
+use Rattle.buffers.proofs.Kept.{kept-within, kept-over}
 use Rattle.depot_map.proofs.Steps.{field-on, step-refused, step-read}
-use Rattle.depot_map.proofs.Stored.{stored, stored-first}
+use Rattle.buffers.proofs.Stored.{stored, stored-first}
 use Rattle.depot_map.specs.declared.field.Read.the-variants as Read
 
 -- ---- a node
@@ -34,6 +35,10 @@ node-read {bytes} {lon = lon} {lat = lat} {w = w} i f₁ e₁ f₂ e₂ fits put
     step-read bytes _ (λ rest. field-on f₁ e₁ _ ∙ field-on f₂ e₂ _) (node-path (stored-first (2 * i) s) (s .held 1 (lit< tt))) (s .kept)
 
 -- ---- the attributes of a line
+
+pub attributes-path : {a b c d e a′ b′ c′ d′ e′ : ℕ} → a ≡ a′ → b ≡ b′ → c ≡ c′ → d ≡ d′ → e ≡ e′ →
+    _≡_ {A = Attributes} (record { length = a; frc = b; fow = c; out = d; back = e }) (record { length = a′; frc = b′; fow = c′; out = d′; back = e′ })
+attributes-path p q r s t = λ i. record { length = p i; frc = q i; fow = r i; out = s i; back = t i }
 
 pub attributes-read : {bytes : List ℕ} {from len n₁ frc n₂ fow n₃ out n₄ back n₅ : ℕ} {w v : List ℕ} {r₁ r₂ r₃ r₄ r₅ : Read} (at : ℕ) →
     FieldRead bytes from 1 150_000 MapLine r₁ → r₁ ≡ Read.Got len n₁ →

@@ -8,15 +8,16 @@ use lib.ListN.{length, drop}
 use Rattle.model.specs.declared.Refusal.{Refusal}
 use Rattle.model.specs.Refusal.{refusalOf}
 use Rattle.model.specs.Map.{Node, Line, MapAnswer, whole, refused, ended, readLine, decodeLines, decodeNodes, decode, clash, greatestNodeCount, greatestLineCount}
-use Rattle.depot_map.specs.Area.{Kept}
-use Rattle.depot_map.specs.Held.{linesFrom, codesFrom, codesTo, listed, heldNode, heldNodes, heldLines}
+use Rattle.buffers.specs.Kept.{Kept}
+use Rattle.work_area.specs.Held.{listed, heldNode, heldNodes, heldLines}
+use Rattle.work_area.specs.Area.{linesFrom, codesFrom, codesTo}
 use Rattle.depot_map.specs.Step.{goOn, NodeRead, LineRead}
 use Rattle.depot_map.specs.Stage.{answered, Stage}
 use Rattle.depot_map.specs.Answer.{MapIsRead}
 use Rattle.depot_map.specs.declared.field.Read.{Read}
 use Rattle.depot_map.specs.declared.MapRead.{MapRead}
-use Rattle.depot_map.proofs.Kept.{kept-none, kept-then, kept-within, kept-over}
-use Rattle.depot_map.proofs.Held.{listed-length, nodes-same, lines-same, nodes-more, lines-more}
+use Rattle.buffers.proofs.Kept.{kept-none, kept-then, kept-within, kept-over}
+use Rattle.work_area.proofs.Held.{listed-length, nodes-same, lines-same, nodes-more, lines-more}
 use Rattle.depot_map.proofs.Steps.{on, off}
 use Rattle.depot_map.proofs.Ended.{none-over}
 use Rattle.depot_map.proofs.Whole.{answers}

@@ -10,8 +10,8 @@ use Rattle.model.specs.Number.{got, faulty, number}
 use Rattle.model.specs.Map.{MapAnswer, refused, field}
 use Rattle.depot_map.specs.Step.{goOn, FieldRead, StepRead}
 use Rattle.depot_map.specs.declared.field.Read.{Read}
-use Rattle.depot_map.proofs.Kept.{kept-none}
-use Rattle.depot_map.specs.Area.{Kept}
+use Rattle.buffers.proofs.Kept.{kept-none}
+use Rattle.buffers.specs.Kept.{Kept}
 use Rattle.depot_map.specs.declared.field.Read.the-variants as Read
 
 module _ (bs : List ℕ) (low high : ℕ) (n : Refused) (rest : ℕ → List ℕ → MapAnswer) where

@@ -9,15 +9,15 @@ use Rattle.model.specs.Refusal.{refusalOf}
 use Rattle.model.specs.declared.Refusal.{Refusal}
 use Rattle.model.specs.Map.{Node, Line, Map, whole, refused, decode}
 use Rattle.model.specs.Lines.{nodeAt, lineAt}
-use Rattle.model.specs.Outcome.{workLength}
+use Rattle.model.specs.Work.{workLength}
 use Rattle.model.proofs.Decoded.{well-formed}
-use Rattle.depot_map.specs.Area.{nodeNumbers, lineNumbers, Holds}
-use Rattle.depot_map.specs.Held.{linePlace, heldNode, lineFrom, heldLine, heldNodes, heldLines}
+use Rattle.work_area.specs.Area.{nodeNumbers, lineNumbers, Holds, linePlace}
+use Rattle.work_area.specs.Held.{heldNode, lineFrom, heldLine, heldNodes, heldLines}
 use Rattle.depot_map.specs.Stage.{answered}
 use Rattle.depot_map.specs.Answer.{WholeMap, Answers, MapIsRead}
 use Rattle.depot_map.specs.declared.MapRead.{MapRead}
 use Rattle.depot_map.specs.declared.MapRead.the-variants.{Whole, Refused}
-use Rattle.depot_map.proofs.Held.{listed-length, listed-at}
+use Rattle.work_area.proofs.Held.{listed-length, listed-at}
 
 node-number : (w : List ℕ) (i k : ℕ) → k < 2 → getD w (2 * i + k) 0 ≡ getD (nodeNumbers (heldNode w i)) k 0
 unfolding heldNode

@@ -4,7 +4,8 @@ use mathlib.Core.Path.{_≡_}
 use mathlib.Core.List.{List}
 use Rattle.model.specs.Refusal.{refusalOf}
 use Rattle.model.specs.Map.{Map, whole, refused, decode}
-use Rattle.depot_map.specs.Area.{Holds, Kept}
+use Rattle.work_area.specs.Area.{Holds}
+use Rattle.buffers.specs.Kept.{Kept}
 use Rattle.depot_map.specs.declared.MapRead.{MapRead}
 use Rattle.depot_map.specs.declared.MapRead.the-variants.{Whole, Refused}
 

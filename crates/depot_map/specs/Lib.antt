@@ -1,8 +1,4 @@
 -- What the map's functions promise: of the work area, of each step of the bytes, and of the whole map.
-pub mod Area
-pub mod Held
-pub mod Taken
 pub mod Step
 pub mod Stage
 pub mod Answer
-pub mod Codes

@@ -4,8 +4,9 @@ use mathlib.Core.Path.{_≡_}
 use mathlib.Core.List.{List}
 use Rattle.model.specs.Refusal.{refusalOf}
 use Rattle.model.specs.Map.{MapAnswer, whole, refused}
-use Rattle.depot_map.specs.Area.{Kept}
-use Rattle.depot_map.specs.Held.{codesTo, heldNodes, heldLines}
+use Rattle.buffers.specs.Kept.{Kept}
+use Rattle.work_area.specs.Held.{heldNodes, heldLines}
+use Rattle.work_area.specs.Area.{codesTo}
 use Rattle.depot_map.specs.declared.MapRead.{MapRead}
 use Rattle.depot_map.specs.declared.MapRead.the-variants.{Whole, Refused}
 

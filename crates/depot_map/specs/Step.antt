@@ -6,8 +6,9 @@ use lib.ListN.{getD, drop}
 use Rattle.model.specs.declared.Refusal.{Refusal}
 use Rattle.model.specs.Refusal.{row, refusalOf}
 use Rattle.model.specs.Map.{greatestLineLength, MapAnswer, refused, field, readNode, readLine}
-use Rattle.depot_map.specs.Area.{Kept}
-use Rattle.depot_map.specs.Held.{linePlace, heldNode, heldLine}
+use Rattle.buffers.specs.Kept.{Kept}
+use Rattle.work_area.specs.Held.{heldNode, heldLine}
+use Rattle.work_area.specs.Area.{linePlace}
 use Rattle.depot_map.specs.declared.field.Read.{Read}
 use Rattle.depot_map.specs.declared.field.Read.the-variants as Read
 

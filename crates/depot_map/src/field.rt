@@ -1,6 +1,6 @@
 // A number of the map, held to its range.
-use crate::number::Number;
-use crate::number::number_at;
+use buffers::number::Number;
+use buffers::number::number_at;
 use model::Refusal;
 ghost use Rattle.depot_map.specs.Step.{FieldRead};
 

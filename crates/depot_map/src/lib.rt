@@ -1,28 +1,26 @@
 // The depot map, read from its bytes into the lent work area. The stages are those of `decode` in crates/model/specs/Map.antt,
 // each called by the one before it.
-use crate::area::GREATEST_LINE_COUNT;
-use crate::area::GREATEST_NODE_COUNT;
-use crate::codes::equal_codes;
-use crate::field::Read;
-use crate::field::field;
-use crate::line::read_line;
-use crate::node::read_node;
+use equal_codes::equal_codes;
+use field::Read;
+use field::field;
+use line::read_line;
 use model::Refusal;
+use node::read_node;
+use work_area::GREATEST_LINE_COUNT;
+use work_area::GREATEST_NODE_COUNT;
 ghost use Prim.Native.Nat.{_≤_};
 ghost use mathlib.Core.List.{[]};
 ghost use lib.ListN.{length, drop};
 ghost use Rattle.model.specs.Map.{decodeNodes, decodeLines, ended, greatestNodeCount, greatestLineCount};
-ghost use Rattle.model.specs.Outcome.{workLength};
-ghost use Rattle.depot_map.specs.Held.{heldNodes, heldLines, linesFrom, codesFrom};
+ghost use Rattle.model.specs.Work.{workLength};
+ghost use Rattle.work_area.specs.Held.{heldNodes, heldLines};
+ghost use Rattle.work_area.specs.Area.{linesFrom, codesFrom};
 ghost use Rattle.depot_map.specs.Stage.{Stage};
 ghost use Rattle.depot_map.specs.Answer.{MapIsRead};
 
-pub mod area;
-mod codes;
 mod field;
 mod line;
 mod node;
-mod number;
 
 // A map that stands whole in the work area, with its counts of nodes and lines; or why the bytes are refused.
 pub enum MapRead {

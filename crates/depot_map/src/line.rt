@@ -1,12 +1,12 @@
 // A line of the map: its seven numbers, from the bytes into the work area.
-use crate::area::LINE_NUMBERS;
-use crate::area::LINES;
 use crate::field::Read;
 use crate::field::field;
 use model::Refusal;
+use work_area::LINE_NUMBERS;
+use work_area::LINES;
 ghost use Prim.Native.Nat.{_+_, _-_, _≤_, _<_};
 ghost use lib.ListN.{length};
-ghost use Rattle.model.specs.Outcome.{workLength};
+ghost use Rattle.model.specs.Work.{workLength};
 ghost use Rattle.model.specs.Map.{greatestLineCount};
 ghost use Rattle.depot_map.specs.Step.{AttributesRead, LineRead};
 

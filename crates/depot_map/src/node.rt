@@ -1,11 +1,11 @@
 // A node of the map: its two numbers, from the bytes into the work area.
-use crate::area::NODE_NUMBERS;
 use crate::field::Read;
 use crate::field::field;
 use model::Refusal;
+use work_area::NODE_NUMBERS;
 ghost use Prim.Native.Nat.{_≤_, _<_};
 ghost use lib.ListN.{length};
-ghost use Rattle.model.specs.Outcome.{workLength};
+ghost use Rattle.model.specs.Work.{workLength};
 ghost use Rattle.model.specs.Map.{greatestNodeCount};
 ghost use Rattle.depot_map.specs.Step.{NodeRead};
 

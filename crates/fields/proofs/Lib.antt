@@ -1,3 +1,2 @@
 -- Laws that the proofs of the functions cite.
 pub mod Offsets
-pub mod Stores

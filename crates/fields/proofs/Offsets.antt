@@ -4,7 +4,7 @@ use native.Mathlib.Nat.{le-div-iff-mul-le, div-lt-iff-lt-mul, mul-le-mul}
 use native.Mathlib.Omega.{arith}
 use Rattle.model.specs.Field.{offsetByte}
 use Rattle.model.specs.Reference.{byte}
-use Rattle.model.specs.Outcome.{Gives, SpanRead, flagged, NoOffset, no-offset}
+use Rattle.model.specs.Span.{Gives, SpanRead, flagged, NoOffset, no-offset}
 use Rattle.fields.specs.Offset.{FirstOffset}
 
 -- The product fits 64 bits, and so does what is added to round up.

@@ -2,7 +2,7 @@
 use Prim.Native.Nat.{ℕ, _≤_, _<_}
 use Rattle.model.specs.Field.{offsetByte}
 use Rattle.model.specs.Reference.{byte}
-use Rattle.model.specs.Outcome.{SpanRead, NoOffset}
+use Rattle.model.specs.Span.{SpanRead, NoOffset}
 use Rattle.fields.specs.declared.offset.Offsets.{Offsets}
 use Rattle.fields.specs.declared.offset.Offsets.the-variants.{Between, Nowhere}
 

@@ -5,21 +5,21 @@ use mathlib.Core.List.{List}
 use native.Mathlib.Omega.{arith}
 use Rattle.model.specs.Map.{Map}
 use Rattle.model.specs.Lines.{lineAt, leaving}
-use Rattle.fields.specs.Leg.{LongestLeg}
-use Rattle.depot_map.specs.Area.{Kept}
-use Rattle.search.specs.Area.{latest}
+use Rattle.fields.specs.Leg.{LongestLeg, attributesIn, legIn}
+use Rattle.buffers.specs.Kept.{Kept}
+use Rattle.search.specs.Area.{latest, Set}
 use Rattle.search.specs.Promises.{Found}
-use Rattle.depot_map.proofs.Kept.{kept-none, kept-then, kept-within}
-use Rattle.search.proofs.Frame.{held-kept}
+use Rattle.buffers.proofs.Kept.{kept-none, kept-then, kept-within}
+use Rattle.work_area.proofs.Holding.{held-kept}
 use Rattle.search.proofs.Leaving.{latest-le, latest-hit}
-use Rattle.legs.specs.declared.ends.Leg.{Leg}
-use Rattle.legs.specs.declared.ends.Reading.{Reading}
-use Rattle.legs.specs.declared.ends.Verdict.{Verdict}
-use Rattle.legs.specs.Verdict.{attributesIn, legIn, bothOf, Ready, Set, Judged, OneList, Says, StandsIn, unread, FromLine, FromLines}
+use Rattle.fields.specs.declared.leg.Leg.{Leg}
+use Rattle.fields.specs.declared.leg.Reading.{Reading}
+use Rattle.fields.specs.declared.leg.Verdict.{Verdict}
+use Rattle.legs.specs.Verdict.{bothOf, Ready, Judged, OneList, Says, StandsIn, unread, FromLine, FromLines}
 use Rattle.legs.proofs.Joining.{says-same, says-both}
 use Rattle.legs.proofs.Lines.{none-yet, one-more, no-other, apart, not-leaving}
 use Rattle.model.specs.Reading as definitions
-use Rattle.legs.specs.declared.ends.Verdict.the-variants as verdict
+use Rattle.fields.specs.declared.leg.Verdict.the-variants as verdict
 
 -- The search from a first line is done, and the work area is still ready for another.
 pub record Done (m : Map) (lines : ℕ) (leg : Leg) (first limit : ℕ) (w v : List ℕ) : Type 0 where

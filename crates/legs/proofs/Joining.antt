@@ -4,9 +4,9 @@ use mathlib.Core.Path.{_≡_, refl}
 use mathlib.Core.Logic.{_⊎_, inl, inr, ⊎-elim}
 use mathlib.Core.List.{List}
 use Rattle.model.specs.Map.{Map}
-use Rattle.legs.specs.declared.ends.Reading.{Reading}
-use Rattle.legs.specs.declared.ends.Verdict.{Verdict}
-use Rattle.legs.specs.declared.ends.Verdict.the-variants.{Unread, One}
+use Rattle.fields.specs.declared.leg.Reading.{Reading}
+use Rattle.fields.specs.declared.leg.Verdict.{Verdict}
+use Rattle.fields.specs.declared.leg.Verdict.the-variants.{Unread, One}
 use Rattle.legs.specs.Verdict.{OneList, TwoLists, Says, unread, one, several, bothOf}
 
 -- A verdict on lists of one property is one on lists of another that has the same lists.

@@ -12,10 +12,11 @@ use Rattle.model.specs.Lines.{LineAttributes, lineAt, total, firstOf, lastOf, a
 use Rattle.model.specs.Reading.{Leg, any, matching}
 use Rattle.model.proofs.Joining.{first-known, last-known}
 use Rattle.search.specs.Ways.{line, node, Way}
-use Rattle.search.specs.Area.{Held, Searched, Listing, Among, listed, latest}
+use Rattle.work_area.specs.Area.{Held}
+use Rattle.search.specs.Area.{Searched, Listing, Among, listed, latest}
 use Rattle.search.proofs.Leaving.{latest-le, latest-all}
 use Rattle.search.proofs.Places.{none-among, among-here, among-more, among-split, among-all}
-use Rattle.search.proofs.Back.{short}
+use Rattle.ways.proofs.Back.{short}
 use Rattle.legs.specs.Verdict.{attributesAt, ReadingTo, FromLine, FromLines, ToLines, LimitFor}
 use Rattle.legs.proofs.Joining.{Either}
 use Rattle.legs.proofs.Readings.{EndOf}

@@ -15,11 +15,11 @@ use Rattle.model.specs.Reading.{Leg, Arrives, Allowed, SameEnds, Reading, great
 use Rattle.search.specs.Ways.{Target, Ends, Way, Least, Only, Two, Beyond}
 use Rattle.model.proofs.Skipping.{last-append}
 use Rattle.search.specs.Area.{lineBefore, linesTo}
-use Rattle.search.specs.Promises.{Told}
-use Rattle.search.specs.declared.ways.Ways.{Ways}
-use Rattle.search.specs.declared.ways.Ways.the-variants.{Nothing, Several, One}
+use Rattle.ways.specs.Told.{Told}
+use Rattle.ways.specs.declared.Ways.{Ways}
+use Rattle.ways.specs.declared.Ways.the-variants.{Nothing, Several, One}
 use Rattle.legs.specs.Verdict.{LimitFor, ReadingTo, FirstOf, TwoLists, Says, StandsIn, unread, one, several, judgeOf}
-use Rattle.legs.specs.declared.ends.Verdict.the-variants as verdict
+use Rattle.fields.specs.declared.leg.Verdict.the-variants as verdict
 
 -- An end of a leg: the lists that end there end as the leg says, and those that the leg allows with the same ends end there too.
 pub record EndOf (m : Map) (leg : Leg) (to : Target) : Type 0 where

@@ -6,18 +6,19 @@ use Rattle.model.specs.Map.{Map}
 use Rattle.model.specs.Lines.{lineAt, arriving}
 use Rattle.search.specs.Ways.{line, node}
 use Rattle.search.specs.Area.{Listing, Among, listed}
-use Rattle.search.specs.Promises.{Told}
-use Rattle.search.specs.declared.ways.Ways.{Ways}
-use Rattle.legs.specs.declared.ends.Attributes.{Attributes}
-use Rattle.legs.specs.declared.ends.Leg.{Leg}
-use Rattle.legs.specs.declared.ends.Reading.{Reading}
-use Rattle.legs.specs.declared.ends.Verdict.{Verdict}
-use Rattle.legs.specs.Verdict.{attributesIn, arrivalIn, legIn, judgeOf, bothOf, Ready, Says, StandsIn, unread, FromLine, ToLines, ReadingTo}
+use Rattle.ways.specs.Told.{Told}
+use Rattle.ways.specs.declared.Ways.{Ways}
+use Rattle.fields.specs.declared.leg.Attributes.{Attributes}
+use Rattle.fields.specs.declared.leg.Leg.{Leg}
+use Rattle.fields.specs.declared.leg.Reading.{Reading}
+use Rattle.fields.specs.declared.leg.Verdict.{Verdict}
+use Rattle.fields.specs.Leg.{attributesIn, arrivalIn, legIn}
+use Rattle.legs.specs.Verdict.{judgeOf, bothOf, Ready, Says, StandsIn, unread, FromLine, ToLines, ReadingTo}
 use Rattle.legs.proofs.Joining.{says-same, says-both}
 use Rattle.legs.proofs.Readings.{judged}
 use Rattle.legs.proofs.Lines.{node-end, line-end, to-node, from-node, not-matching, not-there, no-place, place-more, place-other, place-apart, every-place, last-reached}
 use Rattle.model.specs.Reading as definitions
-use Rattle.legs.specs.declared.ends.Verdict.the-variants as verdict
+use Rattle.fields.specs.declared.leg.Verdict.the-variants as verdict
 
 module _ {m : Map} {lines : ℕ} {leg : Leg} {first limit : ℕ} {w : List ℕ} (ready : Ready m lines leg first limit w) where
   pub node-verdict : arrivalIn (leg .arrival) ≡ definitions.any → (ways : Ways) →

@@ -9,23 +9,17 @@ use Rattle.model.specs.Map.{Map}
 use Rattle.model.specs.Field.{sector, distance}
 use Rattle.model.specs.Lines.{LineAttributes, lineAt, total, firstOf, lastOf, leaving}
 use Rattle.model.specs.Reading.{greatestLegLength}
-use Rattle.depot_map.specs.Area.{Kept}
+use Rattle.buffers.specs.Kept.{Kept}
 use Rattle.search.specs.Ways.{Target, Ends}
-use Rattle.search.specs.Area.{Held, Chained, Searched, linesTo}
-use Rattle.search.specs.declared.ways.Ways.{Ways}
-use Rattle.legs.specs.declared.ends.Attributes.{Attributes}
-use Rattle.legs.specs.declared.ends.Arrival.{Arrival}
-use Rattle.legs.specs.declared.ends.Arrival.the-variants.{Any, Matching}
-use Rattle.legs.specs.declared.ends.Leg.{Leg}
-use Rattle.legs.specs.declared.ends.Reading.{Reading}
-use Rattle.legs.specs.declared.ends.Verdict.{Verdict}
-use Rattle.legs.specs.declared.ends.Verdict.the-variants.{Unread, One, Several}
+use Rattle.search.specs.Area.{Searched, linesTo, Set}
+use Rattle.ways.specs.declared.Ways.{Ways}
+use Rattle.fields.specs.declared.leg.Leg.{Leg}
+use Rattle.fields.specs.declared.leg.Reading.{Reading}
+use Rattle.fields.specs.declared.leg.Verdict.{Verdict}
+use Rattle.fields.specs.declared.leg.Verdict.the-variants.{Unread, One, Several}
+use Rattle.fields.specs.Leg.{legIn}
 use Rattle.model.specs.Reading as definitions
-use Rattle.search.specs.declared.ways.Ways.the-variants as found
-
--- The attributes, the arrival and the leg of the definitions.
-unfoldable pub attributesIn : Attributes → LineAttributes
-attributesIn a = record { frc = a .frc; fow = a .fow; sector = a .sector }
+use Rattle.ways.specs.declared.Ways.the-variants as found
 
 -- The attributes of line `l` in a work area, by its number `bearing`.
 unfoldable pub attributesAt : List ℕ → ℕ → ℕ → LineAttributes
@@ -34,21 +28,6 @@ attributesAt w l bearing =
       frc = getD w (1_024 + 7 * l + 3) 0;
       fow = getD w (1_024 + 7 * l + 4) 0;
       sector = sector (getD w (1_024 + 7 * l + bearing) 0);
-    }
-
-unfoldable pub arrivalIn : Arrival → definitions.Arrival
-arrivalIn Any = definitions.any
-arrivalIn (Matching a) = definitions.matching (attributesIn a)
-
-unfoldable pub legIn : Leg → definitions.Leg
-legIn leg =
-    record {
-      from = leg .from;
-      to = leg .to;
-      leaves = attributesIn (leg .leaves);
-      lowest = leg .lowest;
-      distance = leg .distance;
-      arrival = arrivalIn (leg .arrival);
     }
 
 -- Exactly one list has the property `P`: `ls`, of this first and last line, length and count.
@@ -117,11 +96,6 @@ pub record Ready (m : Map) (lines : ℕ) (leg : Leg) (first limit : ℕ) (w : Li
   pub searched : Searched m lines (leg .lowest) first limit w
   pub limited : LimitFor (leg .distance) limit
   pub start : FirstOf m (legIn leg) first
-
--- The work area is ready for searches: it holds the map, and the chains of the lines that leave each node are made.
-pub record Set (m : Map) (lines : ℕ) (w : List ℕ) : Type 0 where
-  pub held : Held w lines m
-  pub chained : Chained w lines m
 
 -- A verdict on readings, with what it leaves of the work area.
 pub record Judged (m : Map) (lines : ℕ) (P : List ℕ → Type 0) (Q : Reading → List ℕ → Type 0) (w v : List ℕ) (r : Verdict) : Type 0 where

@@ -1,24 +1,20 @@
 // Whether a line has the attributes that a point gives: FRC, FOW and the sector of its bearing there.
-use crate::ends::Attributes;
+use fields::leg::Attributes;
 use fields::leg::sector;
-use search::area::field;
+use work_area::BEARING_BACK;
+use work_area::BEARING_OUT;
+use work_area::FOW;
+use work_area::FRC;
+use work_area::field;
 ghost use mathlib.Core.Path.{_≡_};
 ghost use Prim.Native.Nat.{_≤_, _<_};
 ghost use lib.ListN.{length};
 ghost use Rattle.model.specs.Map.{Map};
 ghost use Rattle.model.specs.Lines.{leaving, arriving};
-ghost use Rattle.search.specs.Area.{Held};
-ghost use Rattle.search.specs.Steps.{Decides};
-ghost use Rattle.legs.specs.Verdict.{attributesIn, attributesAt};
-
-// Which number of a line is which.
-pub const FRC: usize = 3;
-
-pub const FOW: usize = 4;
-
-pub const BEARING_OUT: usize = 5;
-
-pub const BEARING_BACK: usize = 6;
+ghost use Rattle.work_area.specs.Area.{Held};
+ghost use Rattle.buffers.specs.Decides.{Decides};
+ghost use Rattle.fields.specs.Leg.{attributesIn};
+ghost use Rattle.legs.specs.Verdict.{attributesAt};
 
 // Whether line `l` has these attributes, by its number `bearing`.
 fn has_attributes(work: &[u32], l: usize, bearing: usize, a: Attributes) -> bool

@@ -1,58 +1,25 @@
 // What a finished search says of the end of a leg.
 use crate::attributes::arrives_as;
+use buffers::wide;
+use fields::leg::Attributes;
+use fields::leg::Leg;
+use fields::leg::Reading;
+use fields::leg::Verdict;
 use fields::leg::distance;
-use search::area::END;
-use search::area::field;
-use search::area::line_at;
-use search::area::wide;
-use search::ways::Ways;
-use search::ways::to_line;
-use search::ways::to_node;
+use search::cells::line_at;
+use ways::Ways;
+use ways::to_line;
+use ways::to_node;
+use work_area::END;
+use work_area::field;
 ghost use mathlib.Core.Path.{_≡_};
 ghost use Prim.Native.Nat.{_<_};
 ghost use Rattle.model.specs.Map.{Map};
 ghost use Rattle.model.specs.Reading.{any, matching};
 ghost use Rattle.search.specs.Ways.{line};
 ghost use Rattle.search.specs.Area.{Chained, NearestLine};
-ghost use Rattle.legs.specs.Verdict.{attributesIn, arrivalIn, legIn, judgeOf, bothOf, Ready, Says, StandsIn, FromLine, ReadingTo};
-
-// What a reference says of a line at a point: FRC, FOW and the sector of its bearing there.
-pub struct Attributes {
-    pub frc: u32,
-    pub fow: u32,
-    pub sector: u32,
-}
-
-// How a leg must end: with any line, or, on the last leg, with a line of these attributes.
-pub enum Arrival {
-    Any,
-    Matching(Attributes),
-}
-
-// A leg between two nodes, as the bytes give it.
-pub struct Leg {
-    pub from: usize,
-    pub to: usize,
-    pub leaves: Attributes,
-    pub lowest: u32,
-    pub distance: u32,
-    pub arrival: Arrival,
-}
-
-// A reading by its first and last line, its length and its count of lines.
-pub struct Reading {
-    pub first: usize,
-    pub last: usize,
-    pub length: u32,
-    pub count: usize,
-}
-
-// The readings of a leg.
-pub enum Verdict {
-    Unread,
-    One(Reading),
-    Several,
-}
+ghost use Rattle.fields.specs.Leg.{attributesIn, arrivalIn, legIn};
+ghost use Rattle.legs.specs.Verdict.{judgeOf, bothOf, Ready, Says, StandsIn, FromLine, ReadingTo};
 
 // The verdict on the ways from line `first` to an end: they are readings where their length gives byte D, `d`.
 fn judge(ways: Ways, first: usize, d: u32) -> Verdict

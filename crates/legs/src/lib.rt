@@ -1,24 +1,26 @@
 // A leg's reading: none, exactly one, or several (paper 01, "What counts as a reading").
 // `verdict` answers for a whole leg, `from_line` for one first line. A caller that asks for many ends of one search uses `ends`.
 use attributes::leaves_as;
-use ends::Arrival;
-use ends::Leg;
-use ends::Verdict;
 use ends::at_last_lines;
 use ends::at_node;
 use ends::both;
+use fields::leg::Arrival;
+use fields::leg::Leg;
+use fields::leg::Verdict;
 use fields::leg::longest_leg;
 use search::chains::first_leaving;
 use search::chains::next_leaving;
-use search::nodes::nearest_line;
 use search::search;
+use ways::nodes::nearest_line;
 ghost use mathlib.Core.Path.{_≡_};
 ghost use Prim.Native.Nat.{_<_};
 ghost use lib.ListN.{length};
 ghost use Rattle.model.specs.Map.{Map};
 ghost use Rattle.model.specs.Lines.{lineAt};
 ghost use Rattle.model.specs.Reading.{Reading};
-ghost use Rattle.legs.specs.Verdict.{legIn, FromLine, StandsIn, Anywhere, Set, Judged};
+ghost use Rattle.fields.specs.Leg.{legIn};
+ghost use Rattle.legs.specs.Verdict.{FromLine, StandsIn, Anywhere, Judged};
+ghost use Rattle.search.specs.Area.{Set};
 
 pub mod attributes;
 pub mod ends;

@@ -4,7 +4,7 @@ use mathlib.Core.Path.{_≡_}
 use mathlib.Core.List.{List}
 use borrow.Author.Tests.{lt-ltb, le-ltb}
 use Rattle.model.specs.Map.{MapAnswer, decode}
-use Rattle.model.specs.Outcome.{workLength}
+use Rattle.model.specs.Work.{workLength}
 use Rattle.measured.specs.Refusal.{refusedBy, mapRefusal}
 
 module _ (work : ℕ) (bytes : List ℕ) where

@@ -5,7 +5,7 @@ use mathlib.Core.Bool.{cond}
 use mathlib.Core.List.{List}
 use lib.Dec.{ltb}
 use Rattle.model.specs.Map.{MapAnswer, whole, decode}
-use Rattle.model.specs.Outcome.{workLength}
+use Rattle.model.specs.Work.{workLength}
 use Rattle.model.specs.Refusal.{numberOf, refusalOf}
 use Rattle.model.specs.Stretch.{Stretch}
 use Rattle.model.specs.Call.{ReadCall, WriteCall}

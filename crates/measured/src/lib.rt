@@ -1,6 +1,5 @@
 // Functions of the inner crates as C functions, for the benchmark alone. They are no entry points of the product.
 use depot_map::MapRead;
-use depot_map::area::WORK_LENGTH;
 use depot_map::read_map;
 use fields::leg::GREATEST_LEG_LENGTH;
 use model::ReadAnswer;
@@ -9,12 +8,13 @@ use model::number_of;
 use reader::read;
 use search::chains::link;
 use search::search;
+use work_area::WORK_LENGTH;
 use writer::write;
 ghost use mathlib.Core.Path.{_≡_};
 ghost use lib.ListN.{length};
 ghost use Rattle.model.specs.Map.{Map};
-ghost use Rattle.depot_map.specs.Area.{Holds};
-ghost use Rattle.stretches.specs.Stretch.{stretchOf};
+ghost use Rattle.work_area.specs.Area.{Holds};
+ghost use Rattle.model.specs.Stretch.{stretchOf};
 ghost use Rattle.measured.specs.Refusal.{mapRefusal, ReadNumber, WriteNumber};
 
 // Reads a map into the work area: the number of the refusal, or 0.

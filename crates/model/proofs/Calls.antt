@@ -7,7 +7,8 @@ use lib.ListN.{length, drop, length-append}
 use Rattle.model.specs.declared.Span.{Span}
 use Rattle.model.specs.declared.ReadAnswer.the-variants.{Read}
 use Rattle.model.specs.Outcome.{ReadOutcome}
-use Rattle.model.specs.Call.{placed, linesAfter, ReadAnswers, ReadCall}
+use Rattle.model.specs.Work.{placed}
+use Rattle.model.specs.Call.{linesAfter, ReadAnswers, ReadCall}
 
 fits : {n : ℕ} {pos neg : Span} {o : ReadOutcome} {lines′ : List ℕ} (lines : List ℕ) → ReadAnswers (Read n pos neg) o → lines′ ≡ linesAfter o lines →
     n ≤ length lines′

@@ -8,8 +8,7 @@ use lib.ListN.{length, take, drop, replicate, length-append}
 use lib.Seq.{drop-at, length-take-le}
 use lib.Dec.{ltb}
 use borrow.Author.Tests.{lt-ltb, le-ltb}
-use Rattle.model.specs.Outcome.{workLength}
-use Rattle.model.specs.Call.{cleared}
+use Rattle.model.specs.Work.{workLength, cleared}
 
 -- A work area that is too short stays as it is.
 pub cleared-short : (w : List ℕ) → length w < workLength → w ≡ cleared w

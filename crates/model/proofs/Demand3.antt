@@ -11,7 +11,9 @@ use Rattle.model.specs.Reference.{Reference, bytesOf, parsed, parse, sho
 use Rattle.model.specs.Reading.{Readings, joined}
 use Rattle.model.specs.Stretch.{Stretch, remaining}
 use Rattle.model.specs.Choice.{good, Usable, firstLeg, lastLeg, referenceOf, stretchBytes}
-use Rattle.model.specs.Outcome.{located, locate, SpansRead, read, ReadEnd, ReadOn, workLength, Reads, written, Writes}
+use Rattle.model.specs.Locate.{located, locate}
+use Rattle.model.specs.Outcome.{SpansRead, read, ReadEnd, ReadOn, Reads, written, Writes}
+use Rattle.model.specs.Work.{workLength}
 use Rattle.model.specs.Demand3.{Fits, Within, ReadAs, ReadBack, Apart, Alike, Demand3}
 use Rattle.model.proofs.Every.{Every, Byte}
 use Rattle.model.specs.WellFormed.{WellFormed}

@@ -9,7 +9,7 @@ use borrow.Author.Tests.{eq-eqb}
 use Rattle.model.specs.Map.{Node, Map, whole, decode, lonCode, latCode, sameCodes, among, clash}
 use Rattle.model.specs.Difference.{DifferencesFit, differences, standsAt}
 use Rattle.model.specs.Lines.{nodeAt}
-use Rattle.model.specs.Outcome.{found, seek, hasCodes}
+use Rattle.model.specs.Locate.{found, seek, hasCodes}
 use Rattle.model.proofs.Tests.{neither}
 use Rattle.model.specs.WellFormed.{WellFormed}
 use Rattle.model.proofs.Decoded.{well-formed}

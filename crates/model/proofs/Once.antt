@@ -11,7 +11,9 @@ use Rattle.model.specs.Reference.{Reference, ParseAnswer, parsed, parse}
 use Rattle.model.specs.Reading.{Leg}
 use Rattle.model.specs.Stretch.{Stretch, StretchAnswer, remains, checkStretch}
 use Rattle.model.specs.Choice.{LegTest, MoreFirst, more, later, Preferred, same, fewer, more-first, Chosen}
-use Rattle.model.specs.Outcome.{located, locate, LegsAnswer, LegsRead, SpansRead, ReadOutcome, ReadEnd, ReadOn, ReadParsed, ReadMap, ReadWork, workLength, Reads, WriteOutcome, WriteOn, WriteStretch, WriteMap, WriteWork, Writes}
+use Rattle.model.specs.Locate.{located, locate}
+use Rattle.model.specs.Outcome.{LegsAnswer, LegsRead, SpansRead, ReadOutcome, ReadEnd, ReadOn, ReadParsed, ReadMap, ReadWork, Reads, WriteOutcome, WriteOn, WriteStretch, WriteMap, WriteWork, Writes}
+use Rattle.model.specs.Work.{workLength}
 use Rattle.model.proofs.Legs.{legs-same}
 use Rattle.model.proofs.Spans.{span-same, no-span}
 

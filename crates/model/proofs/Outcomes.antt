@@ -11,7 +11,8 @@ use Rattle.model.specs.Map.{Map, MapAnswer, whole, decode}
 use Rattle.model.specs.Reference.{Reference, parsed, parse}
 use Rattle.model.specs.Stretch.{Stretch, remaining, StretchAnswer, remains, checkStretch}
 use Rattle.model.specs.Choice.{good, Chosen, stretchBytes}
-use Rattle.model.specs.Outcome.{ReadOutcome, ReadOn, workLength, Reads, WriteOutcome, written, WriteOn, WriteStretch, WriteMap, WriteWork, Writes}
+use Rattle.model.specs.Outcome.{ReadOutcome, ReadOn, Reads, WriteOutcome, written, WriteOn, WriteStretch, WriteMap, WriteWork, Writes}
+use Rattle.model.specs.Work.{workLength}
 use Rattle.model.proofs.Skipping.{Left, taken}
 
 -- The writer wrote these bytes on this map.

@@ -10,7 +10,7 @@ use Rattle.model.specs.Reference.{Point}
 use Rattle.model.specs.Reading.{joined}
 use Rattle.model.specs.Stretch.{gap}
 use Rattle.model.specs.Choice.{fromNode, toNode, arrivalOf, legOf, Good, good, Usable, final, before, pointOf, pointsOf, firstLeg, lastLeg, referenceOf}
-use Rattle.model.specs.Outcome.{found, seek, located, leg-first, arrivalBefore, legsFrom, locate}
+use Rattle.model.specs.Locate.{found, seek, located, leg-first, arrivalBefore, legsFrom, locate}
 use Rattle.model.specs.WellFormed.{WellFormed}
 use Rattle.model.proofs.Nodes.{by-codes, by-differences}
 use Rattle.model.proofs.Skipping.{gap-suffix}

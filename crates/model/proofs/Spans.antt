@@ -12,7 +12,7 @@ use Rattle.model.specs.declared.Span.{Span}
 use Rattle.model.specs.Field.{offsetByte}
 use Rattle.model.specs.Reference.{Offset, absent, byte}
 use Rattle.model.specs.Choice.{offsetOf}
-use Rattle.model.specs.Outcome.{Gives, SpanRead, unflagged, flagged, NoOffset, no-offset}
+use Rattle.model.specs.Span.{Gives, SpanRead, unflagged, flagged, NoOffset, no-offset}
 use Rattle.model.specs.Demand3.{Within}
 use Rattle.model.proofs.Every.{Byte}
 

@@ -1,27 +1,18 @@
 -- Calls: the answer, and what each call leaves in what it was lent (paper 01, "Refused, by place", last paragraph).
 use Prim.Native.Nat.{ℕ}
 use mathlib.Core.Path.{_≡_}
-use mathlib.Core.Bool.{cond}
-use mathlib.Core.List.{List, _++_}
-use lib.ListN.{length, drop, replicate}
-use lib.Dec.{ltb}
+use mathlib.Core.List.{List}
+use lib.ListN.{length}
 use Rattle.model.specs.declared.Refusal.{Refusal}
 use Rattle.model.specs.declared.Span.{Span}
 use Rattle.model.specs.declared.ReadAnswer.{ReadAnswer}
 use Rattle.model.specs.declared.WriteAnswer.{WriteAnswer}
 use Rattle.model.specs.Refusal.{refusalOf}
 use Rattle.model.specs.Stretch.{Stretch}
-use Rattle.model.specs.Outcome.{ReadOutcome, read, workLength, Reads, WriteOutcome, written, Writes}
+use Rattle.model.specs.Outcome.{ReadOutcome, read, Reads, WriteOutcome, written, Writes}
+use Rattle.model.specs.Work.{cleared, placed}
 use Rattle.model.specs.declared.ReadAnswer.the-variants as Reader
 use Rattle.model.specs.declared.WriteAnswer.the-variants as Writer
-
--- "After every call but refusal 1 the first 12,288 of the work area are zero and the rest unchanged; refusal 1 changes nothing."
-unfoldable pub cleared : List ℕ → List ℕ
-cleared work = cond (ltb (length work) workLength) work (replicate workLength 0 ++ drop workLength work)
-
--- "The result stands first in its buffer, the rest unchanged."
-unfoldable pub placed : List ℕ → List ℕ → List ℕ
-placed result buffer = result ++ drop (length result) buffer
 
 -- "A refusal leaves the byte and line buffers unchanged."
 unfoldable pub linesAfter : ReadOutcome → List ℕ → List ℕ

@@ -10,7 +10,9 @@ use Rattle.model.specs.Reference.{Reference, parsed, parse}
 use Rattle.model.specs.Reading.{Leg, Readings}
 use Rattle.model.specs.Stretch.{Stretch, remaining}
 use Rattle.model.specs.Choice.{good, Chosen, firstLeg, lastLeg}
-use Rattle.model.specs.Outcome.{located, locate, ReadOutcome, read, workLength, Reads, written, Writes}
+use Rattle.model.specs.Locate.{located, locate}
+use Rattle.model.specs.Outcome.{ReadOutcome, read, Reads, written, Writes}
+use Rattle.model.specs.Work.{workLength}
 
 -- "A joining of least-length legs that fits the bytes is a reading of the reference on that map": these are its legs.
 pub record Fits (m : Map) (bytes : List ℕ) (lss : List (List ℕ)) : Type 0 where

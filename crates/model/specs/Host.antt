@@ -7,8 +7,8 @@ use lib.ListN.{length}
 use lib.Dec.{eqb}
 use Rattle.model.specs.Refusal.{numberOf, placeOf}
 use Rattle.model.specs.Stretch.{Stretch}
-use Rattle.model.specs.Outcome.{ReadOutcome, read, workLength, Reads, WriteOutcome, written, Writes}
-use Rattle.model.specs.Call.{placed}
+use Rattle.model.specs.Outcome.{ReadOutcome, read, Reads, WriteOutcome, written, Writes}
+use Rattle.model.specs.Work.{workLength, placed}
 
 -- The line numbers of some bytes; bytes beyond the last whole four are left out.
 unfoldable pub words : List ℕ → List ℕ

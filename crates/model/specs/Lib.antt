@@ -10,7 +10,10 @@ pub mod Reference
 pub mod Reading
 pub mod Choice
 pub mod Refusal
+pub mod Locate
+pub mod Span
 pub mod Outcome
+pub mod Work
 pub mod Call
 pub mod Host
 pub mod Demand3

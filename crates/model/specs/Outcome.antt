@@ -1,73 +1,21 @@
 -- What the reader and the writer come to: for each outcome, when it is the one (paper 01, "Refused, by place").
 use Prim.Native.Nat.{ℕ, _+_, _≤_, _<_}
 use mathlib.Core.Path.{_≡_}
-use mathlib.Core.Bool.{Bool, true, false, _&&_}
+use mathlib.Core.Bool.{Bool, true, false}
 use mathlib.Core.List.{List, [], _∷_}
 use lib.ListN.{length}
-use lib.Dec.{ltb, eqb}
+use lib.Dec.{ltb}
 use Rattle.model.specs.declared.Span.{Span}
 use Rattle.model.specs.Refusal.{Refused, row, rowAt}
-use Rattle.model.specs.Map.{Node, Map, MapAnswer, whole, decode, lonCode, latCode}
-use Rattle.model.specs.Field.{offsetByte}
-use Rattle.model.specs.Difference.{standsAt}
-use Rattle.model.specs.Lines.{LineAttributes, nodeAt, total}
-use Rattle.model.specs.Reference.{Offset, absent, byte, Point, Reference, ParseAnswer, parsed, parse}
-use Rattle.model.specs.Reading.{Arrival, any, matching, Leg, Only, Several, Unread, joined}
+use Rattle.model.specs.Map.{Map, MapAnswer, whole, decode}
+use Rattle.model.specs.Lines.{total}
+use Rattle.model.specs.Reference.{Reference, ParseAnswer, parsed, parse}
+use Rattle.model.specs.Reading.{Leg, Only, Several, Unread, joined}
 use Rattle.model.specs.Stretch.{Stretch, StretchAnswer, remains, checkStretch}
 use Rattle.model.specs.Choice.{good, Choice, Chosen, firstLeg, lastLeg, stretchBytes}
-
--- The first node that passes a test, counted from `v`. On a decoded map no other passes one of the tests below (proofs/Nodes.antt).
-pub data Found : Type 0 where
-  found : ℕ → Found
-  missing : Found
-
-unfoldable pub seek : (Node → Bool) → ℕ → List Node → Found
-seek test v [] = missing
-seek test v (a ∷ rest) = elim (test a) [ true ↦ found v | false ↦ seek test (v + 1) rest ]
-
--- The legs between the nodes of a reference's points, or the first "point with no node" (refusal 16).
-pub data Located : Type 0 where
-  located : List Leg → Located
-  no-node : ℕ → Located
-
-unfoldable pub leg-first : Leg → Located → Located
-leg-first leg (located legs) = located (leg ∷ legs)
-leg-first leg (no-node k) = no-node k
-
--- How a leg arrives that has these points after its own: the last one as the last P and R say.
-unfoldable pub arrivalBefore : List Point → LineAttributes → Arrival
-arrivalBefore [] last = matching last
-arrivalBefore (p ∷ ps) last = any
-
--- The legs from node `v`, which is point `k`, on: "each later point is the node at the previous node's coordinates plus the differences".
-unfoldable pub legsFrom : Map → LineAttributes → ℕ → ℕ → List Point → Located
-legsFrom m last v k [] = located []
-legsFrom m last v k (p ∷ ps) =
-    elim (seek (standsAt (nodeAt m v) (p .next)) 0 (m .nodes)) [
-      | found u ↦
-          leg-first
-          (record {
-            from = v;
-            to = u;
-            leaves = p .leaves;
-            lowest = p .lowest;
-            distance = p .distance;
-            arrival = arrivalBefore ps last;
-          })
-          (legsFrom m last u (k + 1) ps)
-      | missing ↦ no-node (k + 1)
-    ]
-
--- "The first point is the node with its two codes."
-unfoldable pub hasCodes : ℕ → ℕ → Node → Bool
-hasCodes lon lat a = eqb (lonCode a) lon && eqb (latCode a) lat
-
-unfoldable pub locate : Map → Reference → Located
-locate m r =
-    elim (seek (hasCodes (r .lon) (r .lat)) 0 (m .nodes)) [
-      | found v ↦ legsFrom m (r .arrives) v 0 (r .points)
-      | missing ↦ no-node 0
-    ]
+use Rattle.model.specs.Locate.{locate, located, no-node}
+use Rattle.model.specs.Span.{SpanRead, NoOffset}
+use Rattle.model.specs.Work.{workLength}
 
 -- Every leg read, or a refusal and the leg it is given for.
 pub data LegsAnswer : Type 0 where
@@ -83,22 +31,6 @@ pub data LegsRead (m : Map) : ℕ → List Leg → LegsAnswer → Type 0 where
   several : {k : ℕ} {leg : Leg} {rest : List Leg} → Several m leg → LegsRead m k (leg ∷ rest) (failed 18 k)
   later : {k n j : ℕ} {leg : Leg} {rest : List Leg} {ls : List ℕ} →
       Only m leg ls → LegsRead m (k + 1) rest (failed n j) → LegsRead m k (leg ∷ rest) (failed n j)
-
--- "Of the whole offsets from 1 to below the leg length": `o` is one, and it gives the byte.
-pub record Gives (leg byte o : ℕ) : Type 0 where
-  pub above : 0 < o
-  pub inside : o < leg
-  pub same : offsetByte leg o ≡ byte
-
--- Span, the paper's word: "the least and the greatest that give its byte", "0 and 0 if unflagged".
-pub data SpanRead (leg : ℕ) : Offset → Span → Type 0 where
-  unflagged : SpanRead leg absent (record { least = 0; greatest = 0 })
-  flagged : {b lo hi : ℕ} → Gives leg b lo → Gives leg b hi → ((o : ℕ) → Gives leg b o → (lo ≤ o) × (o ≤ hi)) →
-      SpanRead leg (byte b) (record { least = lo; greatest = hi })
-
--- Refusal 19, first half: "no whole offset from 1 to below the leg length gives a flagged byte".
-pub data NoOffset (leg : ℕ) : Offset → Type 0 where
-  no-offset : {b : ℕ} → ((o : ℕ) → Gives leg b o → ⊥) → NoOffset leg (byte b)
 
 -- Both spans of the legs that were read: "on the first leg for the positive and the last for the negative".
 pub record SpansRead (m : Map) (r : Reference) (lss : List (List ℕ)) (pos neg : Span) : Type 0 where
@@ -128,10 +60,6 @@ pub data ReadOn (m : Map) (r : Reference) (room : ℕ) : ReadOutcome → Type 0 
       ReadOn m r room (refused (rowAt n k))
   every-leg : {legs : List Leg} {lss : List (List ℕ)} {o : ReadOutcome} →
       locate m r ≡ located legs → LegsRead m 0 legs (every lss) → ReadEnd m r room lss o → ReadOn m r room o
-
--- "Work area under 12,288 numbers of 32 bits" (refusal 1).
-abbrev pub workLength : ℕ
-workLength = 12_288
 
 -- Row by row: the reference (12 to 15) after the map (2 to 6) after the work area (1).
 abbrev pub ReadParsed : Map → ParseAnswer → ℕ → ReadOutcome → Type 0

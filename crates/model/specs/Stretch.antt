@@ -60,3 +60,6 @@ checkStretch m s =
     cond (eqb (length (s .lines)) 0 || ltb greatestStretch (length (s .lines)) || unknown m (s .lines)) (refused (row 7))
     (cond (gap m (s .lines)) (refused (row 8))
     (cond (leb (total m (s .lines)) (s .pos + s .neg)) (refused (row 9)) (remains (remaining m s))))
+
+abbrev pub stretchOf : List ℕ → ℕ → ℕ → Stretch
+stretchOf lines pos neg = record { lines = lines; pos = pos; neg = neg }

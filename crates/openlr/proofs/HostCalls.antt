@@ -10,8 +10,9 @@ use Rattle.model.specs.declared.Span.{Span}
 use Rattle.model.specs.declared.ReadAnswer.{ReadAnswer}
 use Rattle.model.specs.declared.ReadAnswer.the-variants.{Read, Refused}
 use Rattle.model.specs.Refusal.{refusalOf}
-use Rattle.model.specs.Outcome.{ReadOutcome, read, workLength, Reads}
-use Rattle.model.specs.Call.{placed, linesAfter, ReadAnswers, lines, refusal, ReadAnswered}
+use Rattle.model.specs.Outcome.{ReadOutcome, read, Reads}
+use Rattle.model.specs.Work.{workLength, placed}
+use Rattle.model.specs.Call.{linesAfter, ReadAnswers, lines, refusal, ReadAnswered}
 use Rattle.model.specs.Host.{wordBytes, hostRoom, HostRead, hostRead, hostLinesAfter, HostReadCall}
 
 -- ---- the reader

@@ -13,12 +13,12 @@ use Rattle.model.specs.declared.WriteAnswer.{WriteAnswer}
 use Rattle.model.specs.declared.WriteAnswer.the-variants.{Written, Refused}
 use Rattle.model.specs.Map.{Map, MapAnswer, whole, decode}
 use Rattle.model.specs.Refusal.{row, refusalOf}
-use Rattle.model.specs.Stretch.{Stretch, StretchAnswer, checkStretch, greatestStretch}
-use Rattle.model.specs.Outcome.{WriteOutcome, written, workLength, WriteStretch, WriteMap, WriteWork, Writes}
+use Rattle.model.specs.Stretch.{Stretch, StretchAnswer, checkStretch, greatestStretch, stretchOf}
+use Rattle.model.specs.Outcome.{WriteOutcome, written, WriteStretch, WriteMap, WriteWork, Writes}
+use Rattle.model.specs.Work.{workLength}
 use Rattle.model.specs.Call.{bytesAfter, WriteAnswers, bytes, refusal, WriteAnswered}
 use Rattle.model.specs.Host.{hostStretch, HostWritten, hostWritten, hostBytesAfter, HostWriteCall}
 use Rattle.model.proofs.Demand3.{written-bytes}
-use Rattle.stretches.specs.Stretch.{stretchOf}
 use Rattle.openlr.specs.Host.{stretchLines}
 
 -- ---- long stretches

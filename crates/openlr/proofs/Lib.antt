@@ -1,4 +1,4 @@
 -- Laws of line numbers as bytes, and of a host's calls.
-pub mod LineBytes
 pub mod HostCalls
 pub mod HostWriting
+pub mod StretchLines

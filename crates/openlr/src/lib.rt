@@ -1,26 +1,25 @@
 // The functions that a C program calls (paper 01, "The product"). include/openlr.h has them for C.
-use depot_map::area::WORK_LENGTH;
+use buffers::words::WORD_BYTES;
+use buffers::words::lesser;
+use buffers::words::put_words;
+use buffers::words::take_words;
 use model::ReadAnswer;
 use model::Refusal;
 use model::WriteAnswer;
 use model::number_of;
 use model::place_of;
-use words::WORD_BYTES;
-use words::lesser;
-use words::put_words;
-use words::take_stretch;
+use work_area::WORK_LENGTH;
 ghost use mathlib.Core.Path.{_≡_};
-ghost use Prim.Native.Nat.{ℕ};
+ghost use Prim.Native.Nat.{ℕ, _≤_};
 ghost use mathlib.Core.List.{List};
 ghost use lib.ListN.{length, take};
 ghost use Rattle.model.specs.Refusal.{refusalOf};
-ghost use Rattle.model.specs.Outcome.{ReadOutcome, workLength, Reads, Writes};
+ghost use Rattle.model.specs.Outcome.{ReadOutcome, Reads, Writes};
+ghost use Rattle.model.specs.Work.{workLength};
 ghost use Rattle.model.specs.Call.{ReadAnswered, WriteAnswered};
 ghost use Rattle.model.specs.Host.{hostRead, HostReadCall, HostWriteCall};
-ghost use Rattle.stretches.specs.Stretch.{stretchOf};
+ghost use Rattle.model.specs.Stretch.{stretchOf};
 ghost use Rattle.openlr.specs.Host.{asRead, asWritten, stretchLines};
-
-mod words;
 
 // The most line numbers that a host is given.
 const MOST_LINES: usize = 1_024;
@@ -102,6 +101,16 @@ pub extern "C" fn openlr_read(map: &[u8], reference: &[u8], lines: &mut [u8]) ->
 {
     let mut numbers = [0u32; MOST_LINES];
     read_lines(map, reference, &mut numbers, lines)
+}
+
+// Takes the line numbers of a stretch from its bytes, as many as there is room for. Bytes whose count is no multiple of four hold no line.
+fn take_stretch(bytes: &[u8], numbers: &mut [u32]) -> usize
+    ensures { λ r. ⌜ (r ≤ length (now (numbers .entry))) × (take r (now (numbers .exit)) ≡ take (length (now (numbers .entry))) (stretchLines (now (bytes .entry)))) ⌝ }
+{
+    if bytes.len() % WORD_BYTES != 0 {
+        return 0;
+    }
+    take_words(bytes, numbers)
 }
 
 // Writes with a work area of its own.

@@ -1,6 +1,6 @@
 -- Answers to the definitions' questions, put together from those of the parts.
 use Prim.Native.Nat.{ℕ, _≤_, _<_}
-use mathlib.Core.Path.{_≡_, refl, sym, ap, subst}
+use mathlib.Core.Path.{_≡_, refl, sym, subst}
 use mathlib.Core.List.{List}
 use native.Mathlib.Omega.{arith}
 use lib.ListN.{length, take, drop}
@@ -10,8 +10,10 @@ use Rattle.model.specs.Map.{Map, MapAnswer, decode}
 use Rattle.model.specs.Refusal.{refusalOf}
 use Rattle.model.specs.Reference.{Reference, ParseAnswer, parse}
 use Rattle.model.specs.Reading.{Leg, joined}
-use Rattle.model.specs.Outcome.{located, no-node, locate, LegsRead, every, failed, ReadOutcome, read, ReadEnd, ReadOn, no-point, no-leg, every-leg, ReadParsed, ReadMap, workLength, Reads}
-use Rattle.model.specs.Call.{cleared, placed, linesAfter, ReadAnswers, lines, refusal, ReadAnswered, ReadCall}
+use Rattle.model.specs.Locate.{located, no-node, locate}
+use Rattle.model.specs.Outcome.{LegsRead, every, failed, ReadOutcome, read, ReadEnd, ReadOn, no-point, no-leg, every-leg, ReadParsed, ReadMap, Reads}
+use Rattle.model.specs.Work.{workLength, cleared, placed}
+use Rattle.model.specs.Call.{linesAfter, ReadAnswers, lines, refusal, ReadAnswered, ReadCall}
 use Rattle.model.specs.declared.Refusal.{Refusal}
 use Rattle.model.specs.declared.Span.{Span}
 use Rattle.model.specs.declared.ReadAnswer.{ReadAnswer}
@@ -19,10 +21,10 @@ use Rattle.model.specs.declared.ReadAnswer.the-variants.{Read, Refused}
 use Rattle.model.proofs.Legs.{legs-same}
 use Rattle.model.proofs.Cleared.{cleared-short}
 use Rattle.model.proofs.Answering.{answered-by, refused-read}
-use Rattle.reader.specs.declared.every_leg.Sums.{Sums}
-use Rattle.reader.specs.declared.every_leg.Legs.{Legs}
-use Rattle.reader.specs.declared.every_leg.Legs.the-variants.{Every, Unread, Several}
-use Rattle.reader.specs.Every.{Laid, AllRead, LegsTell, LegsDone}
+use Rattle.reference_legs.specs.declared.Sums.{Sums}
+use Rattle.reference_legs.specs.declared.Legs.{Legs}
+use Rattle.reference_legs.specs.declared.Legs.the-variants.{Every, Unread, Several}
+use Rattle.reference_legs.specs.Legs.{Laid, AllRead, LegsTell, LegsDone}
 use Rattle.reader.specs.Ending.{Ended}
 use Rattle.model.specs.Refusal as definitions
 use Rattle.model.specs.declared.Refusal.the-variants as why

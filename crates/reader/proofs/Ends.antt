@@ -7,15 +7,16 @@ use Rattle.model.specs.Map.{Map}
 use Rattle.model.specs.Refusal.{row, refusalOf}
 use Rattle.model.specs.Reference.{absent, byte, Reference}
 use Rattle.model.specs.Reading.{joined}
-use Rattle.model.specs.Outcome.{SpanRead, unflagged, NoOffset, SpansRead, ReadOutcome, read, ReadEnd}
+use Rattle.model.specs.Span.{SpanRead, unflagged, NoOffset}
+use Rattle.model.specs.Outcome.{SpansRead, ReadOutcome, read, ReadEnd}
 use Rattle.model.specs.Call.{lines, refusal}
 use Rattle.model.specs.declared.Span.{Span}
 use Rattle.model.specs.declared.ReadAnswer.the-variants.{Read, Refused}
 use Rattle.fields.specs.Offset.{OffsetsOf}
 use Rattle.fields.specs.declared.offset.Offsets.{Offsets}
 use Rattle.fields.specs.declared.offset.Offsets.the-variants.{Between, Nowhere}
-use Rattle.reader.specs.declared.every_leg.Sums.{Sums}
-use Rattle.reader.specs.Every.{SumsOf}
+use Rattle.reference_legs.specs.declared.Sums.{Sums}
+use Rattle.reference_legs.specs.Legs.{SumsOf}
 use Rattle.reader.specs.Ending.{SpansOf, Ended}
 use Rattle.model.specs.declared.Refusal.the-variants as why
 

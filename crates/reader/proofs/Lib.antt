@@ -1,6 +1,3 @@
 -- Laws of the legs that are read one after another, of the offsets' spans, and of the answers put together.
-pub mod NotOne
-pub mod Gathering
-pub mod Candidates
 pub mod Ends
 pub mod Answers

@@ -4,7 +4,8 @@ use mathlib.Core.Path.{_≡_}
 use mathlib.Core.List.{List}
 use Rattle.model.specs.Map.{Map}
 use Rattle.model.specs.Reference.{Offset, Reference}
-use Rattle.model.specs.Outcome.{SpanRead, NoOffset, ReadOutcome, ReadEnd}
+use Rattle.model.specs.Span.{SpanRead, NoOffset}
+use Rattle.model.specs.Outcome.{ReadOutcome, ReadEnd}
 use Rattle.model.specs.Call.{ReadAnswers}
 use Rattle.model.specs.declared.Span.{Span}
 use Rattle.model.specs.declared.ReadAnswer.{ReadAnswer}

@@ -1,3 +1,2 @@
 -- What is promised of the legs that are read, and of the answer.
-pub mod Every
 pub mod Ending

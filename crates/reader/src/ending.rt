@@ -1,10 +1,10 @@
 // What is asked once every leg is read: the offsets' spans, and whether the lines fit their buffer.
-use crate::every_leg::Sums;
 use fields::offset::Offsets;
 use fields::offset::span_of;
 use model::ReadAnswer;
 use model::Refusal;
 use model::Span;
+use reference_legs::Sums;
 use references::reference::Offset;
 use references::reference::negative_offset;
 use references::reference::positive_offset;
@@ -13,7 +13,7 @@ ghost use mathlib.Core.List.{List};
 ghost use Rattle.model.specs.Map.{Map};
 ghost use Rattle.model.specs.Reference.{referenceAt};
 ghost use Rattle.references.specs.Form.{SoundBytes, offsetIn};
-ghost use Rattle.reader.specs.Every.{SumsOf};
+ghost use Rattle.reference_legs.specs.Legs.{SumsOf};
 ghost use Rattle.reader.specs.Ending.{SpansOf, Ended};
 
 // The span of an offset on a leg of this length: 0 and 0 where there is no byte.

@@ -1,18 +1,19 @@
 // The reader of references (paper 01): `read`, and its parts in the order in which they are asked.
+use buffers::copy;
 use depot_map::MapRead;
-use depot_map::area::WORK_LENGTH;
-use depot_map::area::clear;
 use depot_map::read_map;
 use ending::answer;
-use every_leg::Legs;
-use every_leg::read_legs;
 use model::ReadAnswer;
 use model::Refusal;
+use reference_legs::Legs;
+use reference_legs::read_legs;
 use references::points::Places;
 use references::points::locate;
 use references::reference::Form;
 use references::reference::Reference;
 use search::chains::link;
+use work_area::WORK_LENGTH;
+use work_area::clear;
 ghost use mathlib.Core.Path.{_≡_};
 ghost use Prim.Native.Nat.{ℕ, _≤_, _<_};
 ghost use mathlib.Core.List.{List};
@@ -20,33 +21,21 @@ ghost use lib.ListN.{length, take};
 ghost use Rattle.model.specs.Map.{Map, decode};
 ghost use Rattle.model.specs.Reference.{referenceAt, parse};
 ghost use Rattle.model.specs.Reading.{joined};
-ghost use Rattle.model.specs.Outcome.{LegsRead, every, located, ReadOn, ReadParsed, ReadMap, workLength};
-ghost use Rattle.model.specs.Call.{placed, ReadAnswered, ReadCall};
-ghost use Rattle.depot_map.specs.Area.{Holds};
-ghost use Rattle.legs.specs.Verdict.{Set};
+ghost use Rattle.model.specs.Outcome.{LegsRead, every, ReadOn, ReadParsed, ReadMap};
+ghost use Rattle.model.specs.Locate.{located};
+ghost use Rattle.model.specs.Work.{workLength, placed};
+ghost use Rattle.model.specs.Call.{ReadAnswered, ReadCall};
+ghost use Rattle.work_area.specs.Area.{Holds};
+ghost use Rattle.search.specs.Area.{Set};
 ghost use Rattle.references.specs.Form.{SoundBytes};
 ghost use Rattle.references.specs.Legs.{legsAt};
-ghost use Rattle.reader.specs.Every.{PlacesIn};
-ghost use Rattle.model.specs.Outcome as definitions;
+ghost use Rattle.reference_legs.specs.Legs.{PlacesIn};
+ghost use Rattle.model.specs.Locate as definitions;
 
 mod ending;
-mod every_leg;
 
 // How many lines are kept until all is asked. The lines of a longer reading are found a second time.
 const KEPT_LINES: usize = 2_304;
-
-// Writes `kept` into `lines`, from its start on.
-fn copy_lines(kept: &[u32], lines: &mut [u32])
-    requires { ⌜ length (now kept) ≤ length (now lines) ⌝ }
-    ensures { λ _. ⌜ now (lines .exit) ≡ placed (now (kept .entry)) (now (lines .entry)) ⌝ }
-{
-    let n = kept.len();
-    let mut i: usize = 0;
-    while i < n {
-        lines[i] = kept[i];
-        i += 1;
-    }
-}
 
 // Writes the `count` lines of a reference that is accepted.
 fn put_lines(
@@ -67,7 +56,7 @@ fn put_lines(
         → now (out .exit) ≡ placed (joined lists) (now (out .entry))) ⌝ }
 {
     if count <= kept.len() {
-        copy_lines(&kept[..count], out);
+        copy(&kept[..count], out);
         return;
     }
     read_legs(bytes, points, places, work, lines, out);

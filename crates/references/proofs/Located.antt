@@ -10,7 +10,7 @@ use Rattle.model.specs.Map.{Map}
 use Rattle.model.specs.Lines.{LineAttributes, nodeAt}
 use Rattle.model.specs.Difference.{standsAt}
 use Rattle.model.specs.Reference.{at3, attributes, pointAt, pointsAt, referenceAt}
-use Rattle.model.specs.Outcome.{Found, found, missing, seek, Located, located, no-node, leg-first, arrivalBefore, legsFrom, hasCodes, locate}
+use Rattle.model.specs.Locate.{Found, found, missing, seek, Located, located, no-node, leg-first, arrivalBefore, legsFrom, hasCodes, locate}
 use Rattle.references.specs.declared.node.Sought.the-variants.{Codes}
 use Rattle.references.specs.Node.{passes}
 use Rattle.references.specs.Legs.{placeP, arrivalAt, legAt, legsOn, legsAt}

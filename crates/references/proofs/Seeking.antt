@@ -9,9 +9,9 @@ use lib.ListN.{length, getD, drop}
 use lib.Seq.{drop-cons, drop-length}
 use Rattle.model.specs.Map.{Node, Map}
 use Rattle.model.specs.Lines.{nodeAt}
-use Rattle.model.specs.Outcome.{found, missing, seek}
-use Rattle.depot_map.specs.Area.{Holds}
-use Rattle.depot_map.proofs.Holding.{lon-at, lat-at}
+use Rattle.model.specs.Locate.{found, missing, seek}
+use Rattle.work_area.specs.Area.{Holds}
+use Rattle.work_area.proofs.Holding.{lon-at, lat-at}
 use Rattle.references.specs.declared.node.Sought.{Sought}
 use Rattle.references.specs.declared.node.NodeFound.{NodeFound}
 use Rattle.references.specs.declared.node.NodeFound.the-variants.{At, Missing}

@@ -9,17 +9,18 @@ use borrow.Author.Count.{below-more}
 use Rattle.model.specs.Map.{Node, Map}
 use Rattle.model.specs.Difference.{standsAt}
 use Rattle.model.specs.Reference.{at3, pointAt, referenceAt}
-use Rattle.model.specs.Outcome.{found, missing, seek, located, no-node, locate}
-use Rattle.depot_map.specs.Area.{Holds, Kept}
-use Rattle.depot_map.proofs.Holding.{lon-at, lat-at}
-use Rattle.depot_map.proofs.Held.{node-path}
+use Rattle.model.specs.Locate.{found, missing, seek, located, no-node, locate}
+use Rattle.work_area.specs.Area.{Holds}
+use Rattle.buffers.specs.Kept.{Kept}
+use Rattle.work_area.proofs.Holding.{lon-at, lat-at}
+use Rattle.work_area.proofs.Held.{node-path}
 use Rattle.references.specs.declared.node.Sought.{Sought}
 use Rattle.references.specs.declared.node.Sought.the-variants.{Codes}
 use Rattle.references.specs.declared.points.Places.{Places}
 use Rattle.references.specs.declared.points.Places.the-variants.{Found, NoNode}
 use Rattle.references.specs.Node.{passes}
 use Rattle.references.specs.Legs.{placeP, soughtAfter, AllFound, PlacesOf, PlacesPut}
-use Rattle.depot_map.proofs.Kept.{kept-then}
+use Rattle.buffers.proofs.Kept.{kept-then}
 use Rattle.references.proofs.Located.{nextNode, PointsFound, Step, located-all, located-up-to}
 
 -- The table holds the nodes of the first point and of the `k` points after it, on each map that the work area holds.

@@ -8,12 +8,13 @@ use lib.Dec.{eqb}
 use Rattle.model.specs.Map.{Map}
 use Rattle.model.specs.Reference.{at2, attributes, pointAt, referenceAt}
 use Rattle.model.specs.Reading.{Arrival, any, matching, Leg}
-use Rattle.depot_map.specs.Area.{Holds, Kept}
+use Rattle.work_area.specs.Area.{Holds}
+use Rattle.buffers.specs.Kept.{Kept}
 use Rattle.references.specs.declared.node.Sought.{Sought}
 use Rattle.references.specs.declared.node.Sought.the-variants.{Moved}
 use Rattle.references.specs.declared.points.Places.{Places}
 use Rattle.references.specs.declared.points.Places.the-variants.{Found, NoNode}
-use Rattle.model.specs.Outcome as definitions
+use Rattle.model.specs.Locate as definitions
 
 -- Where the P of point `k` stands.
 abbrev pub placeP : ℕ → ℕ

@@ -5,12 +5,12 @@ use mathlib.Core.Bool.{Bool}
 use mathlib.Core.List.{List}
 use Rattle.model.specs.Map.{Node, Map}
 use Rattle.model.specs.Difference.{standsAt}
-use Rattle.depot_map.specs.Area.{Holds}
+use Rattle.work_area.specs.Area.{Holds}
 use Rattle.references.specs.declared.node.Sought.{Sought}
 use Rattle.references.specs.declared.node.Sought.the-variants.{Codes, Moved}
 use Rattle.references.specs.declared.node.NodeFound.{NodeFound}
 use Rattle.references.specs.declared.node.NodeFound.the-variants.{At, Missing}
-use Rattle.model.specs.Outcome as definitions
+use Rattle.model.specs.Locate as definitions
 
 -- The test: "the node with its two codes", or "the node at the previous node's coordinates plus the differences".
 unfoldable pub passes : Sought → Node → Bool

@@ -2,13 +2,13 @@
 use crate::reference::Reference;
 use crate::reference::attributes_at;
 use crate::reference::byte_at;
-use legs::ends::Arrival;
-use legs::ends::Leg;
-use search::area::wide;
+use buffers::wide;
+use fields::leg::Arrival;
+use fields::leg::Leg;
 ghost use mathlib.Core.Path.{_≡_};
 ghost use Prim.Native.Nat.{_<_};
 ghost use lib.ListN.{length};
-ghost use Rattle.legs.specs.Verdict.{legIn, arrivalIn};
+ghost use Rattle.fields.specs.Leg.{legIn, arrivalIn};
 ghost use Rattle.references.specs.Form.{SoundBytes};
 ghost use Rattle.references.specs.Legs.{arrivalAt, legAt};
 

@@ -1,13 +1,13 @@
 // The search for a point's node among the nodes of the map.
-use depot_map::area::NODE_NUMBERS;
 use fields::coordinate::latitude_code;
 use fields::coordinate::longitude_code;
 use fields::coordinate::moved;
+use work_area::NODE_NUMBERS;
 ghost use mathlib.Core.Path.{_≡_};
 ghost use Prim.Native.Nat.{_≤_};
 ghost use lib.ListN.{length};
 ghost use Rattle.model.specs.Map.{Node, greatestNodeCount};
-ghost use Rattle.model.specs.Outcome.{workLength};
+ghost use Rattle.model.specs.Work.{workLength};
 ghost use Rattle.references.specs.Node.{passes, Finds};
 
 // What tells the node: its two codes, or the coordinates of another node and the differences from there.

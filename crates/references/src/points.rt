@@ -3,14 +3,14 @@ use crate::node::NodeFound;
 use crate::node::Sought;
 use crate::node::find;
 use crate::reference::Reference;
-use depot_map::area::NODE_NUMBERS;
-use fields::bytes::at2;
-use fields::bytes::at3;
+use buffers::bytes::at2;
+use buffers::bytes::at3;
+use work_area::NODE_NUMBERS;
 ghost use mathlib.Core.Path.{_≡_};
 ghost use Prim.Native.Nat.{_+_, _*_, _≤_, _<_};
 ghost use lib.ListN.{length};
 ghost use Rattle.model.specs.Map.{greatestNodeCount};
-ghost use Rattle.model.specs.Outcome.{workLength};
+ghost use Rattle.model.specs.Work.{workLength};
 ghost use Rattle.references.specs.Form.{SoundBytes};
 ghost use Rattle.references.specs.Legs.{PlacesPut, soughtAfter};
 

@@ -1,13 +1,13 @@
 // A reference's bytes: whether they have the form of one, and what their fields say.
-use fields::bytes::wide;
-use legs::ends::Attributes;
+use buffers::bytes::wide;
+use fields::leg::Attributes;
 use model::Refusal;
 ghost use mathlib.Core.Path.{_≡_};
 ghost use Prim.Native.Nat.{_+_, _*_, _≤_, _<_};
 ghost use mathlib.Core.Bool.{true};
 ghost use lib.ListN.{length, getD};
 ghost use Rattle.model.specs.Reference.{attributes, flags, spareBits, offsetAt, referenceAt};
-ghost use Rattle.legs.specs.Verdict.{attributesIn};
+ghost use Rattle.fields.specs.Leg.{attributesIn};
 ghost use Rattle.references.specs.Form.{FormOf, SoundBytes, offsetIn};
 
 // A reference by its count of points but the last, which is its count of legs. The rest stays in the bytes.

@@ -7,7 +7,8 @@ use lib.ListN.{length, take, drop, length-append, length-drop}
 use lib.Seq.{take-at, length-take-le}
 use Rattle.model.specs.Stretch.{Stretch}
 use Rattle.model.specs.Outcome.{ReadOutcome, read, WriteOutcome, written, Writes}
-use Rattle.model.specs.Call.{placed, linesAfter, bytesAfter, ReadAnswers, lines, refusal, ReadCall, WriteAnswers, bytes, WriteCall}
+use Rattle.model.specs.Work.{placed}
+use Rattle.model.specs.Call.{linesAfter, bytesAfter, ReadAnswers, lines, refusal, ReadCall, WriteAnswers, bytes, WriteCall}
 use Rattle.model.specs.Demand3.{ReadBack, Alike}
 use Rattle.model.proofs.Demand3.{demand3}
 use Rattle.model.specs.declared.Span.{Span}

@@ -4,8 +4,8 @@ use mathlib.Core.Path.{_≡_}
 use mathlib.Core.List.{List}
 use lib.ListN.{length, take}
 use Rattle.model.specs.Stretch.{Stretch, remaining}
-use Rattle.model.specs.Outcome.{workLength}
-use Rattle.model.specs.Call.{placed, ReadCall, WriteCall}
+use Rattle.model.specs.Work.{workLength, placed}
+use Rattle.model.specs.Call.{ReadCall, WriteCall}
 use Rattle.model.specs.Demand3.{ReadBack, Alike}
 use Rattle.model.specs.declared.ReadAnswer.{ReadAnswer}
 use Rattle.model.specs.declared.ReadAnswer.the-variants.{Read}

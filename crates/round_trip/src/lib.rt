@@ -5,8 +5,8 @@ use model::WriteAnswer;
 use reader::read;
 use writer::write;
 ghost use mathlib.Core.Path.{_≡_};
-ghost use Rattle.search.specs.Steps.{Decides};
-ghost use Rattle.stretches.specs.Stretch.{stretchOf};
+ghost use Rattle.buffers.specs.Decides.{Decides};
+ghost use Rattle.model.specs.Stretch.{stretchOf};
 ghost use Rattle.round_trip.specs.Trip.{TripTells, PairTells};
 
 // The writer refuses; or the count of its bytes, and what the reader answers to exactly those.

@@ -8,14 +8,17 @@ use lib.ListN.{set}
 use lib.Seq.{getD-set-same}
 use Rattle.model.specs.Map.{Map}
 use Rattle.model.specs.Lines.{lineAt, Follows}
-use Rattle.depot_map.specs.Area.{Kept}
+use Rattle.buffers.specs.Kept.{Kept}
 use Rattle.search.specs.Ways.{line, Reached}
-use Rattle.search.specs.Area.{Held, Listing, lengthTo, lineBefore, listed, far, reached}
+use Rattle.work_area.specs.Area.{Held}
+use Rattle.search.specs.Area.{Listing, lengthTo, lineBefore, listed, far, reached}
 use Rattle.search.specs.Steps.{Task, Waits, noteAt, Leads, Backed, Counted, Underway, weight, Stepped, Lowered}
 use Rattle.search.proofs.Follows.{known}
-use Rattle.depot_map.proofs.Kept.{kept-none, kept-then, kept-within}
+use Rattle.buffers.proofs.Kept.{kept-none, kept-then, kept-within, at-set, kept-set}
 use Rattle.search.proofs.Reached.{sum-le, sum-less, reached-le, count-le, listing-same}
-use Rattle.search.proofs.Frame.{le-or-lt, here-or, at-set, kept-set, held-kept, chained-kept, few}
+use Rattle.buffers.proofs.Cases.{le-or-lt, here-or}
+use Rattle.work_area.proofs.Holding.{held-kept, few}
+use Rattle.search.proofs.Frame.{chained-kept}
 
 -- What is taken into account stays so where its two lengths and its note stay.
 pub counted-same : {m : Map} {c limit l j : ℕ} {w v : List ℕ} → lengthTo v l ≡ lengthTo w l → lengthTo v j ≡ lengthTo w j →

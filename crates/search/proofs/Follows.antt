@@ -6,7 +6,7 @@ use native.Mathlib.Omega.{arith}
 use lib.ListN.{length, getD}
 use Rattle.model.specs.Map.{Map}
 use Rattle.model.specs.Lines.{lineAt, Follows}
-use Rattle.search.specs.Area.{Held}
+use Rattle.work_area.specs.Area.{Held}
 
 module _ {m : Map} {l j : ℕ} where
   -- A line that can follow is a line, and it starts where the other ends: so it is in the chain of that node.

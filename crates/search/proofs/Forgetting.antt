@@ -8,13 +8,15 @@ use native.Mathlib.Omega.{arith}
 use lib.ListN.{getD, set, length-set}
 use lib.Seq.{getD-set-other}
 use Rattle.model.specs.Map.{Map}
-use Rattle.depot_map.specs.Area.{Kept}
-use Rattle.search.specs.Area.{Held, Chained, Listing, lengthTo, firstLeaving, nextLeaving, listed, far}
+use Rattle.buffers.specs.Kept.{Kept}
+use Rattle.work_area.specs.Area.{Held}
+use Rattle.search.specs.Area.{Chained, Listing, lengthTo, firstLeaving, nextLeaving, listed, far}
 use Rattle.search.specs.Steps.{Forgotten}
-use Rattle.depot_map.proofs.Kept.{kept-none, kept-then}
+use Rattle.buffers.proofs.Kept.{kept-none, kept-then, at-set, kept-set}
 use Rattle.search.proofs.Reached.{listing-none}
 use Rattle.search.proofs.Places.{place-le, past}
-use Rattle.search.proofs.Frame.{le-or-lt, at-set, kept-set, few}
+use Rattle.buffers.proofs.Cases.{le-or-lt}
+use Rattle.work_area.proofs.Holding.{few}
 
 -- The first `i` places are gone through. A line that is still reached is at one of the others.
 pub record Forgetting (n count i : ℕ) (u w : List ℕ) : Type 0 where

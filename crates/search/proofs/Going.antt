@@ -9,13 +9,15 @@ use native.Mathlib.Decide.{ℕ-discrete}
 use lib.ListN.{getD}
 use Rattle.model.specs.Map.{Map}
 use Rattle.model.specs.Lines.{lineAt, Follows}
-use Rattle.depot_map.specs.Area.{Kept}
-use Rattle.search.specs.Area.{Held, latest, lengthTo, lineBefore, listed, Tie}
+use Rattle.buffers.specs.Kept.{Kept}
+use Rattle.work_area.specs.Area.{Held}
+use Rattle.search.specs.Area.{latest, lengthTo, lineBefore, listed, Tie}
 use Rattle.search.specs.Steps.{Task, task, Waits, noteAt, Leads, Backed, Notes, Counted, Underway, Stepped, Forgotten, Begun, Noted, TieNoted, Lowered, Relaxed, Ahead, WentOn, weight}
 use Rattle.search.proofs.Plain.{way-one, way-more, total-more, total-one}
 use Rattle.search.proofs.Follows.{known, meets}
-use Rattle.depot_map.proofs.Kept.{kept-then, kept-within}
-use Rattle.search.proofs.Frame.{le-or-lt, here-or, held-kept, few}
+use Rattle.buffers.proofs.Kept.{kept-then, kept-within}
+use Rattle.buffers.proofs.Cases.{le-or-lt, here-or}
+use Rattle.work_area.proofs.Holding.{held-kept, few}
 use Rattle.search.proofs.Leaving.{latest-le, latest-hit, latest-all}
 use Rattle.search.proofs.Counting.{counted-same, stepped-none, stepped-then, lowered, renoted, same-length, backed-less}
 

@@ -13,13 +13,14 @@ use lib.ListN.{length, getD, set, length-set}
 use lib.Seq.{getD-set-other}
 use Rattle.model.specs.Map.{Map}
 use Rattle.model.specs.Lines.{lineAt}
-use Rattle.depot_map.specs.Area.{Kept}
-use Rattle.search.specs.Area.{Held, latest, lengthTo, firstLeaving, nextLeaving, listed, far}
-use Rattle.search.specs.Steps.{Filled}
+use Rattle.buffers.specs.Kept.{Kept, Filled}
+use Rattle.work_area.specs.Area.{Held}
+use Rattle.search.specs.Area.{latest, lengthTo, firstLeaving, nextLeaving, listed, far}
 use Rattle.search.specs.Promises.{Linked}
-use Rattle.depot_map.proofs.Kept.{kept-none, kept-then}
+use Rattle.buffers.proofs.Kept.{kept-none, kept-then, at-set, kept-set}
 use Rattle.search.proofs.Reached.{listing-none}
-use Rattle.search.proofs.Frame.{picked, at-set, kept-set, held-kept, line-ok, few}
+use Rattle.buffers.proofs.Cases.{picked}
+use Rattle.work_area.proofs.Holding.{held-kept, line-ok, few}
 
 latest-same : (m : Map) (v i : ℕ) → lineAt m i .start ≡ v → latest m v (i + 1) ≡ i + 1
 latest-same m v i e = rw (add-one i) (ap (λ t. cond t (suc i) (latest m v i)) (eq-eqb _ v e))

@@ -12,7 +12,7 @@ use Rattle.search.specs.Area.{lengthTo, lineBefore, listed, Tie, Tied}
 use Rattle.search.specs.Steps.{Task, noteAt, Leads, Counted, Underway, Based, Sought}
 use Rattle.search.proofs.Plain.{Grown, one, more, class-last, total-more, total-one, grown-of}
 use Rattle.search.proofs.Follows.{known}
-use Rattle.search.proofs.Frame.{le-or-lt}
+use Rattle.buffers.proofs.Cases.{le-or-lt}
 
 pub last-known : {m : Map} {c f l : ℕ} {r : List ℕ} → Grown m c f l r → l < length (m .lines)
 last-known (one h k) = h

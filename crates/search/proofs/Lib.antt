@@ -10,9 +10,3 @@ pub mod Lowering
 pub mod Counting
 pub mod Going
 pub mod Lengths
-pub mod Ties
-pub mod Back
-pub mod Arriving
-pub mod Written
-pub mod Verdicts
-pub mod Carried

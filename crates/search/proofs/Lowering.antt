@@ -6,11 +6,10 @@ use mathlib.Core.Logic.{_≢_}
 use native.Mathlib.Omega.{arith}
 use lib.ListN.{length, getD, set, length-set}
 use lib.Seq.{getD-set-same, getD-set-other}
-use Rattle.depot_map.specs.Area.{Kept}
+use Rattle.buffers.specs.Kept.{Kept}
 use Rattle.search.specs.Area.{lengthTo, lineBefore, far}
 use Rattle.search.specs.Steps.{Lowered}
-use Rattle.depot_map.proofs.Kept.{kept-then}
-use Rattle.search.proofs.Frame.{at-set, kept-set}
+use Rattle.buffers.proofs.Kept.{kept-then, at-set, kept-set}
 
 module _ (w : List ℕ) (j note x : ℕ) (j< : j < 1024) (full : 12288 ≤ length w) where
   abbrev put : List ℕ

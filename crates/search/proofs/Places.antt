@@ -6,7 +6,7 @@ use mathlib.Core.Logic.{_⊎_, inl, inr, ⊎-elim}
 use native.Mathlib.Nat.{eq-or-lt-of-le}
 use native.Mathlib.Omega.{arith}
 use Rattle.search.specs.Area.{lengthTo, listed, far, Listing, Among}
-use Rattle.search.proofs.Frame.{le-or-lt}
+use Rattle.buffers.proofs.Cases.{le-or-lt}
 
 module _ {w : List ℕ} {n count i : ℕ} (s : Listing w n count) (i< : i < n) where
   pub place-le : listed w i ≤ n

@@ -9,12 +9,8 @@ use lib.Dec.{eqb}
 use Rattle.model.specs.Map.{Map}
 use Rattle.model.specs.Lines.{lineAt, Follows}
 use Rattle.model.specs.Reading.{greatestLegLength}
-use Rattle.depot_map.specs.Area.{Holds}
+use Rattle.work_area.specs.Area.{Held}
 use Rattle.search.specs.Ways.{line, Distance}
-
--- The work area holds the map `m`, which has so many lines.
-abbrev pub Held : List ℕ → ℕ → Map → Type 0
-Held w lines m = Holds w (length (m .nodes)) lines m
 
 -- The cells. For each line: the length found to it (past the limit of the search where no way is within it), and the line before it.
 -- While a search is under way 4,096 is added to the latter where the line waits: it is still to be gone on from.
@@ -135,3 +131,8 @@ NearestLine m lines limit w v x = Nearest m limit w (λ l. l < lines) v x
 -- That stands in the area for every node.
 abbrev pub Reaching : Map → ℕ → ℕ → List ℕ → Type 0
 Reaching m lines limit w = (v : ℕ) → v < length (m .nodes) → NearestLine m lines limit w v (nearestLine w v)
+
+-- The work area is ready for searches: it holds the map, and the chains of the lines that leave each node are made.
+pub record Set (m : Map) (lines : ℕ) (w : List ℕ) : Type 0 where
+  pub held : Held w lines m
+  pub chained : Chained w lines m

@@ -1,26 +1,16 @@
 -- What the steps of a search promise one another.
 use Prim.Native.Nat.{ℕ, _+_, _-_, _*_, _/_, _%_, _≤_, _<_}
 use mathlib.Core.Path.{_≡_}
-use mathlib.Core.Bool.{Bool, true, false}
 use mathlib.Core.List.{List}
 use mathlib.Core.Logic.{_≢_}
-use lib.ListN.{length, getD}
+use lib.ListN.{length}
 use Rattle.model.specs.Map.{Map}
 use Rattle.model.specs.Lines.{lineAt, Follows}
 use Rattle.model.specs.Reading.{greatestLegLength}
-use Rattle.depot_map.specs.Area.{Kept}
+use Rattle.buffers.specs.Kept.{Kept}
 use Rattle.search.specs.Ways.{line, Reached}
-use Rattle.search.specs.Area.{Held, Chained, Listing, latest, lengthTo, lineBefore, firstLeaving, nextLeaving, listed, far, several, sum, Tie}
-
--- The answer of a test.
-abbrev pub Decides : Type 0 → Bool → Type 0
-Decides P true = P
-Decides P false = P → ⊥
-
--- The `count` numbers from `base` on are `x`, and nothing else is changed.
-pub record Filled (base count x : ℕ) (w v : List ℕ) : Type 0 where
-  pub filled : (l : ℕ) → l < count → getD v (base + l) 0 ≡ x
-  pub kept : Kept base (base + count) w v
+use Rattle.work_area.specs.Area.{Held}
+use Rattle.search.specs.Area.{Chained, Listing, latest, lengthTo, lineBefore, firstLeaving, nextLeaving, listed, far, several, sum, Tie}
 
 -- Line `l` waits: its length came down, and it was not gone on from since.
 abbrev pub Waits : List ℕ → ℕ → Type 0

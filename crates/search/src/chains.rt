@@ -1,22 +1,23 @@
 // The chains of the lines that leave each node, and which line can follow which.
-use crate::area::END;
-use crate::area::FAR;
-use crate::area::HEADS;
-use crate::area::LENGTHS;
-use crate::area::LISTED;
-use crate::area::NEXT;
-use crate::area::NODES;
-use crate::area::START;
-use crate::area::field;
-use crate::area::fill;
-use crate::area::wide;
+use crate::cells::FAR;
+use crate::cells::LISTED;
+use buffers::fill;
+use buffers::wide;
+use work_area::END;
+use work_area::HEADS;
+use work_area::LENGTHS;
+use work_area::NEXT;
+use work_area::NODES;
+use work_area::START;
+use work_area::field;
 ghost use mathlib.Core.Path.{_≡_};
 ghost use Prim.Native.Nat.{_-_, _≤_, _<_};
 ghost use lib.ListN.{length};
 ghost use Rattle.model.specs.Map.{Map};
 ghost use Rattle.model.specs.Lines.{lineAt, Follows};
-ghost use Rattle.search.specs.Area.{Held, Chained, latest};
-ghost use Rattle.search.specs.Steps.{Decides};
+ghost use Rattle.work_area.specs.Area.{Held};
+ghost use Rattle.search.specs.Area.{Chained, latest};
+ghost use Rattle.buffers.specs.Decides.{Decides};
 ghost use Rattle.search.specs.Promises.{Linked};
 
 // Makes the chains, and has no line reached. Called once a map.

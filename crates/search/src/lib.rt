@@ -1,26 +1,25 @@
 // The search for ways of least length, over a map that stands in the work area.
 // `chains::link` is called once a map, then `search` for a first line, a class and a limit. What it found is asked by
 // `ways::to_line` and, with what `nodes` says of a node, by `ways::to_node`; `ways::write_lines` gives the lines of a way.
-use area::CLASS;
-use area::LENGTH;
-use area::field;
 use list::bring_down;
 use list::first_waiting;
 use list::forget;
 use relax::relax_from;
+use work_area::FRC;
+use work_area::LENGTH;
+use work_area::field;
 ghost use Prim.Native.Nat.{_≤_, _<_};
 ghost use Rattle.model.specs.Map.{Map};
 ghost use Rattle.model.specs.Reading.{greatestLegLength};
-ghost use Rattle.search.specs.Area.{Held, Chained};
+ghost use Rattle.work_area.specs.Area.{Held};
+ghost use Rattle.search.specs.Area.{Chained};
 ghost use Rattle.search.specs.Steps.{Begun};
 ghost use Rattle.search.specs.Promises.{Found};
 
-pub mod area;
+pub mod cells;
 pub mod chains;
 mod list;
-pub mod nodes;
 mod relax;
-pub mod ways;
 
 // Forgets the last search and reaches line `first` where its class and its length allow that: how many lines are on the list now.
 fn begin(work: &mut [u32], lines: usize, first: usize, class: u32, limit: u32) -> usize
@@ -29,7 +28,7 @@ fn begin(work: &mut [u32], lines: usize, first: usize, class: u32, limit: u32) -
         → Begun m lines class first limit (now (work .entry)) (now (work .exit)) r) ⌝ }
 {
     forget(work, lines);
-    if class < field(work, first, CLASS) {
+    if class < field(work, first, FRC) {
         return 0;
     }
     let length = field(work, first, LENGTH);

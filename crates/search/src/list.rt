@@ -1,16 +1,17 @@
 // The list of the lines that a search has reached, in the order in which it reached them. Some of them wait to be gone on from.
-use crate::area::BEFORE;
-use crate::area::FAR;
-use crate::area::LENGTHS;
-use crate::area::LISTED;
-use crate::area::NEXT;
-use crate::area::WAITING;
-use crate::area::line_at;
+use crate::cells::FAR;
+use crate::cells::LISTED;
+use crate::cells::WAITING;
+use crate::cells::line_at;
+use work_area::BEFORE;
+use work_area::LENGTHS;
+use work_area::NEXT;
 ghost use Prim.Native.Nat.{_≤_, _<_};
 ghost use lib.ListN.{length};
 ghost use Rattle.model.specs.Map.{Map};
-ghost use Rattle.model.specs.Outcome.{workLength};
-ghost use Rattle.search.specs.Area.{Held, Chained, Listing, lengthTo, far};
+ghost use Rattle.model.specs.Work.{workLength};
+ghost use Rattle.work_area.specs.Area.{Held};
+ghost use Rattle.search.specs.Area.{Chained, Listing, lengthTo, far};
 ghost use Rattle.search.specs.Steps.{Forgotten, Sought, Lowered};
 
 // Forgets what the last search found: no line is reached, and the list is empty.

@@ -1,23 +1,24 @@
 // How a search goes on from a line: at each line that can follow it, the length to that comes down, or the line is noted as one before it.
-use crate::area::BEFORE;
-use crate::area::CLASS;
-use crate::area::END;
-use crate::area::LENGTHS;
-use crate::area::SEVERAL;
-use crate::area::WAITING;
-use crate::area::by_way_of;
-use crate::area::field;
-use crate::area::line_at;
-use crate::area::wide;
+use crate::cells::SEVERAL;
+use crate::cells::WAITING;
+use crate::cells::by_way_of;
+use crate::cells::line_at;
 use crate::chains::first_leaving;
 use crate::chains::follows;
 use crate::chains::next_leaving;
 use crate::list::bring_down;
+use buffers::wide;
+use work_area::BEFORE;
+use work_area::END;
+use work_area::FRC;
+use work_area::LENGTHS;
+use work_area::field;
 ghost use Prim.Native.Nat.{_-_, _≤_, _<_};
 ghost use lib.ListN.{length};
-ghost use Rattle.model.specs.Outcome.{workLength};
+ghost use Rattle.model.specs.Work.{workLength};
 ghost use Rattle.model.specs.Map.{Map};
-ghost use Rattle.search.specs.Area.{Held, Chained, listed};
+ghost use Rattle.work_area.specs.Area.{Held};
+ghost use Rattle.search.specs.Area.{Chained, listed};
 ghost use Rattle.search.specs.Steps.{Task, Underway, Noted, TieNoted, Relaxed, Ahead, WentOn};
 
 // `x` with line `l` noted.
@@ -72,7 +73,7 @@ fn relax(
         note_tie(work, l, j);
         return count;
     }
-    if class < field(work, j, CLASS) {
+    if class < field(work, j, FRC) {
         return count;
     }
     if wide(limit) < length {

@@ -7,7 +7,7 @@ use lib.ListN.{length, getD, take}
 use Rattle.model.specs.Map.{Line, Map}
 use Rattle.model.specs.Lines.{lineAt, lowest, firstOf, lastOf}
 use Rattle.model.specs.WellFormed.{LineOk}
-use Rattle.depot_map.specs.Area.{lineNumbers}
+use Rattle.work_area.specs.Area.{lineNumbers}
 use Rattle.model.specs.Choice.{fromNode, toNode}
 use Rattle.stretches.proofs.Stretches.{take-next}
 

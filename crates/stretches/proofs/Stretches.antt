@@ -11,10 +11,10 @@ use lib.Dec.{leb}
 use borrow.Author.Tests.{leb-false, le-leb, lt-leb, eq-eqb, ne-eqb}
 use Rattle.model.specs.Map.{Map}
 use Rattle.model.specs.Lines.{lineAt, total}
-use Rattle.model.specs.Stretch.{unknown, gap, skip, remaining}
+use Rattle.model.specs.Stretch.{unknown, gap, skip, remaining, stretchOf}
 use Rattle.model.proofs.Tests.{neither}
 use Rattle.model.proofs.Skipping.{total-append}
-use Rattle.stretches.specs.Stretch.{Known, stretchOf, Skips}
+use Rattle.stretches.specs.Stretch.{Known, Skips}
 
 -- One line more, and the end.
 pub drop-next : (ls : List ℕ) (i : ℕ) → i < length ls → drop i ls ≡ getD ls i 0 ∷ drop (i + 1) ls

@@ -1,6 +1,3 @@
 -- What the writer's functions promise.
 pub mod Stretch
-pub mod Cuts
-pub mod Point
-pub mod Put
-pub mod LegTests
+pub mod Attributes

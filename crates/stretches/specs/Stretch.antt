@@ -5,7 +5,7 @@ use mathlib.Core.List.{List}
 use lib.ListN.{length, getD, take, drop}
 use Rattle.model.specs.Refusal.{refusalOf}
 use Rattle.model.specs.Map.{Map}
-use Rattle.model.specs.Stretch.{Stretch, skip, remaining, remains, refused, checkStretch}
+use Rattle.model.specs.Stretch.{Stretch, skip, remaining, remains, refused, checkStretch, stretchOf}
 use Rattle.stretches.specs.declared.stretch.Remaining.{Remaining}
 use Rattle.stretches.specs.declared.stretch.Checked.{Checked}
 use Rattle.stretches.specs.declared.stretch.Checked.the-variants.{Remains, Refused}
@@ -13,9 +13,6 @@ use Rattle.stretches.specs.declared.stretch.Checked.the-variants.{Remain
 -- Each of these is one of so many lines.
 abbrev pub Known : ℕ → List ℕ → Type 0
 Known lines ls = (i : ℕ) → i < length ls → getD ls i 0 < lines
-
-abbrev pub stretchOf : List ℕ → ℕ → ℕ → Stretch
-stretchOf lines pos neg = record { lines = lines; pos = pos; neg = neg }
 
 -- An offset drops these lines down to `left`, and so much is left of it.
 abbrev pub Skips : Map → ℕ → List ℕ → List ℕ → ℕ → Type 0

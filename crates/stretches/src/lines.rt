@@ -1,22 +1,21 @@
 // Lines of a stretch and the nodes at their ends, as the map in the work area has them.
-use depot_map::area::NODE_NUMBERS;
+use buffers::wide;
+use fields::leg::Attributes;
 use fields::leg::sector;
-use legs::attributes::FOW;
-use legs::attributes::FRC;
-use legs::ends::Attributes;
-use search::area::LENGTH;
-use search::area::field;
-use search::area::wide;
+use work_area::FOW;
+use work_area::FRC;
+use work_area::LENGTH;
+use work_area::NODE_NUMBERS;
+use work_area::field;
 ghost use mathlib.Core.Path.{_≡_};
 ghost use Prim.Native.Nat.{_≤_, _<_, max};
 ghost use lib.ListN.{length, getD};
 ghost use Rattle.model.specs.Map.{Map};
 ghost use Rattle.model.specs.Lines.{lineAt, nodeAt, total, lowest};
-ghost use Rattle.depot_map.specs.Area.{nodeNumbers, lineNumbers};
-ghost use Rattle.search.specs.Area.{Held};
-ghost use Rattle.legs.specs.Verdict.{attributesIn};
+ghost use Rattle.work_area.specs.Area.{nodeNumbers, lineNumbers, Held};
+ghost use Rattle.fields.specs.Leg.{attributesIn};
 ghost use Rattle.stretches.specs.Stretch.{Known};
-ghost use Rattle.stretches.specs.Point.{attributesBy};
+ghost use Rattle.stretches.specs.Attributes.{attributesBy};
 
 // Number `k` of the line that stands at `i`.
 pub fn field_of(work: &[u32], lines: usize, list: &[u32], i: usize, k: usize) -> u32

@@ -1,19 +1,19 @@
 // A stretch as it is given: whether it is refused with 7 to 9, and what its offsets leave of it.
 use crate::lines::field_of;
 use crate::lines::total_length;
+use buffers::wide;
 use model::Refusal;
-use search::area::END;
-use search::area::LENGTH;
-use search::area::START;
-use search::area::wide;
+use work_area::END;
+use work_area::LENGTH;
+use work_area::START;
 ghost use mathlib.Core.Path.{_≡_};
 ghost use Prim.Native.Nat.{_≤_};
 ghost use mathlib.Core.List.{reverse};
 ghost use lib.ListN.{length, take, drop};
 ghost use Rattle.model.specs.Map.{Map};
-ghost use Rattle.model.specs.Stretch.{unknown, gap};
-ghost use Rattle.search.specs.Area.{Held};
-ghost use Rattle.stretches.specs.Stretch.{Known, Skips, stretchOf, Leaves, Checks};
+ghost use Rattle.model.specs.Stretch.{unknown, gap, stretchOf};
+ghost use Rattle.work_area.specs.Area.{Held};
+ghost use Rattle.stretches.specs.Stretch.{Known, Skips, Leaves, Checks};
 
 // The greatest count of lines.
 pub const GREATEST_STRETCH: usize = 64;

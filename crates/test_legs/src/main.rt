@@ -6,25 +6,25 @@ use console::print;
 use console::print_each;
 use depot_map::MapRead;
 use depot_map::read_map;
+use fields::leg::Arrival;
+use fields::leg::Attributes;
+use fields::leg::Leg;
+use fields::leg::Reading;
+use fields::leg::Verdict;
 use fields::leg::longest_leg;
-use legs::ends::Arrival;
-use legs::ends::Attributes;
-use legs::ends::Leg;
-use legs::ends::Reading;
-use legs::ends::Verdict;
 use legs::verdict;
 use libc::STDOUT_FILENO;
 use model::number_of;
 use search::chains::link;
 use search::search;
-use search::ways::Ways;
-use search::ways::to_line;
-use search::ways::write_lines;
+use ways::Ways;
+use ways::to_line;
+use ways::write_lines;
 ghost use Prim.Native.Nat.{_≤_, _<_};
 ghost use lib.ListN.{length};
 ghost use Rattle.model.specs.Map.{Map};
-ghost use Rattle.depot_map.specs.Area.{Holds};
-ghost use Rattle.legs.specs.Verdict.{Set};
+ghost use Rattle.work_area.specs.Area.{Holds};
+ghost use Rattle.search.specs.Area.{Set};
 
 fn attributes_at(words: &[u8], at: usize) -> Attributes
     requires { ⌜ at < 1_000 ⌝ }

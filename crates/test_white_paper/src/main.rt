@@ -1,17 +1,17 @@
 // The binary line example of the white paper (13.1.3), field by field. From the bytes of its Tables 75 to 90 it prints what the reader takes from them, as
 // Tables 72, 92 and 93 put it; then the fields that the values of Tables 72 to 74 give. The file stdout has what the tables print.
+use buffers::bytes::at2;
+use buffers::bytes::at3;
 use console::load;
 use console::print;
-use fields::bytes::at2;
-use fields::bytes::at3;
 use fields::coordinate::latitude_code;
 use fields::coordinate::longitude_code;
 use fields::coordinate::moved;
+use fields::leg::Arrival;
+use fields::leg::Attributes;
 use fields::leg::distance;
 use fields::leg::sector;
 use fields::offset::offset_byte;
-use legs::ends::Arrival;
-use legs::ends::Attributes;
 use libc::STDOUT_FILENO;
 use model::number_of;
 use references::leg::leg_at;

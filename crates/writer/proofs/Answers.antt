@@ -1,28 +1,28 @@
 -- Answers to the definitions' questions, put together from those of the parts.
 use Prim.Native.Nat.{ℕ, _≤_, _<_}
-use mathlib.Core.Path.{_≡_, refl, ap, subst}
+use mathlib.Core.Path.{_≡_, refl, subst}
 use mathlib.Core.List.{List}
-use native.Mathlib.Omega.{arith}
 use lib.ListN.{length}
 use borrow.Author.Tests.{lt-ltb, le-ltb}
 use Rattle.model.specs.Map.{Map, MapAnswer, decode}
 use Rattle.model.specs.Refusal.{refusalOf}
 use Rattle.model.specs.Stretch.{Stretch, StretchAnswer, checkStretch}
-use Rattle.model.specs.Outcome.{WriteOutcome, WriteStretch, WriteMap, workLength, Writes}
-use Rattle.model.specs.Call.{cleared, WriteAnswered, WriteCall}
+use Rattle.model.specs.Outcome.{WriteStretch, WriteMap, Writes}
+use Rattle.model.specs.Work.{workLength, cleared}
+use Rattle.model.specs.Call.{WriteAnswered, WriteCall}
 use Rattle.model.specs.declared.Refusal.{Refusal}
 use Rattle.model.specs.declared.WriteAnswer.{WriteAnswer}
 use Rattle.model.specs.declared.WriteAnswer.the-variants.{Refused}
 use Rattle.model.proofs.Cleared.{cleared-short}
 use Rattle.model.proofs.Answering.{answered-by, refused-write}
-use Rattle.stretches.specs.declared.cuts.Cut.{Cut}
-use Rattle.stretches.specs.declared.cuts.Cut.the-variants.{Nowhere, Legs}
+use Rattle.point_choice.specs.declared.Cut.{Cut}
+use Rattle.point_choice.specs.declared.Cut.the-variants.{Nowhere, Legs}
 use Rattle.stretches.specs.declared.stretch.Remaining.{Remaining}
 use Rattle.stretches.specs.declared.stretch.Checked.{Checked}
 use Rattle.stretches.specs.declared.stretch.Checked.the-variants.{Remains}
-use Rattle.stretches.specs.Cuts.{NoRoute}
+use Rattle.point_choice.specs.Cuts.{NoRoute}
 use Rattle.stretches.specs.Stretch.{Passes, Checks}
-use Rattle.stretches.specs.Cuts as cuts
+use Rattle.point_choice.specs.Cuts as cuts
 use Rattle.stretches.specs.declared.stretch.Checked.the-variants as checked
 use Rattle.model.specs.declared.Refusal.the-variants as why
 

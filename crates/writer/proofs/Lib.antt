@@ -1,2 +1,3 @@
 -- Laws of the writer's answers.
 pub mod Answers
+pub mod Writing

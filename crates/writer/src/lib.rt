@@ -1,27 +1,27 @@
 // The writer of references (paper 01): `write`, and its parts in the order in which they are asked.
 use depot_map::MapRead;
-use depot_map::area::WORK_LENGTH;
-use depot_map::area::clear;
 use depot_map::read_map;
+use leg_tests::test_legs;
 use model::Refusal;
 use model::WriteAnswer;
+use point_choice::Cut;
+use point_choice::choose;
+use reference_bytes::put;
 use search::chains::link;
-use stretches::cuts::Cut;
-use stretches::cuts::choose;
-use stretches::leg_tests::test_legs;
-use stretches::put::put;
 use stretches::stretch::Checked;
 use stretches::stretch::check;
+use work_area::WORK_LENGTH;
+use work_area::clear;
 ghost use Prim.Native.Nat.{_≤_};
 ghost use lib.ListN.{length};
 ghost use Rattle.model.specs.Map.{Map, decode};
 ghost use Rattle.model.specs.Lines.{Connected};
-ghost use Rattle.model.specs.Stretch.{checkStretch};
-ghost use Rattle.model.specs.Outcome.{WriteOn, WriteStretch, WriteMap, workLength};
+ghost use Rattle.model.specs.Stretch.{checkStretch, stretchOf};
+ghost use Rattle.model.specs.Outcome.{WriteOn, WriteStretch, WriteMap};
+ghost use Rattle.model.specs.Work.{workLength};
 ghost use Rattle.model.specs.Call.{WriteAnswered, WriteCall};
-ghost use Rattle.legs.specs.Verdict.{Set};
-ghost use Rattle.stretches.specs.Stretch.{stretchOf};
-ghost use Rattle.stretches.specs.Put.{Inside};
+ghost use Rattle.search.specs.Area.{Set};
+ghost use Rattle.reference_bytes.specs.Put.{Inside};
 
 // A number for each leg of a stretch of up to 64 lines, and one for each of its positions.
 const LEG_TESTS: usize = 4_160;

@@ -1,7 +1,7 @@
 -- `count_lines` meets its contract: a refused count, or the stage of the lines.
 use Rattle.model.specs.Refusal.{refusalOf}
 use Rattle.model.specs.Map.{decodeNodes}
-use Rattle.depot_map.proofs.Kept.{kept-none}
+use Rattle.buffers.proofs.Kept.{kept-none}
 use Rattle.depot_map.proofs.Steps.{field-on, field-off, field-range}
 use Rattle.depot_map.proofs.Stages.{stage-refused, stage-then}
 use native.Mathlib.Omega.{arith}

@@ -1,7 +1,7 @@
 -- `finish` meets its contract: left-over bytes, equal codes, or a whole map.
 use mathlib.Core.Path.{sym, _∙_}
 use Rattle.model.specs.Refusal.{refusalOf}
-use Rattle.depot_map.proofs.Kept.{kept-none}
+use Rattle.buffers.proofs.Kept.{kept-none}
 use Rattle.depot_map.proofs.Ended.{left-over, none-over}
 use Rattle.depot_map.proofs.Stages.{stage-refused, stage-whole}
 use mathlib.Core.Bool.{true}

@@ -5,7 +5,7 @@ use mathlib.Core.List.{[]}
 use lib.ListN.{drop}
 use Rattle.model.specs.Map.{decodeLines}
 use Rattle.depot_map.proofs.Stages.{LinesRead, lines-none, lines-on, lines-off, lines-end}
-use Rattle.depot_map.specs.Held.{heldNodes}
+use Rattle.work_area.specs.Held.{heldNodes}
 use native.Mathlib.Omega.{arith}
 use borrow.Author.Needs.{needs}
 use Rattle.depot_map.proofs.read_lines.Statement.{statement}

@@ -1,7 +1,7 @@
 -- `read_map` meets its contract: a refused count, or the stage of the nodes.
 use Rattle.model.specs.Refusal.{refusalOf}
 use Rattle.model.specs.Map.{decode}
-use Rattle.depot_map.proofs.Kept.{kept-none}
+use Rattle.buffers.proofs.Kept.{kept-none}
 use Rattle.depot_map.proofs.Steps.{field-on, field-off, field-range}
 use Rattle.depot_map.proofs.Stages.{stage-refused, stage-then, map-is-read}
 use native.Mathlib.Omega.{arith}

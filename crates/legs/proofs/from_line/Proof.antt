@@ -4,7 +4,8 @@ use mathlib.Core.Path.{_≡_, ap}
 use borrow.Author.Tests.{not-true, not-false}
 use Rattle.model.specs.Map.{Map}
 use Rattle.model.specs.Lines.{lineAt}
-use Rattle.legs.specs.Verdict.{arrivalIn, Set}
+use Rattle.fields.specs.Leg.{arrivalIn}
+use Rattle.search.specs.Area.{Set}
 use Rattle.legs.proofs.FirstLines.{Done, searched, judged-by, not-first}
 use Rattle.legs.proofs.from_line.Statement.{statement}
 use Rattle.legs.proofs.from_line.Tie as tie

@@ -2,7 +2,7 @@
 use borrow.Author.Needs.{needs}
 use mathlib.Core.Path.{_∙_}
 use Rattle.depot_map.proofs.Whole.{read-whole, read-refused}
-use Rattle.search.proofs.Frame.{held}
+use Rattle.work_area.proofs.Holding.{held}
 use Rattle.measured.specs.Refusal.{refusedBy}
 use Rattle.measured.proofs.Refused.{short, full}
 use Rattle.measured.proofs.measured_search.Statement.{statement}

@@ -1,5 +1,4 @@
 -- `measured_write` meets its contract: what `write` answers, as a number.
-use native.Mathlib.Omega.{arith}
 use borrow.Author.Needs.{needs}
 use mathlib.Core.Path.{_∙_, ap, sym}
 use Rattle.measured.specs.Refusal.{writtenNumber}

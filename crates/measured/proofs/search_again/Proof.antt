@@ -5,8 +5,9 @@ use Prim.Native.Nat.{_-_}
 use mathlib.Core.Path.{_≡_, refl}
 use lib.ListN.{length}
 use Rattle.model.specs.Map.{Map}
-use Rattle.search.specs.Area.{Held, Chained}
-use Rattle.search.proofs.Frame.{held-kept}
+use Rattle.work_area.specs.Area.{Held}
+use Rattle.search.specs.Area.{Chained}
+use Rattle.work_area.proofs.Holding.{held-kept}
 use Rattle.measured.proofs.search_again.Statement.{statement}
 use Rattle.measured.proofs.search_again.Tie as tie
 

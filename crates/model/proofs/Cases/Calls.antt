@@ -7,7 +7,8 @@ use Rattle.model.specs.declared.Span.{Span}
 use Rattle.model.specs.Refusal.{row, rowAt}
 use Rattle.model.specs.Stretch.{Stretch, StretchAnswer, checkStretch}
 use Rattle.model.specs.Outcome.{ReadOutcome, read, Reads, WriteOutcome, written, Writes}
-use Rattle.model.specs.Call.{cleared, placed, linesAfter, bytesAfter, ReadAnswers, WriteAnswers}
+use Rattle.model.specs.Work.{cleared, placed}
+use Rattle.model.specs.Call.{linesAfter, bytesAfter, ReadAnswers, WriteAnswers}
 use Rattle.model.specs.Host.{words, wordBytes, hostStretch, hostRoom, HostRead, hostRead, hostWritten, hostLinesAfter, hostBytesAfter}
 use Rattle.model.proofs.Cases.Computing.{computing}
 use Rattle.model.proofs.Cases.Ridge.{mapBytes, ridge}

@@ -9,8 +9,9 @@ use Rattle.model.specs.Reference.{bytes2, bytes3, byteP, byteQ, flag, by
 use Rattle.model.specs.Reading.{joined}
 use Rattle.model.specs.Choice.{fromNode, toNode, arrivalOf, legOf, firstLeg, lastLeg, pointOf, pointsOf, offsetOf, referenceOf, stretchBytes}
 use Rattle.model.specs.Refusal.{numberOf, placeOf, refusalOf}
-use Rattle.model.specs.Outcome.{seek, leg-first, arrivalBefore, legsFrom, hasCodes, locate}
-use Rattle.model.specs.Call.{cleared, placed, linesAfter, bytesAfter}
+use Rattle.model.specs.Locate.{seek, leg-first, arrivalBefore, legsFrom, hasCodes, locate}
+use Rattle.model.specs.Work.{cleared, placed}
+use Rattle.model.specs.Call.{linesAfter, bytesAfter}
 use Rattle.model.specs.Host.{words, wordBytes, hostStretch, hostRoom, hostRead, hostWritten, hostLinesAfter, hostBytesAfter}
 
 unfoldable pub computing : Unit {0}

@@ -11,7 +11,8 @@ use Rattle.model.specs.Lines.{total}
 use Rattle.model.specs.Reference.{byte, Reference}
 use Rattle.model.specs.Choice.{firstLeg, lastLeg}
 use Rattle.model.specs.Refusal.{row}
-use Rattle.model.specs.Outcome.{Gives, SpanRead, flagged, NoOffset, no-offset, SpansRead, ReadOutcome, ReadEnd}
+use Rattle.model.specs.Span.{Gives, SpanRead, flagged, NoOffset, no-offset}
+use Rattle.model.specs.Outcome.{SpansRead, ReadOutcome, ReadEnd}
 use Rattle.model.proofs.Cases.Computing.{computing}
 
 -- The code of a longitude, given as the map stores it.

@@ -7,7 +7,8 @@ use Rattle.model.specs.declared.Span.{Span}
 use Rattle.model.specs.Map.{Map}
 use Rattle.model.specs.Reference.{byte, Reference}
 use Rattle.model.specs.Refusal.{row}
-use Rattle.model.specs.Outcome.{Gives, SpanRead, flagged, NoOffset, no-offset, ReadOutcome, read, ReadEnd}
+use Rattle.model.specs.Span.{Gives, SpanRead, flagged, NoOffset, no-offset}
+use Rattle.model.specs.Outcome.{ReadOutcome, read, ReadEnd}
 use Rattle.model.proofs.Cases.Computing.{computing}
 use Rattle.model.proofs.Cases.Edges.{Ends, spanned, byte-80}
 use Rattle.model.proofs.Cases.Ridge.{node, line, ridge, road}

@@ -6,7 +6,8 @@ use lib.ListN.{replicate}
 use Rattle.model.specs.Reference.{Offset, absent, byte, Reference, bytesOf, ParseAnswer, parsed, parse}
 use Rattle.model.specs.Choice.{referenceOf}
 use Rattle.model.specs.Refusal.{row, rowAt}
-use Rattle.model.specs.Outcome.{no-node, locate, ReadOutcome, ReadOn}
+use Rattle.model.specs.Locate.{no-node, locate}
+use Rattle.model.specs.Outcome.{ReadOutcome, ReadOn}
 use Rattle.model.proofs.Cases.Computing.{computing}
 use Rattle.model.proofs.Cases.Ridge.{ridge, road}
 use Rattle.model.proofs.Cases.Fields.{toAndFro}

@@ -9,7 +9,7 @@ use Rattle.model.specs.Reference.{Offset, absent, byte, Point, Reference
 use Rattle.model.specs.Stretch.{Stretch, remains, checkStretch}
 use Rattle.model.specs.Reading.{Arrival, any, matching, Leg}
 use Rattle.model.specs.Choice.{legOf, stretchBytes}
-use Rattle.model.specs.Outcome.{located, locate}
+use Rattle.model.specs.Locate.{located, locate}
 use Rattle.model.proofs.Cases.Computing.{computing}
 
 abbrev pub mapBytes : List ℕ

@@ -9,7 +9,8 @@ use Rattle.model.specs.Reference.{byte}
 use Rattle.model.specs.Reading.{any, matching, Only, Several}
 use Rattle.model.specs.Choice.{Good, good, final, before, Preferred, Chosen}
 use Rattle.model.specs.Refusal.{row, rowAt}
-use Rattle.model.specs.Outcome.{every, LegsRead, unflagged, SpansRead, ReadOutcome, read, ReadEnd, ReadOn, Reads, written, WriteOutcome, WriteOn, Writes}
+use Rattle.model.specs.Outcome.{every, LegsRead, SpansRead, ReadOutcome, read, ReadEnd, ReadOn, Reads, written, WriteOutcome, WriteOn, Writes}
+use Rattle.model.specs.Span.{unflagged}
 use Rattle.model.proofs.Cases.Computing.{computing}
 use Rattle.model.proofs.Cases.Edges.{byte-80}
 use Rattle.model.proofs.Cases.Ways.{finding, connects}

@@ -5,10 +5,6 @@ use Rattle.openlr.specs.Host.{asRead}
 use borrow.Author.Needs.{needs}
 use Rattle.openlr.proofs.no_lines.Statement.{statement}
 use Rattle.openlr.proofs.no_lines.Tie as tie
-use Rattle.openlr.proofs.no_lines.Reads as reads
-use Rattle.openlr.proofs.no_lines.Lts as lts
-use Rattle.model.proofs.number_of.Reads as number-of-reads
-use Rattle.model.proofs.place_of.Reads as place-of-reads
 
 number-of-requires : tie.Need-number-of-requires
 number-of-requires c κs = search needs

@@ -1,15 +1,10 @@
 -- `openlr_write` meets its contract: the line numbers taken from the host's bytes are written.
-use mathlib.Core.Path.{_≡_, sym}
-use lib.ListN.{length}
+use mathlib.Core.Path.{sym}
 use lib.Seq.{length-take-le}
 use native.Mathlib.Omega.{arith}
 use borrow.Author.Needs.{needs}
 use Rattle.openlr.proofs.openlr_write.Statement.{statement}
 use Rattle.openlr.proofs.openlr_write.Tie as tie
-use Rattle.openlr.proofs.openlr_write.Reads as reads
-use Rattle.openlr.proofs.openlr_write.Lts as lts
-use Rattle.openlr.proofs.words.take_stretch.Reads as take-stretch-reads
-use Rattle.openlr.proofs.write_taken.Reads as write-taken-reads
 
 slice-aggregate-take-stretch : tie.Need-slice-aggregate-take-stretch
 slice-aggregate-take-stretch c = search needs

@@ -7,10 +7,6 @@ use Rattle.openlr.proofs.HostWriting.{count-small, host-written, host-n
 use borrow.Author.Needs.{needs}
 use Rattle.openlr.proofs.write_taken.Statement.{statement}
 use Rattle.openlr.proofs.write_taken.Tie as tie
-use Rattle.openlr.proofs.write_taken.Reads as reads
-use Rattle.openlr.proofs.write_taken.Lts as lts
-use Rattle.model.proofs.number_of.Reads as number-of-reads
-use Rattle.openlr.proofs.write_from.Reads as write-from-reads
 
 write-from-requires : tie.Need-write-from-requires
 write-from-requires c κs = search needs

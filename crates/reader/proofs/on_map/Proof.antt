@@ -1,7 +1,7 @@
 -- `on_map` meets its contract: bytes without the form of a reference, or the answer on its points.
 use native.Mathlib.Omega.{arith}
 use borrow.Author.Needs.{needs}
-use Rattle.search.proofs.Frame.{held, held-kept}
+use Rattle.work_area.proofs.Holding.{held, held-kept}
 use Rattle.references.proofs.Form.{sound-form, refused-form}
 use Rattle.model.proofs.Answering.{answered-by}
 use Rattle.reader.proofs.Answers.{form-refused}

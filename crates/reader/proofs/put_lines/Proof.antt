@@ -5,23 +5,23 @@ use mathlib.Core.Path.{sym, ap, _∙_}
 use mathlib.Core.List.{List}
 use Prim.Native.Nat.{ℕ}
 use lib.Seq.{length-take-le}
-use Rattle.model.specs.Call.{placed}
+use Rattle.model.specs.Work.{placed}
 use Rattle.reader.proofs.Answers.{again}
 use Rattle.reader.proofs.put_lines.Statement.{statement}
 use Rattle.reader.proofs.put_lines.Tie as tie
 
-slice-aggregate-copy-lines : tie.Need-slice-aggregate-copy-lines
-slice-aggregate-copy-lines c = sym (length-take-le _ _ (c .before .if1 .taken))
+slice-aggregate-copy : tie.Need-slice-aggregate-copy
+slice-aggregate-copy c = sym (length-take-le _ _ (c .before .if1 .taken))
 
-copy-lines-requires : tie.Need-copy-lines-requires
-copy-lines-requires c κs = omega (arith, length-take-le _ (c .before .before .before .before .before .before .before .before .args .kept .now) (c .before .before .if1 .taken))
+copy-requires : tie.Need-copy-requires
+copy-requires c κs = omega (arith, length-take-le _ (c .before .before .before .before .before .before .before .before .args .kept .now) (c .before .before .if1 .taken))
 
 same-length : tie.Need-same-length
 same-length c = search needs
 
 returns : tie.Need-returns
 returns c m set places lists read count kept =
-    c .before .before .copy-lines .ensures ∙ ap (λ (ls : List ℕ). placed ls (c .before .before .before .before .before .before .before .before .before .before .before .args .out .now)) (kept (c .before .before .before .before .before .if1 .taken))
+    c .before .before .copy .ensures ∙ ap (λ (ls : List ℕ). placed ls (c .before .before .before .before .before .before .before .before .before .before .before .args .out .now)) (kept (c .before .before .before .before .before .if1 .taken))
 
 read-legs-requires : tie.Need-read-legs-requires
 read-legs-requires c κs = search needs
@@ -41,8 +41,8 @@ pub put-lines-spec : {M : Type 1} → statement M
 put-lines-spec =
     tie.close
     (tie.spec
-    slice-aggregate-copy-lines
-    copy-lines-requires
+    slice-aggregate-copy
+    copy-requires
     same-length
     returns
     read-legs-requires

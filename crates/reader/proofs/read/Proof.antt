@@ -3,7 +3,7 @@ use native.Mathlib.Omega.{arith}
 use borrow.Author.Needs.{needs}
 use mathlib.Core.Path.{sym, _∙_}
 use lib.Seq.{length-take-le}
-use Rattle.model.specs.Outcome.{workLength}
+use Rattle.model.specs.Work.{workLength}
 use Rattle.model.proofs.Cleared.{cleared-same}
 use Rattle.reader.proofs.Answers.{area-short, called}
 use Rattle.reader.proofs.read.Statement.{statement}

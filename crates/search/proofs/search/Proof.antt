@@ -1,8 +1,8 @@
 -- `search` meets its contract: it goes on until no line waits, and each turn makes the lengths or the lines that wait less.
 use mathlib.Core.Path.{_∙_}
 use Rattle.search.specs.Steps.{Task, task, Underway, weight, Stepped, Sought, Based}
-use Rattle.depot_map.proofs.Kept.{kept-then}
-use Rattle.search.proofs.Frame.{few}
+use Rattle.buffers.proofs.Kept.{kept-then}
+use Rattle.work_area.proofs.Holding.{few}
 use Rattle.search.proofs.Counting.{stepped-none, stepped-then}
 use Rattle.search.proofs.Lengths.{settled, tied}
 use native.Mathlib.Omega.{arith}

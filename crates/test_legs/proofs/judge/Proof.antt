@@ -4,10 +4,10 @@ use borrow.Author.Needs.{needs}
 use Prim.Native.Nat.{ℕ}
 use mathlib.Core.List.{List}
 use Rattle.model.specs.Map.{Map}
-use Rattle.depot_map.specs.Area.{Holds}
+use Rattle.work_area.specs.Area.{Holds}
 use Rattle.search.specs.Promises.{Linked}
-use Rattle.search.proofs.Frame.{held, held-kept}
-use Rattle.legs.specs.Verdict.{Set}
+use Rattle.work_area.proofs.Holding.{held, held-kept}
+use Rattle.search.specs.Area.{Set}
 use Rattle.test_legs.proofs.judge.Statement.{statement}
 use Rattle.test_legs.proofs.judge.Tie as tie
 

@@ -1,18 +1,17 @@
 -- `write_reading` is safe: the ways that `to_line` tells of are in the work area, and there is room for as many lines as a map has.
 use native.Mathlib.Omega.{arith}
 use borrow.Author.Needs.{needs}
-use mathlib.Core.Path.{_≡_, sym, subst}
+use mathlib.Core.Path.{sym, subst}
 use Prim.Native.Nat.{ℕ, _≤_}
 use lib.ListN.{length}
 use lib.Seq.{length-take-le}
 use Rattle.model.specs.Map.{Map}
 use Rattle.model.specs.Lines.{Connected}
 use Rattle.search.specs.Ways.{line}
-use Rattle.search.specs.Area.{linesTo}
-use Rattle.search.specs.Promises.{Told}
-use Rattle.search.specs.declared.ways.Ways.the-variants.{One}
-use Rattle.search.proofs.Frame.{few}
-use Rattle.legs.specs.Verdict.{Set}
+use Rattle.search.specs.Area.{linesTo, Set}
+use Rattle.ways.specs.Told.{Told}
+use Rattle.ways.specs.declared.Ways.the-variants.{One}
+use Rattle.work_area.proofs.Holding.{few}
 use Rattle.test_legs.proofs.write_reading.Statement.{statement}
 use Rattle.test_legs.proofs.write_reading.Tie as tie
 

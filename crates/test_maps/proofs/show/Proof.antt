@@ -5,7 +5,7 @@ use Prim.Native.Nat.{ℕ, _≤_}
 use mathlib.Core.List.{List}
 use lib.ListN.{length}
 use Rattle.model.specs.Map.{Map}
-use Rattle.depot_map.specs.Area.{Holds}
+use Rattle.work_area.specs.Area.{Holds}
 use Rattle.depot_map.proofs.Whole.{read-whole}
 use Rattle.test_maps.proofs.show.Statement.{statement}
 use Rattle.test_maps.proofs.show.Tie as tie

@@ -3,7 +3,7 @@ use native.Mathlib.Omega.{arith}
 use borrow.Author.Needs.{needs}
 use Rattle.model.proofs.Answering.{answered-by}
 use Rattle.depot_map.proofs.Whole.{read-whole, read-refused}
-use Rattle.search.proofs.Frame.{held, held-kept}
+use Rattle.work_area.proofs.Holding.{held, held-kept}
 use Rattle.writer.proofs.Answers.{map-refused}
 use Rattle.writer.proofs.on_map.Statement.{statement}
 use Rattle.writer.proofs.on_map.Tie as tie

@@ -2,9 +2,9 @@
 use native.Mathlib.Omega.{arith}
 use borrow.Author.Needs.{needs}
 use lib.ListN.{length, replicate}
-use Rattle.stretches.specs.Cuts.{Marked}
-use Rattle.stretches.proofs.Routes.{short}
-use Rattle.stretches.proofs.Writing.{cut-into, none-written, put-written}
+use Rattle.point_choice.specs.Cuts.{Marked}
+use Rattle.point_choice.proofs.Routes.{short}
+use Rattle.writer.proofs.Writing.{cut-into, none-written, put-written}
 use Rattle.writer.proofs.Answers.{chose-none, chose-legs}
 use Rattle.writer.proofs.on_part.Statement.{statement}
 use Rattle.writer.proofs.on_part.Tie as tie

@@ -2,9 +2,9 @@
 use native.Mathlib.Omega.{arith}
 use borrow.Author.Needs.{needs}
 use Rattle.model.proofs.Answering.{answered-by}
-use Rattle.stretches.specs.Stretch.{stretchOf}
+use Rattle.model.specs.Stretch.{stretchOf}
 use Rattle.stretches.proofs.Checks.{left-of, left-connected}
-use Rattle.stretches.proofs.Writing.{left-inside}
+use Rattle.writer.proofs.Writing.{left-inside}
 use Rattle.writer.proofs.Answers.{left-passes, check-refuses, stretch-refused}
 use Rattle.writer.proofs.on_stretch.Statement.{statement}
 use Rattle.writer.proofs.on_stretch.Tie as tie

@@ -3,9 +3,9 @@ use native.Mathlib.Omega.{arith}
 use borrow.Author.Needs.{needs}
 use mathlib.Core.Path.{sym, _∙_}
 use lib.Seq.{length-take-le}
-use Rattle.model.specs.Outcome.{workLength}
+use Rattle.model.specs.Work.{workLength}
 use Rattle.model.proofs.Cleared.{cleared-same}
-use Rattle.stretches.specs.Stretch.{stretchOf}
+use Rattle.model.specs.Stretch.{stretchOf}
 use Rattle.writer.proofs.Answers.{area-short, called}
 use Rattle.writer.proofs.write.Statement.{statement}
 use Rattle.writer.proofs.write.Tie as tie

@@ -6,7 +6,7 @@ use Prim.Native.Nat.{ℕ}
 use denote.Ref.{now}
 use Rattle.model.specs.Number.{number, got}
 use Rattle.model.specs.Refusal.{refusalOf}
-use Rattle.depot_map.specs.Taken.{taken}
+use Rattle.buffers.specs.Taken.{taken}
 use Rattle.depot_map.specs.Step.{goOn}
 use Rattle.depot_map.proofs.Steps.{field-faulty, field-in, field-low, field-high}
 use borrow.Author.Needs.{needs}

@@ -3,7 +3,8 @@ use borrow.Author.Needs.{needs}
 use mathlib.Core.Path.{sym, ap, _∙_}
 use Rattle.model.specs.Field.{sector}
 use Rattle.model.specs.Lines.{LineAttributes}
-use Rattle.legs.specs.Verdict.{attributesAt, attributesIn}
+use Rattle.legs.specs.Verdict.{attributesAt}
+use Rattle.fields.specs.Leg.{attributesIn}
 use Rattle.legs.proofs.attributes.has_attributes.Statement.{statement}
 use Rattle.legs.proofs.attributes.has_attributes.Tie as tie
 

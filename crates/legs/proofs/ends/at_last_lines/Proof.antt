@@ -6,10 +6,11 @@ use mathlib.Core.Path.{_≡_}
 use Rattle.model.specs.Map.{Map}
 use Rattle.model.specs.Reading.{matching}
 use Rattle.search.specs.Area.{Chained, Among, listed}
-use Rattle.search.proofs.Frame.{few}
+use Rattle.work_area.proofs.Holding.{few}
 use Rattle.search.proofs.Reached.{count-le}
 use Rattle.search.proofs.Places.{past, line-there, new-there}
-use Rattle.legs.specs.Verdict.{attributesIn, arrivalIn, legIn, Ready, Says, StandsIn, ToLines}
+use Rattle.fields.specs.Leg.{attributesIn, arrivalIn, legIn}
+use Rattle.legs.specs.Verdict.{Ready, Says, StandsIn, ToLines}
 use Rattle.legs.proofs.Verdicts.{lines-none, lines-more, lines-all}
 use Rattle.legs.proofs.ends.at_last_lines.Statement.{statement}
 use Rattle.legs.proofs.ends.at_last_lines.Tie as tie

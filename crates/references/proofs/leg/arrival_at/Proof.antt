@@ -3,7 +3,7 @@ use native.Mathlib.Omega.{arith}
 use Prim.Native.Nat.{_+_}
 use mathlib.Core.Path.{_≡_}
 use borrow.Author.Tests.{eq-eqb, ne-eqb}
-use Rattle.legs.specs.Verdict.{arrivalIn}
+use Rattle.fields.specs.Leg.{arrivalIn}
 use Rattle.references.specs.Legs.{arrivalAt}
 use borrow.Author.Needs.{needs}
 use Rattle.references.proofs.leg.arrival_at.Statement.{statement}

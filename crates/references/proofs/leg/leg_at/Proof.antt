@@ -1,6 +1,6 @@
 -- `leg_at` meets its contract, field by field.
 use Prim.Native.Nat.{_/_}
-use Rattle.legs.specs.Verdict.{legIn}
+use Rattle.fields.specs.Leg.{legIn}
 use Rattle.references.specs.Legs.{legAt}
 use Rattle.model.specs.Reference.{pointAt}
 use borrow.Author.Needs.{needs}

@@ -4,8 +4,8 @@ use Prim.Native.Nat.{ℕ, _≤_, _-_}
 use mathlib.Core.Path.{_≡_, refl, _∙_}
 use lib.ListN.{drop}
 use Rattle.model.specs.Map.{Map}
-use Rattle.model.specs.Outcome.{seek}
-use Rattle.depot_map.specs.Area.{Holds}
+use Rattle.model.specs.Locate.{seek}
+use Rattle.work_area.specs.Area.{Holds}
 use Rattle.references.specs.Node.{passes, foundIn}
 use Rattle.references.proofs.Seeking.{found-here, not-here, not-any}
 use borrow.Author.Needs.{needs}

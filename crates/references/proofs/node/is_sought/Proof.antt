@@ -2,7 +2,7 @@
 use mathlib.Core.Path.{sym, _∙_}
 use borrow.Author.Tests.{eq-eqb, ne-eqb}
 use Rattle.model.specs.Difference.{standsAt}
-use Rattle.model.specs.Outcome.{hasCodes}
+use Rattle.model.specs.Locate.{hasCodes}
 use Rattle.references.specs.Node.{passes}
 use borrow.Author.Needs.{needs}
 use Rattle.references.proofs.node.is_sought.Statement.{statement}

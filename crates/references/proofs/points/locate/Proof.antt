@@ -4,8 +4,8 @@ use Prim.Native.Nat.{_+_, _≤_, _-_}
 use lib.ListN.{getD}
 use Rattle.references.proofs.Located.{located-none}
 use Rattle.references.proofs.Tracked.{Tracked, kept-set, tracked-first, tracked-more, tracked-all, tracked-no-more}
-use Rattle.depot_map.specs.Area.{Kept}
-use Rattle.depot_map.proofs.Kept.{kept-none, kept-then}
+use Rattle.buffers.specs.Kept.{Kept}
+use Rattle.buffers.proofs.Kept.{kept-none, kept-then}
 use Rattle.references.proofs.Seeking.{node-found, node-missing}
 use Rattle.references.specs.declared.node.Sought.the-variants.{Codes}
 use Rattle.references.specs.Node.{Finds}

@@ -1,7 +1,7 @@
 -- `attributes_at` meets its contract: the two bytes are those of the slice.
 use mathlib.Core.Path.{ap₂}
 use Rattle.model.specs.Reference.{attributes}
-use Rattle.legs.specs.Verdict.{attributesIn}
+use Rattle.fields.specs.Leg.{attributesIn}
 use borrow.Author.Needs.{needs}
 use Rattle.references.proofs.reference.attributes_at.Statement.{statement}
 use Rattle.references.proofs.reference.attributes_at.Tie as tie

@@ -1,8 +1,8 @@
 -- `link` meets its contract: after `i` turns the chains of the lines below `i` are made.
 use Rattle.search.proofs.Leaving.{Linking, link-none, link-step, linked, start-small}
-use Rattle.depot_map.proofs.Kept.{kept-then, kept-within}
-use Rattle.search.proofs.Frame.{held-kept, few}
-use Rattle.search.specs.Area.{Held}
+use Rattle.buffers.proofs.Kept.{kept-then, kept-within}
+use Rattle.work_area.proofs.Holding.{held-kept, few}
+use Rattle.work_area.specs.Area.{Held}
 use Rattle.model.specs.Map.{Map}
 use lib.ListN.{length, getD, length-set}
 use Prim.Native.Nat.{ℕ, _+_, _*_, _≤_, _<_, _-_}

@@ -3,9 +3,10 @@ use lib.ListN.{length, length-set}
 use Prim.Native.Nat.{ℕ, _≤_, _<_, _-_}
 use mathlib.Core.Path.{_≡_, refl}
 use Rattle.model.specs.Map.{Map}
-use Rattle.search.specs.Area.{Held, Listing}
+use Rattle.work_area.specs.Area.{Held}
+use Rattle.search.specs.Area.{Listing}
 use Rattle.search.proofs.Reached.{count-le}
-use Rattle.search.proofs.Frame.{few}
+use Rattle.work_area.proofs.Holding.{few}
 use Rattle.search.proofs.Forgetting.{Forgetting, forgetting-start, forgetting-step, listed-le, at-end, forgotten}
 use native.Mathlib.Omega.{arith}
 use borrow.Author.Needs.{needs}

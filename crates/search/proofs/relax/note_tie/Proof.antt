@@ -2,7 +2,7 @@
 use lib.Seq.{getD-set-same}
 use Prim.Native.Nat.{_+_, _<_}
 use lib.ListN.{length}
-use Rattle.search.proofs.Frame.{kept-set}
+use Rattle.buffers.proofs.Kept.{kept-set}
 use native.Mathlib.Omega.{arith}
 use borrow.Author.Needs.{needs}
 use Rattle.search.proofs.relax.note_tie.Statement.{statement}

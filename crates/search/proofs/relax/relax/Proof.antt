@@ -1,7 +1,7 @@
 -- `relax` meets its contract, in the order of its tests: no line that can follow, nearer already, a tie, shut to the class, past the limit, brought down.
 use borrow.Author.Tests.{not-true, not-false}
 use Rattle.search.proofs.Reached.{count-le, room-left}
-use Rattle.search.proofs.Frame.{few}
+use Rattle.work_area.proofs.Holding.{few}
 use Rattle.search.proofs.Going.{apart, nearer, tied, shut, beyond, brought-down}
 use native.Mathlib.Omega.{arith}
 use borrow.Author.Needs.{needs}

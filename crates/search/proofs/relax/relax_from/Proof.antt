@@ -5,7 +5,7 @@ use lib.ListN.{length}
 use Rattle.search.specs.Area.{listed}
 use Rattle.search.specs.Steps.{Task, Underway}
 use Rattle.search.proofs.Reached.{count-le}
-use Rattle.search.proofs.Frame.{few}
+use Rattle.work_area.proofs.Holding.{few}
 use Rattle.search.proofs.Going.{Passing, passing-start, passing-step, passing-end}
 use native.Mathlib.Omega.{arith}
 use borrow.Author.Needs.{needs}

@@ -1,8 +1,8 @@
 -- `attributes_of` meets its contract.
 use mathlib.Core.Path.{_∙_, ap}
 use Rattle.model.specs.Field.{sector}
-use Rattle.legs.specs.Verdict.{attributesIn}
-use Rattle.stretches.specs.Point.{attributesBy}
+use Rattle.fields.specs.Leg.{attributesIn}
+use Rattle.stretches.specs.Attributes.{attributesBy}
 use borrow.Author.Needs.{needs}
 use Rattle.stretches.proofs.lines.attributes_of.Statement.{statement}
 use Rattle.stretches.proofs.lines.attributes_of.Tie as tie

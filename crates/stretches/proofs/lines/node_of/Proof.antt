@@ -1,6 +1,6 @@
 -- `node_of` meets its contract.
 use mathlib.Core.Path.{_∙_}
-use Rattle.search.proofs.Frame.{line-ok}
+use Rattle.work_area.proofs.Holding.{line-ok}
 use Rattle.stretches.proofs.Ends.{node-small}
 use borrow.Author.Needs.{needs}
 use Rattle.stretches.proofs.lines.node_of.Statement.{statement}

@@ -5,7 +5,7 @@ use lib.ListN.{length, take}
 use lib.Seq.{take-length}
 use Rattle.model.specs.Map.{Map}
 use Rattle.model.specs.Lines.{total}
-use Rattle.search.specs.Area.{Held}
+use Rattle.work_area.specs.Area.{Held}
 use Rattle.stretches.proofs.Stretches.{total-none, total-on}
 use borrow.Author.Needs.{needs}
 use native.Mathlib.Omega.{arith}

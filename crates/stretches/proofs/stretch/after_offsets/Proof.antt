@@ -2,7 +2,8 @@
 use Prim.Native.Nat.{ℕ, _+_, _-_}
 use mathlib.Core.Path.{_≡_, sym, subst, _∙_, ap}
 use lib.ListN.{take, drop, length-drop}
-use Rattle.stretches.specs.Stretch.{Known, stretchOf}
+use Rattle.stretches.specs.Stretch.{Known}
+use Rattle.model.specs.Stretch.{stretchOf}
 use Rattle.stretches.proofs.Stretches.{both-ends, known-drop, lent-rest}
 use borrow.Author.Needs.{needs}
 use native.Mathlib.Omega.{arith}

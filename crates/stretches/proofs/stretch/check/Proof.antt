@@ -4,7 +4,7 @@ use mathlib.Core.Bool.{false}
 use Rattle.model.specs.Map.{Map}
 use Rattle.model.specs.Stretch.{unknown, gap}
 use Rattle.model.specs.Refusal.{refusalOf}
-use Rattle.search.specs.Area.{Held}
+use Rattle.work_area.specs.Area.{Held}
 use Rattle.stretches.specs.Stretch.{Known}
 use Rattle.stretches.proofs.Stretches.{known-all}
 use Rattle.stretches.proofs.Checks.{no-lines, too-many, no-such-line, not-joined, too-far, left}

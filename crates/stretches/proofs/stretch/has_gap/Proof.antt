@@ -4,7 +4,7 @@ use mathlib.Core.Path.{_≡_, refl, sym, _∙_}
 use lib.ListN.{length, drop}
 use Rattle.model.specs.Map.{Map}
 use Rattle.model.specs.Stretch.{gap}
-use Rattle.search.specs.Area.{Held}
+use Rattle.work_area.specs.Area.{Held}
 use Rattle.stretches.proofs.Stretches.{gap-here, gap-on, gap-none}
 use borrow.Author.Needs.{needs}
 use native.Mathlib.Omega.{arith}

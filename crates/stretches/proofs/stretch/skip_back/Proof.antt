@@ -6,7 +6,7 @@ use lib.ListN.{length, take}
 use lib.Seq.{take-length}
 use Rattle.model.specs.Map.{Map}
 use Rattle.model.specs.Stretch.{skip}
-use Rattle.search.specs.Area.{Held}
+use Rattle.work_area.specs.Area.{Held}
 use Rattle.stretches.proofs.Stretches.{back-stop, back-on, back-none}
 use borrow.Author.Needs.{needs}
 use native.Mathlib.Omega.{arith}

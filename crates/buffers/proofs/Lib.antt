@@ -1,0 +1,9 @@
+-- Laws of buffers before and after a change, and of numbers in bytes.
+pub mod Cases
+pub mod Decides
+pub mod Kept
+pub mod Stored
+pub mod Stores
+pub mod Placing
+pub mod Groups
+pub mod LineBytes

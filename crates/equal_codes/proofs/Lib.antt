@@ -1,0 +1,3 @@
+-- Laws of the chains of nodes in one bucket, and of equal codes.
+pub mod Chains
+pub mod EqualCodes

@@ -1,0 +1,2 @@
+-- What the tests of a stretch's legs promise one another.
+pub mod LegTests

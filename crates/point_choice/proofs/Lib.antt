@@ -1,0 +1,3 @@
+-- Laws of routes over good legs, and of the choice.
+pub mod Routes
+pub mod Choosing

@@ -1,0 +1,2 @@
+-- The choice of points, by where a stretch is cut.
+pub mod Cuts

@@ -1,0 +1,4 @@
+-- Laws of a reference's bytes, part by part.
+pub mod Points
+pub mod Cutting
+pub mod Bytes

@@ -1,0 +1,2 @@
+-- What is promised of the legs of a reference, read one after another.
+pub mod Legs

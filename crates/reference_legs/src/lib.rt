@@ -1,0 +1,114 @@
+// The legs of a reference read one after another, and their lines written in order.
+use fields::leg::Reading;
+use fields::leg::Verdict;
+use legs::ends::both;
+use legs::from_line;
+use references::leg::leg_at;
+use search::chains::first_leaving;
+use search::chains::next_leaving;
+use ways::write_lines;
+ghost use mathlib.Core.Path.{_≡_};
+ghost use Prim.Native.Nat.{ℕ, _*_, _≤_, _<_};
+ghost use lib.ListN.{length};
+ghost use Rattle.model.specs.Map.{Map};
+ghost use Rattle.model.specs.Lines.{Connected};
+ghost use Rattle.model.specs.Reading.{greatestLegLength};
+ghost use Rattle.work_area.specs.Area.{Held};
+ghost use Rattle.search.specs.Area.{linesTo, Set};
+ghost use Rattle.references.specs.Form.{SoundBytes};
+ghost use Rattle.references.specs.Legs.{legsAt};
+ghost use Rattle.reference_legs.specs.Legs.{sumsWith, Put, PlacesIn, LegsDone};
+
+// Of the legs that are read: how many lines they have, how long they are together, and how long the first and the last of them are.
+pub struct Sums {
+    pub count: usize,
+    pub length: u32,
+    pub first: u32,
+    pub last: u32,
+}
+
+// Every leg has exactly one reading, or the first leg that has none or several.
+pub enum Legs {
+    Every(Sums),
+    Unread(u32),
+    Several(u32),
+}
+
+// The sums with leg `k`, the next one.
+fn with_leg(sums: Sums, k: usize, reading: Reading) -> Sums
+    requires { ⌜ (k < 64) × (sums .count ≤ greatestLegLength * k) × (sums .length ≤ greatestLegLength * k) ⌝ }
+    requires { ⌜ (reading .count ≤ greatestLegLength) × (reading .length ≤ greatestLegLength) ⌝ }
+    ensures { λ r. ⌜ r ≡ sumsWith sums k reading ⌝ }
+{
+    let first = if k == 0 { reading.length } else { sums.first };
+    Sums {
+        count: sums.count + reading.count,
+        length: sums.length + reading.length,
+        first,
+        last: reading.length,
+    }
+}
+
+// Writes the lines of a reading into `out`, from its number `from` on: where there is exactly one, and room for it.
+fn put_reading(work: &[u32], found: Verdict, out: &mut [u32], from: usize)
+    requires { ⌜ ((m : Map) × (lines : ℕ) × Held (now work) lines m × ((r : Reading) → found ≡ Verdict.One r → Connected m (linesTo (now work) (r .last) (r .count)))) ⌝ }
+    ensures { λ _. ⌜ Put (now (work .entry)) from (now (out .entry)) (now (out .exit)) found ⌝ }
+{
+    let Verdict::One(reading) = found else {
+        return;
+    };
+    let room = out.len();
+    if room < from {
+        return;
+    }
+    if room - from < reading.count {
+        return;
+    }
+    write_lines(work, reading.last, &mut out[from..from + reading.count]);
+}
+
+// Reads every leg between the nodes in `places`, or up to the first without exactly one reading. The lines of the legs stand in `out` as long as
+// there is room.
+pub fn read_legs(
+    bytes: &[u8],
+    points: usize,
+    places: &[u32],
+    work: &mut [u32],
+    lines: usize,
+    out: &mut [u32],
+) -> Legs
+    requires { ⌜ SoundBytes (now bytes) points × (points < length (now places)) ⌝ }
+    requires { ⌜ ((m : Map) × Set m lines (now work) × PlacesIn m points (now places)) ⌝ }
+    ensures { λ r. ⌜ ((m : Map) → Set m lines (now (work .entry)) → PlacesIn m points (now (places .entry))
+        → LegsDone m lines (legsAt (now (bytes .entry)) points (now (places .entry))) (now (work .exit)) (now (out .entry)) (now (out .exit)) r) ⌝ }
+{
+    let mut sums = Sums {
+        count: 0,
+        length: 0,
+        first: 0,
+        last: 0,
+    };
+    let mut k: usize = 0;
+    'legs: loop {
+        if points <= k {
+            break 'legs Legs::Every(sums);
+        }
+        let leg = leg_at(bytes, points, places, k);
+        let mut found = Verdict::Unread;
+        let mut at = first_leaving(work, lines, leg.from);
+        while 0 < at {
+            let more = from_line(work, lines, at - 1, leg);
+            put_reading(work, more, out, sums.count);
+            found = both(found, more);
+            if let Verdict::Several = found {
+                break 'legs Legs::Several(k as u32);
+            }
+            at = next_leaving(work, lines, at);
+        }
+        let Verdict::One(reading) = found else {
+            break 'legs Legs::Unread(k as u32);
+        };
+        sums = with_leg(sums, k, reading);
+        k += 1;
+    }
+}

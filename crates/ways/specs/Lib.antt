@@ -1,0 +1,2 @@
+-- What a finished search says.
+pub mod Told

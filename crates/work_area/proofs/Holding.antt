@@ -1,0 +1,79 @@
+-- A work area that holds a map: it still does after a change from 8,192 on, and what its numbers are.
+use Prim.Native.Nat.{ℕ, _+_, _*_, _≤_, _<_}
+use mathlib.Core.Path.{_≡_, _∙_, sym, subst}
+use mathlib.Core.List.{List}
+use native.Mathlib.Nat.{add-zero}
+use native.Mathlib.Omega.{arith}
+use lib.ListN.{length, getD}
+use lib.Dec.{lit<}
+use Rattle.model.specs.Map.{Map}
+use Rattle.model.specs.Lines.{nodeAt, lineAt}
+use Rattle.work_area.specs.Area.{Holds, Held, codesFrom, linePlace}
+use Rattle.buffers.specs.Kept.{Kept}
+use Rattle.model.specs.WellFormed.{LineOk}
+
+pub holds-kept : {w v : List ℕ} {nodes lines low high : ℕ} {m : Map} → Holds w nodes lines m → Kept low high w v → codesFrom ≤ low →
+    Holds v nodes lines m
+holds-kept h kept l =
+    let few-nodes = h .formed .few-nodes in
+    let few-lines = h .formed .few-lines in
+    let n = h .node-count in
+    let s = h .line-count in
+    record {
+      full = omega (arith, h .full, kept .same);
+      formed = h .formed;
+      node-count = h .node-count;
+      line-count = h .line-count;
+      node-held = λ i k a b. kept .below (2 * i + k) (omega arith) ∙ h .node-held i k a b;
+      line-held = λ i k a b. kept .below (linePlace i + k) (omega arith) ∙ h .line-held i k a b;
+    }
+
+-- ---- the numbers of a node and of a line
+
+module _ {w : List ℕ} {nodes lines : ℕ} {m : Map} (h : Holds w nodes lines m) (i : ℕ) where
+  module _ (known : i < nodes) where
+    pub lon-at : getD w (2 * i) 0 ≡ nodeAt m i .lon
+    lon-at = rw add-zero at (h .node-held i 0 known (lit< tt))
+
+    pub lat-at : getD w (2 * i + 1) 0 ≡ nodeAt m i .lat
+    lat-at = h .node-held i 1 known (lit< tt)
+
+  module _ (known : i < lines) where
+    pub start-at : getD w (linePlace i) 0 ≡ lineAt m i .start
+    start-at = rw add-zero at (h .line-held i 0 known (lit< tt))
+
+    pub end-at : getD w (linePlace i + 1) 0 ≡ lineAt m i .end
+    end-at = h .line-held i 1 known (lit< tt)
+
+    pub length-at : getD w (linePlace i + 2) 0 ≡ lineAt m i .length
+    length-at = h .line-held i 2 known (lit< tt)
+
+    pub frc-at : getD w (linePlace i + 3) 0 ≡ lineAt m i .frc
+    frc-at = h .line-held i 3 known (lit< tt)
+
+    pub fow-at : getD w (linePlace i + 4) 0 ≡ lineAt m i .fow
+    fow-at = h .line-held i 4 known (lit< tt)
+
+    pub out-at : getD w (linePlace i + 5) 0 ≡ lineAt m i .out
+    out-at = h .line-held i 5 known (lit< tt)
+
+    pub back-at : getD w (linePlace i + 6) 0 ≡ lineAt m i .back
+    back-at = h .line-held i 6 known (lit< tt)
+
+-- ---- with the map's own count of nodes
+
+module _ {lo hi : ℕ} where
+  -- Past the map's part, a change leaves the map. Within the lines before, it leaves the chains and the list.
+  pub held-kept : {w v : List ℕ} {n : ℕ} {m : Map} → 8192 ≤ lo → Kept lo hi w v → Held w n m → Held v n m
+  held-kept high k h = holds-kept h k high
+
+-- The node count that a caller holds is the map's.
+pub held : {w : List ℕ} {nodes lines : ℕ} {m : Map} → Holds w nodes lines m → Held w lines m
+held {w} {lines = lines} {m = m} h = subst (λ (k : ℕ). Holds w k lines m) (sym (h .node-count)) h
+
+module _ {w : List ℕ} {n : ℕ} {m : Map} (h : Held w n m) where
+  pub few : n ≤ 1024
+  few = let f = h .formed in omega arith
+
+  pub line-ok : {l : ℕ} → l < n → LineOk (length (m .nodes)) (lineAt m l)
+  line-ok l< = h .formed .line-ok _ (omega arith)

@@ -1,0 +1,3 @@
+-- Laws of a work area that holds a map.
+pub mod Held
+pub mod Holding

@@ -1,0 +1,114 @@
+-- The work area: where everything stands in it, and what it is to hold a map. src/lib.rt has the same places for the code; no other file has an address.
+use Prim.Native.Nat.{ℕ, _+_, _*_, _≤_, _<_}
+use mathlib.Core.Path.{_≡_}
+use mathlib.Core.List.{List, [], _∷_}
+use lib.ListN.{length, getD}
+use Rattle.model.specs.Map.{Node, Line, Map, greatestNodeCount, greatestLineCount}
+use Rattle.model.specs.Lines.{nodeAt, lineAt}
+use Rattle.model.specs.WellFormed.{WellFormed}
+use Rattle.model.specs.Work.{workLength}
+
+-- ---- the map: its nodes, and then its lines
+
+-- How many numbers a node has, and where those of node `i` start; which of them is which.
+abbrev pub nodeSize : ℕ
+nodeSize = 2
+
+abbrev pub nodePlace : ℕ → ℕ
+nodePlace i = nodeSize * i
+
+abbrev pub latitude : ℕ
+latitude = 1
+
+-- How many numbers a line has, and where those of line `i` start; which of them is which. The start node comes first.
+abbrev pub lineSize : ℕ
+lineSize = 7
+
+abbrev pub linesFrom : ℕ
+linesFrom = nodeSize * greatestNodeCount
+
+abbrev pub linePlace : ℕ → ℕ
+linePlace i = linesFrom + lineSize * i
+
+abbrev pub endNode : ℕ
+endNode = 1
+
+abbrev pub lineLength : ℕ
+lineLength = 2
+
+abbrev pub lineFrc : ℕ
+lineFrc = 3
+
+abbrev pub lineFow : ℕ
+lineFow = 4
+
+abbrev pub bearingOut : ℕ
+bearingOut = 5
+
+abbrev pub bearingBack : ℕ
+bearingBack = 6
+
+-- ---- behind the map: the cells of searches
+
+-- For each line the length found to it and its predecessor; for each node the first line of its adjacency list, and for each line the next of
+-- that list; for each node the nearest line that ends there.
+abbrev pub searchFrom : ℕ
+searchFrom = linesFrom + lineSize * greatestLineCount
+
+abbrev pub lengthsFrom : ℕ
+lengthsFrom = searchFrom
+
+abbrev pub beforeFrom : ℕ
+beforeFrom = lengthsFrom + greatestLineCount
+
+abbrev pub headsFrom : ℕ
+headsFrom = beforeFrom + greatestLineCount
+
+abbrev pub nextFrom : ℕ
+nextFrom = headsFrom + greatestNodeCount
+
+abbrev pub nearestFrom : ℕ
+nearestFrom = nextFrom + greatestLineCount
+
+abbrev pub searchTo : ℕ
+searchTo = nearestFrom + greatestNodeCount
+
+-- ---- the same cells while a map is read: the test of equal codes
+
+-- For each node its two codes and the node before it in its bucket; for each bucket its last node.
+abbrev pub buckets : ℕ
+buckets = 512
+
+abbrev pub codesFrom : ℕ
+codesFrom = searchFrom
+
+abbrev pub chainsFrom : ℕ
+chainsFrom = codesFrom + nodeSize * greatestNodeCount
+
+abbrev pub bucketsFrom : ℕ
+bucketsFrom = chainsFrom + greatestNodeCount
+
+abbrev pub codesTo : ℕ
+codesTo = bucketsFrom + buckets
+
+-- ---- a map that is held
+
+-- The numbers of a node and of a line, in the order of the map's bytes.
+abbrev pub nodeNumbers : Node → List ℕ
+nodeNumbers a = a .lon ∷ a .lat ∷ []
+
+abbrev pub lineNumbers : Line → List ℕ
+lineNumbers l = l .start ∷ l .end ∷ l .length ∷ l .frc ∷ l .fow ∷ l .out ∷ l .back ∷ []
+
+-- The work area `w` holds the well-formed map `m`, which has so many nodes and lines.
+pub record Holds (w : List ℕ) (nodes lines : ℕ) (m : Map) : Type 0 where
+  pub full : workLength ≤ length w
+  pub formed : WellFormed m
+  pub node-count : length (m .nodes) ≡ nodes
+  pub line-count : length (m .lines) ≡ lines
+  pub node-held : (i k : ℕ) → i < nodes → k < nodeSize → getD w (nodePlace i + k) 0 ≡ getD (nodeNumbers (nodeAt m i)) k 0
+  pub line-held : (i k : ℕ) → i < lines → k < lineSize → getD w (linePlace i + k) 0 ≡ getD (lineNumbers (lineAt m i)) k 0
+
+-- The work area holds the map `m`, which has so many lines.
+abbrev pub Held : List ℕ → ℕ → Map → Type 0
+Held w lines m = Holds w (length (m .nodes)) lines m

@@ -1,0 +1,3 @@
+-- Where everything stands in the work area, and what it is to hold a map.
+pub mod Area
+pub mod Held
