@@ -6,4 +6,5 @@ pub mod Stored
 pub mod Stores
 pub mod Placing
 pub mod Groups
+pub mod Numbers
 pub mod LineBytes

@@ -1,8 +1,8 @@
 // Buffers and numbers, for every crate above: parts filled and copied, numbers of seven bits, and numbers of two, three and four bytes.
+ghost use Rattle.model.specs.Work.{placed};
 ghost use mathlib.Core.Path.{_≡_};
 ghost use Prim.Native.Nat.{_+_, _≤_, _<_};
 ghost use lib.ListN.{length};
-ghost use Rattle.model.specs.Work.{workLength, placed};
 ghost use Rattle.buffers.specs.Kept.{Filled};
 
 pub mod bytes;
@@ -17,13 +17,13 @@ pub fn wide(x: u32) -> usize
 }
 
 // Puts `x` at the `count` numbers from `base` on.
-pub fn fill(work: &mut [u32], base: usize, count: usize, x: u32)
-    requires { ⌜ (count ≤ 1_024) × (base + count ≤ workLength) × (workLength ≤ length (now work)) ⌝ }
-    ensures { λ _. ⌜ Filled base count x (now (work .entry)) (now (work .exit)) ⌝ }
+pub fn fill(buffer: &mut [u32], base: usize, count: usize, x: u32)
+    requires { ⌜ base + count ≤ length (now buffer) ⌝ }
+    ensures { λ _. ⌜ Filled base count x (now (buffer .entry)) (now (buffer .exit)) ⌝ }
 {
     let mut i = 0;
     while i < count {
-        work[base + i] = x;
+        buffer[base + i] = x;
         i += 1;
     }
 }

@@ -1,5 +1,7 @@
 -- A node and a line, read number by number and then stored.
-use Prim.Native.Nat.{ℕ, _+_, _*_, _≤_, _<_}
+use Rattle.work_area.specs.Area.{nodeSize, nodePlace, lineSize, linePlace}
+use Rattle.model.specs.Map.{greatestLineLength, Line, MapAnswer, refused, readNode, readLine}
+use Prim.Native.Nat.{ℕ, _+_, _≤_, _<_}
 use mathlib.Core.Path.{_≡_, refl, sym, ap, _∙_}
 use mathlib.Core.Logic.{_≢_}
 use mathlib.Core.Bool.{true, false}
@@ -12,9 +14,7 @@ use lib.Dec.{eqb, lit<}
 use borrow.Author.Tests.{eq-eqb, ne-eqb}
 use Rattle.model.specs.declared.Refusal.the-variants.{MapCoordinate, MapLine}
 use Rattle.model.specs.Refusal.{row, refusalOf}
-use Rattle.model.specs.Map.{Line, MapAnswer, refused, readNode, readLine}
 use Rattle.work_area.specs.Held.{heldNode, lineFrom, heldLine}
-use Rattle.work_area.specs.Area.{linePlace}
 use Rattle.depot_map.specs.Step.{goOn, FieldRead, NodeRead, readAttributes, heldAttributes, AttributesRead, LineRead, Attributes}
 use Rattle.depot_map.specs.declared.field.Read.{Read}
 use Rattle.work_area.proofs.Held.{node-path, line-path}
@@ -28,11 +28,11 @@ use Rattle.depot_map.specs.declared.field.Read.the-variants as Read
 pub node-read : {bytes : List ℕ} {from lon after lat next : ℕ} {w v : List ℕ} {r₁ r₂ : Read} (i : ℕ) →
     FieldRead bytes from 0 35_999_998 MapCoordinate r₁ → r₁ ≡ Read.Got lon after →
     FieldRead bytes after 0 18_000_000 MapCoordinate r₂ → r₂ ≡ Read.Got lat next →
-    2 * i + 2 ≤ length w → v ≡ sets w (2 * i) (lon ∷ lat ∷ []) → NodeRead bytes from i w v (Read.Got lat next)
+    nodePlace i + nodeSize ≤ length w → v ≡ sets w (nodePlace i) (lon ∷ lat ∷ []) → NodeRead bytes from i w v (Read.Got lat next)
 unfolding readNode heldNode refusalOf
 node-read {bytes} {lon = lon} {lat = lat} {w = w} i f₁ e₁ f₂ e₂ fits put =
-    let s = stored (lon ∷ lat ∷ []) w (2 * i) fits put in
-    step-read bytes _ (λ rest. field-on f₁ e₁ _ ∙ field-on f₂ e₂ _) (node-path (stored-first (2 * i) s) (s .held 1 (lit< tt))) (s .kept)
+    let s = stored (lon ∷ lat ∷ []) w (nodePlace i) fits put in
+    step-read bytes _ (λ rest. field-on f₁ e₁ _ ∙ field-on f₂ e₂ _) (node-path (stored-first (nodePlace i) s) (s .held 1 (lit< tt))) (s .kept)
 
 -- ---- the attributes of a line
 
@@ -41,12 +41,12 @@ pub attributes-path : {a b c d e a′ b′ c′ d′ e′ : ℕ} → a ≡ a′ 
 attributes-path p q r s t = λ i. record { length = p i; frc = q i; fow = r i; out = s i; back = t i }
 
 pub attributes-read : {bytes : List ℕ} {from len n₁ frc n₂ fow n₃ out n₄ back n₅ : ℕ} {w v : List ℕ} {r₁ r₂ r₃ r₄ r₅ : Read} (at : ℕ) →
-    FieldRead bytes from 1 150_000 MapLine r₁ → r₁ ≡ Read.Got len n₁ →
+    FieldRead bytes from 1 greatestLineLength MapLine r₁ → r₁ ≡ Read.Got len n₁ →
     FieldRead bytes n₁ 0 7 MapLine r₂ → r₂ ≡ Read.Got frc n₂ →
     FieldRead bytes n₂ 0 7 MapLine r₃ → r₃ ≡ Read.Got fow n₃ →
     FieldRead bytes n₃ 0 359 MapLine r₄ → r₄ ≡ Read.Got out n₄ →
     FieldRead bytes n₄ 0 359 MapLine r₅ → r₅ ≡ Read.Got back n₅ →
-    at + 7 ≤ length w → v ≡ sets w (at + 2) (len ∷ frc ∷ fow ∷ out ∷ back ∷ []) → AttributesRead bytes from at w v (Read.Got back n₅)
+    at + lineSize ≤ length w → v ≡ sets w (at + 2) (len ∷ frc ∷ fow ∷ out ∷ back ∷ []) → AttributesRead bytes from at w v (Read.Got back n₅)
 unfolding readAttributes heldAttributes refusalOf
 attributes-read {bytes} {len = len} {frc = frc} {fow = fow} {out = out} {back = back} {w = w} {v = v} at f₁ e₁ f₂ e₂ f₃ e₃ f₄ e₄ f₅ e₅ fits put =
     let s = stored (len ∷ frc ∷ fow ∷ out ∷ back ∷ []) w (at + 2) (omega arith) put in

@@ -1,4 +1,7 @@
 -- The stages of reading a map, each from the one after it. `S` is what the stage is defined to be.
+use Rattle.work_area.specs.Area.{linesFrom, codesFrom, codesTo}
+use Rattle.model.specs.Map.{greatestLineCount, greatestNodeCount, Node, Line, MapAnswer, whole, refused, ended, readLine, decodeLines, decodeNodes, decode, clash}
+use Rattle.model.specs.Work.{workLength}
 use Prim.Native.Nat.{ℕ, suc, _+_, _-_, _≤_, _<_}
 use mathlib.Core.Path.{_≡_, sym, ap, ap₂, _∙_}
 use mathlib.Core.Bool.{false}
@@ -7,10 +10,8 @@ use native.Mathlib.Omega.{arith}
 use lib.ListN.{length, drop}
 use Rattle.model.specs.declared.Refusal.{Refusal}
 use Rattle.model.specs.Refusal.{refusalOf}
-use Rattle.model.specs.Map.{Node, Line, MapAnswer, whole, refused, ended, readLine, decodeLines, decodeNodes, decode, clash, greatestNodeCount, greatestLineCount}
 use Rattle.buffers.specs.Kept.{Kept}
 use Rattle.work_area.specs.Held.{listed, heldNode, heldNodes, heldLines}
-use Rattle.work_area.specs.Area.{linesFrom, codesFrom, codesTo}
 use Rattle.depot_map.specs.Step.{goOn, NodeRead, LineRead}
 use Rattle.depot_map.specs.Stage.{answered, Stage}
 use Rattle.depot_map.specs.Answer.{MapIsRead}
@@ -136,5 +137,5 @@ module _ {S : MapAnswer} {bytes : List ℕ} {at count i : ℕ} {w v : List ℕ} 
 
 -- ---- the first stage
 
-pub map-is-read : {bytes w v : List ℕ} {r : MapRead} → 12_288 ≤ length w → Stage (decode bytes) 0 w v r → MapIsRead bytes w v r
+pub map-is-read : {bytes w v : List ℕ} {r : MapRead} → workLength ≤ length w → Stage (decode bytes) 0 w v r → MapIsRead bytes w v r
 map-is-read {bytes} {w} {v} {r} full s = record { answers = answers bytes v r (omega (arith, s .kept .same)) (s .right); kept = s .kept }

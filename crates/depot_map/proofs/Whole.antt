@@ -1,5 +1,8 @@
 -- The map that was read is held by the work area, and so what `read_map` answers is right.
-use Prim.Native.Nat.{ℕ, zero, suc, _+_, _*_, _≤_, _<_}
+use Rattle.work_area.specs.Area.{nodeSize, nodePlace, lineSize, linePlace, nodeNumbers, lineNumbers, Holds}
+use Rattle.model.specs.Map.{Node, Line, Map, whole, refused, decode}
+use Rattle.model.specs.Work.{workLength}
+use Prim.Native.Nat.{ℕ, zero, suc, _+_, _≤_, _<_}
 use mathlib.Core.Path.{_≡_, refl, sym, ap, subst, _∙_}
 use mathlib.Core.List.{List}
 use native.Mathlib.Nat.{add-zero}
@@ -7,11 +10,8 @@ use native.Mathlib.Omega.{arith}
 use lib.ListN.{length, getD}
 use Rattle.model.specs.Refusal.{refusalOf}
 use Rattle.model.specs.declared.Refusal.{Refusal}
-use Rattle.model.specs.Map.{Node, Line, Map, whole, refused, decode}
 use Rattle.model.specs.Lines.{nodeAt, lineAt}
-use Rattle.model.specs.Work.{workLength}
 use Rattle.model.proofs.Decoded.{well-formed}
-use Rattle.work_area.specs.Area.{nodeNumbers, lineNumbers, Holds, linePlace}
 use Rattle.work_area.specs.Held.{heldNode, lineFrom, heldLine, heldNodes, heldLines}
 use Rattle.depot_map.specs.Stage.{answered}
 use Rattle.depot_map.specs.Answer.{WholeMap, Answers, MapIsRead}
@@ -19,13 +19,13 @@ use Rattle.depot_map.specs.declared.MapRead.{MapRead}
 use Rattle.depot_map.specs.declared.MapRead.the-variants.{Whole, Refused}
 use Rattle.work_area.proofs.Held.{listed-length, listed-at}
 
-node-number : (w : List ℕ) (i k : ℕ) → k < 2 → getD w (2 * i + k) 0 ≡ getD (nodeNumbers (heldNode w i)) k 0
+node-number : (w : List ℕ) (i k : ℕ) → k < nodeSize → getD w (nodePlace i + k) 0 ≡ getD (nodeNumbers (heldNode w i)) k 0
 unfolding heldNode
 node-number w i zero l = rw add-zero
 node-number w i (suc zero) l = refl
 node-number w i (suc (suc k)) l = absurd (omega arith)
 
-line-number : (w : List ℕ) (at k : ℕ) → k < 7 → getD w (at + k) 0 ≡ getD (lineNumbers (lineFrom w at)) k 0
+line-number : (w : List ℕ) (at k : ℕ) → k < lineSize → getD w (at + k) 0 ≡ getD (lineNumbers (lineFrom w at)) k 0
 unfolding lineFrom
 line-number w at zero l = rw add-zero
 line-number w at (suc zero) l = refl
@@ -40,11 +40,11 @@ module _ (w : List ℕ) (nodes lines : ℕ) where
   abbrev held : Map
   held = record { nodes = heldNodes w nodes; lines = heldLines w lines }
 
-  node-held : (i k : ℕ) → i < nodes → k < 2 → getD w (2 * i + k) 0 ≡ getD (nodeNumbers (nodeAt held i)) k 0
+  node-held : (i k : ℕ) → i < nodes → k < nodeSize → getD w (nodePlace i + k) 0 ≡ getD (nodeNumbers (nodeAt held i)) k 0
   unfolding nodeAt
   node-held i k h l = node-number w i k l ∙ ap (λ (x : Node). getD (nodeNumbers x) k 0) (sym (listed-at (heldNode w) nodes i _ h))
 
-  line-held : (i k : ℕ) → i < lines → k < 7 → getD w (linePlace i + k) 0 ≡ getD (lineNumbers (lineAt held i)) k 0
+  line-held : (i k : ℕ) → i < lines → k < lineSize → getD w (linePlace i + k) 0 ≡ getD (lineNumbers (lineAt held i)) k 0
   unfolding lineAt heldLine
   line-held i k h l = line-number w (linePlace i) k l ∙ ap (λ (x : Line). getD (lineNumbers x) k 0) (sym (listed-at (heldLine w) lines i _ h))
 

@@ -1,10 +1,10 @@
 -- What `read_map` answers, of all bytes: the map that they are, held by the work area, or the row of the table that refuses them.
+use Rattle.work_area.specs.Area.{codesTo, Holds}
+use Rattle.model.specs.Map.{Map, whole, refused, decode}
 use Prim.Native.Nat.{ℕ}
 use mathlib.Core.Path.{_≡_}
 use mathlib.Core.List.{List}
 use Rattle.model.specs.Refusal.{refusalOf}
-use Rattle.model.specs.Map.{Map, whole, refused, decode}
-use Rattle.work_area.specs.Area.{Holds}
 use Rattle.buffers.specs.Kept.{Kept}
 use Rattle.depot_map.specs.declared.MapRead.{MapRead}
 use Rattle.depot_map.specs.declared.MapRead.the-variants.{Whole, Refused}
@@ -22,4 +22,4 @@ Answers bytes v (Refused why) = decode bytes ≡ refused (refusalOf why)
 -- The work area was `w` and is `v`: after a refusal too, only its first 10,240 numbers are changed.
 pub record MapIsRead (bytes w v : List ℕ) (r : MapRead) : Type 0 where
   pub answers : Answers bytes v r
-  pub kept : Kept 0 10_240 w v
+  pub kept : Kept 0 codesTo w v

@@ -1,14 +1,14 @@
 -- What one step over the map's bytes has to do: a number, a node or a line, and then whatever `rest` is made of it.
-use Prim.Native.Nat.{ℕ, _+_, _*_, _≤_}
+use Rattle.work_area.specs.Area.{nodeSize, nodePlace, lineSize, linePlace}
+use Rattle.model.specs.Map.{greatestLineLength, MapAnswer, refused, field, readNode, readLine}
+use Prim.Native.Nat.{ℕ, _+_, _≤_}
 use mathlib.Core.Path.{_≡_}
 use mathlib.Core.List.{List}
 use lib.ListN.{getD, drop}
 use Rattle.model.specs.declared.Refusal.{Refusal}
 use Rattle.model.specs.Refusal.{row, refusalOf}
-use Rattle.model.specs.Map.{greatestLineLength, MapAnswer, refused, field, readNode, readLine}
 use Rattle.buffers.specs.Kept.{Kept}
 use Rattle.work_area.specs.Held.{heldNode, heldLine}
-use Rattle.work_area.specs.Area.{linePlace}
 use Rattle.depot_map.specs.declared.field.Read.{Read}
 use Rattle.depot_map.specs.declared.field.Read.the-variants as Read
 
@@ -33,7 +33,7 @@ pub record StepRead {A : Type 0} (step : (A → List ℕ → MapAnswer) → MapA
 
 -- One node more.
 abbrev pub NodeRead : List ℕ → ℕ → ℕ → List ℕ → List ℕ → Read → Type 0
-NodeRead bytes from i w v r = StepRead (readNode (drop from bytes)) bytes (heldNode v i) (2 * i) (2 * i + 2) w v r
+NodeRead bytes from i w v r = StepRead (readNode (drop from bytes)) bytes (heldNode v i) (nodePlace i) (nodePlace i + nodeSize) w v r
 
 -- What a line has besides its ends, as `readLine` reads it, and in the work area, for the line whose numbers start at `at`.
 pub record Attributes : Type 0 where
@@ -63,8 +63,8 @@ heldAttributes w at =
     }
 
 abbrev pub AttributesRead : List ℕ → ℕ → ℕ → List ℕ → List ℕ → Read → Type 0
-AttributesRead bytes from at w v r = StepRead (readAttributes (drop from bytes)) bytes (heldAttributes v at) (at + 2) (at + 7) w v r
+AttributesRead bytes from at w v r = StepRead (readAttributes (drop from bytes)) bytes (heldAttributes v at) (at + 2) (at + lineSize) w v r
 
 -- One line more.
 abbrev pub LineRead : List ℕ → ℕ → ℕ → ℕ → List ℕ → List ℕ → Read → Type 0
-LineRead bytes from last i w v r = StepRead (readLine last (drop from bytes)) bytes (heldLine v i) (linePlace i) (linePlace i + 7) w v r
+LineRead bytes from last i w v r = StepRead (readLine last (drop from bytes)) bytes (heldLine v i) (linePlace i) (linePlace i + lineSize) w v r

@@ -2,16 +2,15 @@
 use crate::field::Read;
 use crate::field::field;
 use model::Refusal;
+use model::limits::GREATEST_LINE_LENGTH;
 use work_area::LINE_NUMBERS;
 use work_area::LINES;
+ghost use Rattle.work_area.specs.Area.{lineSize};
+ghost use Rattle.model.specs.Map.{greatestLineCount};
+ghost use Rattle.model.specs.Work.{workLength};
 ghost use Prim.Native.Nat.{_+_, _-_, _≤_, _<_};
 ghost use lib.ListN.{length};
-ghost use Rattle.model.specs.Work.{workLength};
-ghost use Rattle.model.specs.Map.{greatestLineCount};
 ghost use Rattle.depot_map.specs.Step.{AttributesRead, LineRead};
-
-// The greatest length in decimetres.
-const GREATEST_LENGTH: u32 = 150_000;
 
 // The greatest road class (FRC).
 const GREATEST_FRC: u32 = 7;
@@ -24,11 +23,11 @@ const GREATEST_BEARING: u32 = 359;
 
 // What a line has besides its ends, for the line whose numbers start at `at`.
 fn read_attributes(map: &[u8], from: usize, work: &mut [u32], at: usize) -> Read
-    requires { ⌜ at + 7 ≤ length (now work) ⌝ }
+    requires { ⌜ at + lineSize ≤ length (now work) ⌝ }
     ensures { λ r. ⌜ AttributesRead (now (map .entry)) from at (now (work .entry)) (now (work .exit)) r ⌝ }
 {
     let why = Refusal::MapLine;
-    let len = field(map, from, 1, GREATEST_LENGTH, why);
+    let len = field(map, from, 1, GREATEST_LINE_LENGTH, why);
     let Read::Got(decimetres, after_len) = len else {
         return len;
     };

@@ -12,8 +12,8 @@ use Rattle.model.specs.Map.{sameCodes, greatestNodeCount}
 use Rattle.model.proofs.Tests.{both}
 use Rattle.buffers.specs.Kept.{Kept}
 use Rattle.work_area.specs.Held.{heldNode}
-use Rattle.work_area.specs.Area.{chainsFrom, codesTo}
-use Rattle.equal_codes.specs.Codes.{codesAt, nextAt, headAt, buckets, CodedAt, Coded, bucketOf, bucketAt, Last, Chains}
+use Rattle.work_area.specs.Area.{chainsFrom, codesTo, buckets}
+use Rattle.equal_codes.specs.Codes.{codesAt, nextAt, headAt, CodedAt, Coded, bucketOf, bucketAt, Last, Chains}
 use Rattle.equal_codes.proofs.EqualCodes.{same-by}
 
 -- ---- another bucket, other codes

@@ -1,26 +1,23 @@
 -- The nodes' codes in the scratch, and chains of the nodes that are in one bucket.
+use Rattle.work_area.specs.Area.{nodePlace, codesFrom, chainsFrom, bucketsFrom, codesTo, buckets}
+use Rattle.model.specs.Map.{lonCode, latCode, clash}
 use Prim.Native.Nat.{ℕ, _+_, _*_, _/_, _%_, _≤_, _<_}
 use mathlib.Core.Path.{_≡_}
 use mathlib.Core.Bool.{Bool}
 use mathlib.Core.List.{List}
 use lib.ListN.{getD}
-use Rattle.model.specs.Map.{lonCode, latCode, clash}
 use Rattle.buffers.specs.Kept.{Kept}
 use Rattle.work_area.specs.Held.{heldNode, heldNodes}
-use Rattle.work_area.specs.Area.{codesFrom, chainsFrom, codesTo}
 
--- Where the codes, the chains and their heads stand, and how many buckets there are.
+-- Where the codes, the chains and their heads stand.
 abbrev pub codesAt : ℕ → ℕ
-codesAt i = codesFrom + 2 * i
+codesAt i = codesFrom + nodePlace i
 
 abbrev pub nextAt : ℕ → ℕ
 nextAt i = chainsFrom + i
 
 abbrev pub headAt : ℕ → ℕ
-headAt h = 9_728 + h
-
-abbrev pub buckets : ℕ
-buckets = 512
+headAt h = bucketsFrom + h
 
 -- The codes of node `i` are in their place; those of the first `n` nodes are.
 pub record CodedAt (w : List ℕ) (i : ℕ) : Type 0 where

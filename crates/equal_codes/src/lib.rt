@@ -1,27 +1,22 @@
 // Whether two nodes have the same pair of codes. Nodes are put into buckets by their codes, and only those of one bucket are compared.
+use buffers::fill;
 use fields::coordinate::latitude_code;
 use fields::coordinate::longitude_code;
+use work_area::BUCKET_CHAINS;
+use work_area::BUCKET_HEADS;
+use work_area::BUCKETS;
+use work_area::CODES;
 use work_area::NODE_NUMBERS;
-use work_area::SCRATCH;
 ghost use mathlib.Core.Path.{_≡_};
 ghost use Prim.Native.Nat.{_+_, _≤_, _<_};
 ghost use lib.ListN.{length};
 ghost use Rattle.model.specs.Map.{sameCodes, among, greatestNodeCount};
 ghost use Rattle.model.specs.Work.{workLength};
 ghost use Rattle.work_area.specs.Held.{heldNode, heldNodes};
-ghost use Rattle.work_area.specs.Area.{codesFrom, chainsFrom};
-ghost use Rattle.equal_codes.specs.Codes.{CodedAt, Coded, CodesPut, bucketAt, Chains, Linked, NoChains, EqualFound, buckets};
+ghost use Rattle.work_area.specs.Area.{codesFrom, chainsFrom, buckets};
+ghost use Rattle.equal_codes.specs.Codes.{CodedAt, Coded, CodesPut, bucketAt, Chains, Linked, NoChains, EqualFound};
 
-// At CHAINS + i stands the node before node i in its bucket, plus 1; 0 for none.
-const CHAINS: usize = 9_216;
-
-// At HEADS + h stands the last node of bucket h, plus 1; 0 for none.
-const HEADS: usize = 9_728;
-
-// How many buckets there are.
-const BUCKETS: usize = 512;
-
-// The codes of the first `n` nodes, those of node i at SCRATCH + 2 * i.
+// The codes of the first `n` nodes, those of node i at CODES + 2 * i.
 fn put_codes(work: &mut [u32], n: usize)
     requires { ⌜ (workLength ≤ length (now work)) × (n ≤ greatestNodeCount) ⌝ }
     ensures { λ _. ⌜ CodesPut n (now (work .entry)) (now (work .exit)) ⌝ }
@@ -31,7 +26,7 @@ fn put_codes(work: &mut [u32], n: usize)
         let node = NODE_NUMBERS * i;
         let x = longitude_code(work[node]);
         let y = latitude_code(work[node + 1]);
-        let at = SCRATCH + NODE_NUMBERS * i;
+        let at = CODES + NODE_NUMBERS * i;
         work[at] = x;
         work[at + 1] = y;
         i += 1;
@@ -43,8 +38,8 @@ fn same_codes(work: &[u32], i: usize, j: usize) -> bool
     requires { ⌜ (workLength ≤ length (now work)) × (i < greatestNodeCount) × (j < greatestNodeCount) × CodedAt (now work) i × CodedAt (now work) j ⌝ }
     ensures { λ r. ⌜ r ≡ sameCodes (heldNode (now (work .entry)) i) (heldNode (now (work .entry)) j) ⌝ }
 {
-    let a = SCRATCH + NODE_NUMBERS * i;
-    let b = SCRATCH + NODE_NUMBERS * j;
+    let a = CODES + NODE_NUMBERS * i;
+    let b = CODES + NODE_NUMBERS * j;
     if work[a] != work[b] {
         return false;
     }
@@ -56,7 +51,7 @@ fn bucket(work: &[u32], i: usize) -> usize
     requires { ⌜ (workLength ≤ length (now work)) × (i < greatestNodeCount) ⌝ }
     ensures { λ r. ⌜ (r ≡ bucketAt (now (work .entry)) i) × (r < buckets) ⌝ }
 {
-    let at = SCRATCH + NODE_NUMBERS * i;
+    let at = CODES + NODE_NUMBERS * i;
     let x = work[at] as usize;
     let y = work[at + 1] as usize;
     (x + x / BUCKETS + 37 * (y + y / BUCKETS)) % BUCKETS
@@ -68,13 +63,13 @@ fn met_before(work: &[u32], j: usize) -> bool
     ensures { λ r. ⌜ r ≡ among (heldNode (now (work .entry)) j) (heldNodes (now (work .entry)) j) ⌝ }
 {
     let h = bucket(work, j);
-    let mut k = work[HEADS + h] as usize;
+    let mut k = work[BUCKET_HEADS + h] as usize;
     while 0 < k {
         let i = k - 1;
         if same_codes(work, j, i) {
             return true;
         }
-        k = work[CHAINS + i] as usize;
+        k = work[BUCKET_CHAINS + i] as usize;
     }
     false
 }
@@ -85,8 +80,8 @@ fn link(work: &mut [u32], j: usize)
     ensures { λ _. ⌜ Linked j (now (work .entry)) (now (work .exit)) ⌝ }
 {
     let h = bucket(work, j);
-    work[CHAINS + j] = work[HEADS + h];
-    work[HEADS + h] = (j + 1) as u32;
+    work[BUCKET_CHAINS + j] = work[BUCKET_HEADS + h];
+    work[BUCKET_HEADS + h] = (j + 1) as u32;
 }
 
 // Every bucket becomes empty.
@@ -94,11 +89,7 @@ fn empty_buckets(work: &mut [u32])
     requires { ⌜ workLength ≤ length (now work) ⌝ }
     ensures { λ _. ⌜ NoChains (now (work .entry)) (now (work .exit)) ⌝ }
 {
-    let mut h: usize = 0;
-    while h < BUCKETS {
-        work[HEADS + h] = 0;
-        h += 1;
-    }
+    fill(work, BUCKET_HEADS, BUCKETS, 0);
 }
 
 // Whether two of the first `n` nodes have the same codes, which stand in the scratch.

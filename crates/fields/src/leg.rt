@@ -1,14 +1,10 @@
 // The sector of a line's bearing, and byte D of a leg.
+use model::limits::DISTANCE_STEP;
+use model::limits::GREATEST_LEG_LENGTH;
 ghost use mathlib.Core.Path.{_≡_};
 ghost use Rattle.model.specs.Field.{sector, distance};
 ghost use Rattle.fields.specs.Leg.{LongestLeg};
 ghost use Prim.Native.Nat.{_<_};
-
-// Decimetres to a step of byte D: 58.6 m.
-pub const DISTANCE_STEP: u32 = 586;
-
-// The greatest length of a leg in decimetres.
-pub const GREATEST_LEG_LENGTH: u32 = 150_000;
 
 // The sector of a bearing in whole degrees.
 pub fn sector(bearing: u32) -> u32

@@ -1,4 +1,5 @@
 -- A leg's number while one first line after another is tested.
+use Rattle.leg_tests.proofs.Marks.{mark-sound, mark-complete, marks-both}
 use Prim.Native.Nat.{ℕ, _-_, _≤_, _<_}
 use mathlib.Core.Path.{_≡_, refl, sym, _∙_, ap}
 use mathlib.Core.Logic.{⊎-elim}
@@ -16,7 +17,7 @@ use Rattle.search.specs.Area.{latest}
 use Rattle.search.proofs.Leaving.{latest-all}
 use Rattle.legs.proofs.Lines.{none-yet, no-other, not-leaving}
 use Rattle.point_choice.specs.Cuts.{Tested}
-use Rattle.leg_tests.specs.LegTests.{legFrom, Says1, OwnRead, Sole, SoleFrom, Open, Sifted}
+use Rattle.leg_tests.specs.LegTests.{legFrom, Marks, OwnRead, Sole, SoleFrom, Open, Sifted}
 use Rattle.leg_tests.proofs.Slices.{first-of-slice, from-of-slice}
 use Rattle.leg_tests.proofs.Trials.{slice-connected}
 
@@ -35,16 +36,16 @@ module _ {m : Map} {s : List ℕ} {i j : ℕ} (c : Connected m s) (h : i < j) (l
   sole-of : {first : ℕ} → Tested (good m) s i j → Sole m (legFrom m s i j) (slice i j s) first
   sole-of g = record { own = λ x. g .only .reading; only = λ other r. g .only .only other (r .reading) }
 
-  pub open-start : {at x : ℕ} → at ≡ latest m (lineAt m (getD s i 0) .start) (length (m .lines)) → Says1 (OwnRead m s i j) x → Open m s i j at x
+  pub open-start : {at x : ℕ} → at ≡ latest m (lineAt m (getD s i 0) .start) (length (m .lines)) → Marks (OwnRead m s i j) x → Open m s i j at x
   open-start {at} {x} e says =
       record {
-        usual = λ one. says .sound one .usual;
+        usual = λ one. mark-sound _ says one .usual;
         sole = λ one. record {
           own = λ le. absurd
               (omega (arith, le, e, latest-all m (lineAt m (getD s i 0) .start) (length (m .lines)) (firstOf (slice i j s)) own-known own-starts));
           only = λ other r. absurd (none-yet {m = m} {leg = legFrom m s i j} at (rw leg-starts e) other r);
         };
-        good = λ g. says .complete (record { usual = record { fit = g .fit; within = g .only .reading .allowed .within }; sole = sole-of g });
+        good = λ g. mark-complete _ says (record { usual = record { fit = g .fit; within = g .only .reading .allowed .within }; sole = sole-of g });
       }
 
   pub open-on : {at next x y : ℕ} → 0 < at → lineAt m (at - 1) .start ≡ lineAt m (getD s i 0) .start →
@@ -72,18 +73,17 @@ module _ {m : Map} {s : List ℕ} {i j : ℕ} (c : Connected m s) (h : i < j) (l
                 ⊎-elim (a .only other) (b .only other) (no-other {m = m} {leg = legFrom m s i j} at next some (from ∙ sym leg-starts) e other r);
           }
 
-  pub open-end : {at x : ℕ} → at ≡ 0 → Open m s i j at x → Says1 (Tested (good m) s i j) x
-  open-end e o =
-      record {
-        sound = λ one. record {
-          fit = o .usual one .fit;
-          only = record {
-            reading = o .sole one .own (omega arith);
-            only = λ other r. o .sole one .only other (record { reading = r; starts = omega arith });
-          };
+  pub open-end : {at x : ℕ} → at ≡ 0 → Open m s i j at x → Marks (Tested (good m) s i j) x
+  open-end {x = x} e o =
+      marks-both x
+      (λ one. record {
+        fit = o .usual one .fit;
+        only = record {
+          reading = o .sole one .own (omega arith);
+          only = λ other r. o .sole one .only other (record { reading = r; starts = omega arith });
         };
-        complete = o .good;
-      }
+      })
+      (o .good)
 
   -- A first line of other attributes has no reading of the leg.
   pub not-alike : {first x : ℕ} → (leaving m first ≡ leaving m (getD s i 0) → ⊥) → Sifted m s i j first x x

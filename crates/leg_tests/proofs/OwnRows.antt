@@ -13,9 +13,9 @@ use Rattle.buffers.proofs.Kept.{kept-none, kept-then}
 use Rattle.search.specs.Area.{Set}
 use Rattle.leg_tests.specs.declared.cells.OwnCell.{OwnCell}
 use Rattle.leg_tests.specs.declared.Row.{Row}
-use Rattle.leg_tests.specs.LegTests.{mark, Says1, DoneFor, OwnRead, Measured, Worked, OwnTested, RowOwned, RowTested}
+use Rattle.leg_tests.specs.LegTests.{mark, Marks, DoneFor, OwnRead, Measured, Worked, OwnTested, RowOwned, RowTested}
 use Rattle.leg_tests.proofs.Slices.{total-slice-none, lowest-slice-none, row-set}
-use Rattle.leg_tests.proofs.Marks.{says-no}
+use Rattle.leg_tests.proofs.Marks.{marks-no}
 use Rattle.leg_tests.proofs.Rows.{worked-then}
 
 -- The legs up to position `j` are tested by their own first line, and the row ends at `end`.
@@ -23,7 +23,7 @@ pub record Owning (m : Map) (lines : ℕ) (s : List ℕ) (i : ℕ) (b w v : List
   pub classes : class ≡ lowest m (slice i j s)
   pub sum : len ≡ total m (slice i j s)
   pub done : DoneFor m lines (cell .searched) (getD s i 0) (cell .limit) v
-  pub says : (k : ℕ) → i < k → k ≤ j → Says1 (OwnRead m s i k) (mark b i k)
+  pub says : (k : ℕ) → i < k → k ≤ j → Marks (OwnRead m s i k) (mark b i k)
   pub later : (k : ℕ) → cell .end < k → k ≤ length s → OwnRead m s i k → ⊥
   pub worked : Worked m lines w v
 
@@ -47,7 +47,7 @@ module _ {m : Map} {lines : ℕ} {s : List ℕ} {i : ℕ} {w : List ℕ} where
         classes = x .classes;
         sum = x .sum;
         done = cell .done;
-        says = row-set (λ q y. Says1 (OwnRead m s i q) y) b i j (r .mark) room (k .says) (cell .says);
+        says = row-set (λ q y. Marks (OwnRead m s i q) y) b i j (r .mark) room (k .says) (cell .says);
         later = λ q h l. go q h l (decLt (before .end) q);
         worked = worked-then (k .worked) (cell .worked);
       }
@@ -66,8 +66,8 @@ module _ {m : Map} {lines : ℕ} {s : List ℕ} {i : ℕ} {w : List ℕ} where
         worked = k .worked;
       }
     where
-      go : (q : ℕ) → i < q → q ≤ length s → Dec (j < q) → Says1 (OwnRead m s i q) (mark b i q)
-      go q h l (yes after) = subst (Says1 (OwnRead m s i q)) (sym (cleared q after l)) (says-no (k .later q (omega arith) l))
+      go : (q : ℕ) → i < q → q ≤ length s → Dec (j < q) → Marks (OwnRead m s i q) (mark b i q)
+      go q h l (yes after) = subst (Marks (OwnRead m s i q)) (sym (cleared q after l)) (marks-no (k .later q (omega arith) l))
       go q h l (no before) = k .says q h (omega arith)
 
       inside : (q : ℕ) → q ≤ length s → mark b i q ≡ 1 → Dec (j < q) → q ≤ r .end

@@ -1,4 +1,5 @@
 -- A row of the table while its legs are tested by a first line, one leg after another; and by one first line after another.
+use Rattle.leg_tests.proofs.Marks.{mark-sound}
 use Prim.Native.Nat.{ℕ, zero, suc, _+_, _*_, _-_, _≤_, _<_, max}
 use mathlib.Core.Path.{_≡_, refl, sym, subst, _∙_, ap₂}
 use mathlib.Core.Logic.{⊎-elim}
@@ -19,7 +20,7 @@ use Rattle.leg_tests.specs.declared.cells.Cell.{Cell}
 use Rattle.leg_tests.specs.declared.Row.{Row}
 use Rattle.stretches.specs.Stretch.{Known}
 use Rattle.point_choice.specs.Cuts.{Tested}
-use Rattle.leg_tests.specs.LegTests.{mark, Says1, Open, Sifted, DoneFor, Trial, Within, Owned, Measured, Worked, CellTested, RowSifted, RowOwned, RowTested}
+use Rattle.leg_tests.specs.LegTests.{mark, Marks, Open, Sifted, DoneFor, Trial, Within, Owned, Measured, Worked, CellTested, RowSifted, RowOwned, RowTested}
 use Rattle.leg_tests.proofs.Slices.{total-slice-on, total-slice-none, lowest-slice-on, lowest-slice-none, row-set}
 use Rattle.leg_tests.proofs.Opening.{open-start, open-on, open-end, not-tested}
 
@@ -126,7 +127,7 @@ module _ {m : Map} {lines : ℕ} {s : List ℕ} {i : ℕ} {w : List ℕ} (c : Co
         inside = omega (arith, e, latest-le m v lines);
         next = rw e (latest-hit m v lines);
         numbers = λ j h l. open-start c h l (rw all e) (row .says j h l);
-        owned = λ j h l one. (row .ended j h l one, row .says j h l .sound one);
+        owned = λ j h l one. (row .ended j h l one, mark-sound _ (row .says j h l) one);
         kept = row .kept;
         worked = row .worked;
       }
@@ -152,11 +153,11 @@ module _ {m : Map} {lines : ℕ} {s : List ℕ} {i : ℕ} {w : List ℕ} (c : Co
 
 -- One row more is tested.
 pub rows-on : {m : Map} {lines : ℕ} {s : List ℕ} {i : ℕ} {a b w v : List ℕ} → length s ≤ 64 → RowTested m lines s i a b w v →
-    ((k j : ℕ) → k < i → k < j → j ≤ length s → Says1 (Tested (good m) s k j) (mark a k j)) →
-    (k j : ℕ) → k < i + 1 → k < j → j ≤ length s → Says1 (Tested (good m) s k j) (mark b k j)
+    ((k j : ℕ) → k < i → k < j → j ≤ length s → Marks (Tested (good m) s k j) (mark a k j)) →
+    (k j : ℕ) → k < i + 1 → k < j → j ≤ length s → Marks (Tested (good m) s k j) (mark b k j)
 rows-on {m} {s = s} {i = i} {b = b} few row before k j h l inside =
     let last : k ≤ i = omega arith in
     ⊎-elim
-    (λ e. subst (λ (q : ℕ). Says1 (Tested (good m) s q j) (mark b q j)) (sym e) (row .tested j (omega arith) inside))
-    (λ lt. subst (Says1 (Tested (good m) s k j)) (sym (row .kept .below (65 * k + j) (omega arith))) (before k j lt l inside))
+    (λ e. subst (λ (q : ℕ). Marks (Tested (good m) s q j) (mark b q j)) (sym e) (row .tested j (omega arith) inside))
+    (λ lt. subst (Marks (Tested (good m) s k j)) (sym (row .kept .below (65 * k + j) (omega arith))) (before k j lt l inside))
     (eq-or-lt-of-le last)

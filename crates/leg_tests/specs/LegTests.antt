@@ -1,17 +1,19 @@
 -- The tests of a stretch's legs: which of them may be used (paper 01, "What counts as a reading", last paragraph).
 -- Number 65 × i + j of a table is for the leg from position `i` to position `j`.
+use Rattle.work_area.specs.Area.{searchFrom, searchTo}
+use Rattle.model.specs.Map.{Map}
+use Rattle.model.specs.Reading.{greatestLegLength, Leg, Allowed, Reading}
 use Prim.Native.Nat.{ℕ, _+_, _*_, _-_, _≤_, _<_}
 use mathlib.Core.Path.{_≡_}
 use mathlib.Core.List.{List}
 use lib.ListN.{length, getD}
 use lib.Seq.{slice}
 use lib.Dec.{eqb}
-use Rattle.model.specs.Map.{Map}
 use Rattle.model.specs.Field.{distance}
 use Rattle.model.specs.Lines.{lineAt, nodeAt, Connected, total, lowest, firstOf, lastOf, leaving}
 use Rattle.model.specs.Difference.{DifferencesFit}
-use Rattle.model.specs.Reading.{Leg, Allowed, Reading, greatestLegLength}
 use Rattle.model.specs.Choice.{fromNode, toNode, legOf, good}
+use Rattle.buffers.specs.Decides.{Decides}
 use Rattle.buffers.specs.Kept.{Kept}
 use Rattle.search.specs.Ways.{line, Way}
 use Rattle.search.specs.Area.{Chained, Searched, Reaching, Set}
@@ -35,10 +37,9 @@ pub record Usual (m : Map) (ls : List ℕ) : Type 0 where
   pub fit : DifferencesFit (nodeAt m (fromNode m ls)) (nodeAt m (toNode m ls))
   pub within : total m ls ≤ greatestLegLength
 
--- A number of a table answers a question.
-pub record Says1 (P : Type 0) (x : ℕ) : Type 0 where
-  pub sound : x ≡ 1 → P
-  pub complete : P → x ≡ 1
+-- A number of a table answers a question: it is 1 where the answer is yes.
+abbrev pub Marks : Type 0 → ℕ → Type 0
+Marks P x = Decides P (eqb x 1)
 
 -- The lines `ls` are the only reading of a leg with the first line `first`, if that is their own; and if not, there is none.
 pub record Sole (m : Map) (leg : Leg) (ls : List ℕ) (first : ℕ) : Type 0 where
@@ -125,7 +126,7 @@ pub record Measured (m : Map) (s : List ℕ) (i j class len : ℕ) : Type 0 wher
 -- The work area is ready for searches as before, and only its part for searches is changed.
 pub record Worked (m : Map) (lines : ℕ) (w v : List ℕ) : Type 0 where
   pub set : Set m lines v
-  pub kept : Kept 8_192 12_288 w v
+  pub kept : Kept searchFrom searchTo w v
 
 -- A search for a leg of length `len` is done, up to the limit `r`.
 pub record Prepared (m : Map) (lines class first len : ℕ) (w v : List ℕ) (r : ℕ) : Type 0 where
@@ -144,7 +145,7 @@ NoneLater m s i r end = (k : ℕ) → r < k → k ≤ end → k ≤ length s →
 
 -- The same after the test of its own first line, where the row was to end at `end`.
 pub record OwnTested (m : Map) (lines : ℕ) (s : List ℕ) (i j end : ℕ) (w v : List ℕ) (r : OwnCell) : Type 0 where
-  pub says : Says1 (OwnRead m s i j) (r .mark)
+  pub says : Marks (OwnRead m s i j) (r .mark)
   pub done : DoneFor m lines (r .searched) (getD s i 0) (r .limit) v
   pub later : NoneLater m s i (r .end) end
   pub worked : Worked m lines w v
@@ -162,19 +163,19 @@ pub record RowCleared (i count : ℕ) (a b : List ℕ) : Type 0 where
 
 -- The legs from position `i` are tested by their own first line.
 pub record RowOwned (m : Map) (lines : ℕ) (s : List ℕ) (i : ℕ) (a b w v : List ℕ) (r : Row) : Type 0 where
-  pub says : (j : ℕ) → i < j → j ≤ length s → Says1 (OwnRead m s i j) (mark b i j)
+  pub says : (j : ℕ) → i < j → j ≤ length s → Marks (OwnRead m s i j) (mark b i j)
   pub ended : (j : ℕ) → i < j → j ≤ length s → mark b i j ≡ 1 → j ≤ r .end
   pub kept : Kept (65 * i) (65 * i + 65) a b
   pub worked : Worked m lines w v
 
 -- The legs from position `i` are tested.
 pub record RowTested (m : Map) (lines : ℕ) (s : List ℕ) (i : ℕ) (a b w v : List ℕ) : Type 0 where
-  pub tested : (j : ℕ) → i < j → j ≤ length s → Says1 (Tested (good m) s i j) (mark b i j)
+  pub tested : (j : ℕ) → i < j → j ≤ length s → Marks (Tested (good m) s i j) (mark b i j)
   pub kept : Kept (65 * i) (65 * i + 65) a b
   pub worked : Worked m lines w v
 
 -- All legs are tested. The table was `a` and is `b`; past the rows of the stretch's positions it is unchanged.
 pub record AllTested (m : Map) (lines : ℕ) (s : List ℕ) (a b w v : List ℕ) : Type 0 where
-  pub tested : (i j : ℕ) → i < j → j ≤ length s → Says1 (Tested (good m) s i j) (mark b i j)
+  pub tested : (i j : ℕ) → i < j → j ≤ length s → Marks (Tested (good m) s i j) (mark b i j)
   pub kept : Kept 0 (65 * length s) a b
   pub worked : Worked m lines w v

@@ -3,9 +3,9 @@ use buffers::wide;
 use fields::coordinate::Difference16;
 use fields::coordinate::difference;
 use fields::leg::Arrival;
-use fields::leg::GREATEST_LEG_LENGTH;
 use fields::leg::Leg;
 use fields::leg::distance;
+use model::limits::GREATEST_LEG_LENGTH;
 use stretches::lines::attributes_of;
 use stretches::lines::coordinate;
 use stretches::lines::node_of;
@@ -28,7 +28,7 @@ ghost use Rattle.work_area.specs.Area.{Held};
 ghost use Rattle.buffers.specs.Decides.{Decides};
 ghost use Rattle.fields.specs.Leg.{arrivalIn, legIn};
 ghost use Rattle.stretches.specs.Stretch.{Known};
-ghost use Rattle.leg_tests.specs.LegTests.{legFrom, Usual, Says1, Measured};
+ghost use Rattle.leg_tests.specs.LegTests.{legFrom, Usual, Marks, Measured};
 
 // Whether a difference fits 16 bits.
 fn near(from: u32, to: u32) -> bool
@@ -70,7 +70,7 @@ pub fn first_mark(
     requires { ⌜ Known lines (now stretch) × (i < j) × (j ≤ length (now stretch)) ⌝ }
     requires { ⌜ ((m : Map) × Held (now work) lines m) ⌝ }
     ensures { λ r. ⌜ ((m : Map) → Held (now (work .entry)) lines m → len ≡ total m (slice i j (now (stretch .entry)))
-        → Says1 (Usual m (slice i j (now (stretch .entry)))) r) ⌝ }
+        → Marks (Usual m (slice i j (now (stretch .entry)))) r) ⌝ }
 {
     if wide(GREATEST_LEG_LENGTH) < len {
         return 0;

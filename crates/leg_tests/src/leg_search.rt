@@ -2,13 +2,13 @@
 use crate::leg::leg_of;
 use buffers::wide;
 use fields::leg::Arrival;
-use fields::leg::GREATEST_LEG_LENGTH;
 use fields::leg::Leg;
 use fields::leg::Verdict;
 use fields::leg::distance;
 use fields::leg::longest_leg;
 use legs::ends::at_last_lines;
 use legs::ends::at_node;
+use model::limits::GREATEST_LEG_LENGTH;
 use search::search;
 use stretches::lines::field_of;
 use ways::Ways;

@@ -1,9 +1,10 @@
 -- First lines one after another: what stands in the work area after a search from one, and the verdict on all that leave a node.
+use Rattle.work_area.specs.Area.{searchFrom, searchTo}
+use Rattle.model.specs.Map.{Map}
 use Prim.Native.Nat.{ℕ, _-_, _≤_, _<_}
 use mathlib.Core.Path.{_≡_, _∙_}
 use mathlib.Core.List.{List}
 use native.Mathlib.Omega.{arith}
-use Rattle.model.specs.Map.{Map}
 use Rattle.model.specs.Lines.{lineAt, leaving}
 use Rattle.fields.specs.Leg.{LongestLeg, attributesIn, legIn}
 use Rattle.buffers.specs.Kept.{Kept}
@@ -25,7 +26,7 @@ use Rattle.fields.specs.declared.leg.Verdict.the-variants as verdict
 pub record Done (m : Map) (lines : ℕ) (leg : Leg) (first limit : ℕ) (w v : List ℕ) : Type 0 where
   pub ready : Ready m lines leg first limit v
   pub set : Set m lines v
-  pub kept : Kept 8_192 12_288 w v
+  pub kept : Kept searchFrom searchTo w v
 
 module _ {m : Map} {lines : ℕ} {leg : Leg} {first limit : ℕ} {w : List ℕ} where
   pub searched : {v : List ℕ} → Set m lines w → LongestLeg (leg .distance) limit → lineAt m first .start ≡ leg .from →

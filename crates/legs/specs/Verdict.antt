@@ -1,14 +1,15 @@
 -- What a verdict says of line lists, and which leg of the definitions a leg of the code is.
-use Prim.Native.Nat.{ℕ, _+_, _*_, _≤_}
+use Rattle.work_area.specs.Area.{linePlace, lineFrc, lineFow, searchFrom, searchTo}
+use Rattle.model.specs.Map.{Map}
+use Rattle.model.specs.Reading.{greatestLegLength}
+use Prim.Native.Nat.{ℕ, _+_, _≤_}
 use mathlib.Core.Path.{_≡_}
 use mathlib.Core.Bool.{cond}
 use mathlib.Core.List.{List}
 use lib.ListN.{length, getD}
 use lib.Dec.{eqb}
-use Rattle.model.specs.Map.{Map}
 use Rattle.model.specs.Field.{sector, distance}
 use Rattle.model.specs.Lines.{LineAttributes, lineAt, total, firstOf, lastOf, leaving}
-use Rattle.model.specs.Reading.{greatestLegLength}
 use Rattle.buffers.specs.Kept.{Kept}
 use Rattle.search.specs.Ways.{Target, Ends}
 use Rattle.search.specs.Area.{Searched, linesTo, Set}
@@ -25,9 +26,9 @@ use Rattle.ways.specs.declared.Ways.the-variants as found
 unfoldable pub attributesAt : List ℕ → ℕ → ℕ → LineAttributes
 attributesAt w l bearing =
     record {
-      frc = getD w (1_024 + 7 * l + 3) 0;
-      fow = getD w (1_024 + 7 * l + 4) 0;
-      sector = sector (getD w (1_024 + 7 * l + bearing) 0);
+      frc = getD w (linePlace l + lineFrc) 0;
+      fow = getD w (linePlace l + lineFow) 0;
+      sector = sector (getD w (linePlace l + bearing) 0);
     }
 
 -- Exactly one list has the property `P`: `ls`, of this first and last line, length and count.
@@ -101,7 +102,7 @@ pub record Ready (m : Map) (lines : ℕ) (leg : Leg) (first limit : ℕ) (w : Li
 pub record Judged (m : Map) (lines : ℕ) (P : List ℕ → Type 0) (Q : Reading → List ℕ → Type 0) (w v : List ℕ) (r : Verdict) : Type 0 where
   pub says : Says m P Q r
   pub set : Set m lines v
-  pub kept : Kept 8_192 12_288 w v
+  pub kept : Kept searchFrom searchTo w v
 
 -- The verdict on ways from line `first`: readings where their length gives D.
 unfoldable pub judgeOf : Ways → ℕ → ℕ → Verdict

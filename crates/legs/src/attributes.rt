@@ -6,19 +6,20 @@ use work_area::BEARING_OUT;
 use work_area::FOW;
 use work_area::FRC;
 use work_area::field;
+ghost use Rattle.work_area.specs.Area.{lineSize, Held};
+ghost use Rattle.model.specs.Map.{greatestLineCount, Map};
+ghost use Rattle.model.specs.Work.{workLength};
 ghost use mathlib.Core.Path.{_≡_};
 ghost use Prim.Native.Nat.{_≤_, _<_};
 ghost use lib.ListN.{length};
-ghost use Rattle.model.specs.Map.{Map};
 ghost use Rattle.model.specs.Lines.{leaving, arriving};
-ghost use Rattle.work_area.specs.Area.{Held};
 ghost use Rattle.buffers.specs.Decides.{Decides};
 ghost use Rattle.fields.specs.Leg.{attributesIn};
 ghost use Rattle.legs.specs.Verdict.{attributesAt};
 
 // Whether line `l` has these attributes, by its number `bearing`.
 fn has_attributes(work: &[u32], l: usize, bearing: usize, a: Attributes) -> bool
-    requires { ⌜ (l < 1_024) × (bearing < 7) × (12_288 ≤ length (now work)) ⌝ }
+    requires { ⌜ (l < greatestLineCount) × (bearing < lineSize) × (workLength ≤ length (now work)) ⌝ }
     ensures { λ r. ⌜ Decides (attributesAt (now (work .entry)) l bearing ≡ attributesIn a) r ⌝ }
 {
     if field(work, l, FRC) != a.frc {

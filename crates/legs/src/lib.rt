@@ -1,25 +1,20 @@
 // A leg's reading: none, exactly one, or several (paper 01, "What counts as a reading").
-// `verdict` answers for a whole leg, `from_line` for one first line. A caller that asks for many ends of one search uses `ends`.
+// `from_line` answers for one first line. A caller that asks for many ends of one search uses `ends`.
 use attributes::leaves_as;
 use ends::at_last_lines;
 use ends::at_node;
-use ends::both;
 use fields::leg::Arrival;
 use fields::leg::Leg;
 use fields::leg::Verdict;
 use fields::leg::longest_leg;
-use search::chains::first_leaving;
-use search::chains::next_leaving;
 use search::search;
 use ways::nodes::nearest_line;
 ghost use mathlib.Core.Path.{_≡_};
 ghost use Prim.Native.Nat.{_<_};
-ghost use lib.ListN.{length};
 ghost use Rattle.model.specs.Map.{Map};
 ghost use Rattle.model.specs.Lines.{lineAt};
-ghost use Rattle.model.specs.Reading.{Reading};
 ghost use Rattle.fields.specs.Leg.{legIn};
-ghost use Rattle.legs.specs.Verdict.{FromLine, StandsIn, Anywhere, Judged};
+ghost use Rattle.legs.specs.Verdict.{FromLine, StandsIn, Judged};
 ghost use Rattle.search.specs.Area.{Set};
 
 pub mod attributes;
@@ -46,21 +41,4 @@ pub fn from_line(work: &mut [u32], lines: usize, first: usize, leg: Leg) -> Verd
         }
         Arrival::Matching(a) => at_last_lines(work, lines, first, leg, a, limit),
     }
-}
-
-// The verdict on a leg: that on each line that leaves its first node, one after another.
-pub fn verdict(work: &mut [u32], lines: usize, leg: Leg) -> Verdict
-    requires { ⌜ ((m : Map) × Set m lines (now work) × (leg .from < length (m .nodes))) ⌝ }
-    ensures { λ r. ⌜ ((m : Map) → Set m lines (now (work .entry)) → leg .from < length (m .nodes)
-        → Judged m lines (Reading m (legIn leg)) Anywhere (now (work .entry)) (now (work .exit)) r) ⌝ }
-{
-    let from = leg.from;
-    let mut found = Verdict::Unread;
-    let mut at = first_leaving(work, lines, from);
-    while 0 < at {
-        let more = from_line(work, lines, at - 1, leg);
-        found = both(found, more);
-        at = next_leaving(work, lines, at);
-    }
-    found
 }

@@ -1,8 +1,10 @@
 // Marks that a test program puts into the buffers that it lends, and what a call left of them.
 use libc::STDOUT_FILENO;
+use model::limits::WORK_LENGTH;
 ghost use mathlib.Core.Path.{_≡_};
 ghost use lib.ListN.{length};
-ghost use Rattle.marks.specs.Marks.{markOf, byteMarkOf, Marked, Cleared, Tells};
+ghost use Rattle.buffers.specs.Decides.{Decides};
+ghost use Rattle.marks.specs.Marks.{markOf, byteMarkOf, Marked, Cleared};
 
 // What stands at place `i` of a buffer before a call. It is no line's number and not 0, and numbers next to each other differ.
 fn mark(i: usize) -> u32
@@ -40,7 +42,7 @@ pub fn fill_bytes(buffer: &mut [u8])
 
 // Whether a buffer is as `fill` left it from place `from` on.
 pub fn is_kept(buffer: &[u32], from: usize) -> bool
-    ensures { λ r. ⌜ Tells (Marked markOf (now (buffer .entry)) from (length (now (buffer .entry)))) r ⌝ }
+    ensures { λ r. ⌜ Decides (Marked markOf (now (buffer .entry)) from (length (now (buffer .entry)))) r ⌝ }
 {
     let mut i = from;
     while i < buffer.len() {
@@ -54,7 +56,7 @@ pub fn is_kept(buffer: &[u32], from: usize) -> bool
 
 // Whether a buffer is as `fill_bytes` left it from place `from` on.
 pub fn bytes_kept(buffer: &[u8], from: usize) -> bool
-    ensures { λ r. ⌜ Tells (Marked byteMarkOf (now (buffer .entry)) from (length (now (buffer .entry)))) r ⌝ }
+    ensures { λ r. ⌜ Decides (Marked byteMarkOf (now (buffer .entry)) from (length (now (buffer .entry)))) r ⌝ }
 {
     let mut i = from;
     while i < buffer.len() {
@@ -66,21 +68,21 @@ pub fn bytes_kept(buffer: &[u8], from: usize) -> bool
     true
 }
 
-// Whether the first 12,288 numbers are 0 and the rest is as `fill` left it.
+// Whether the numbers that a call uses are 0 and the rest is as `fill` left it.
 pub fn is_cleared(work: &[u32]) -> bool
-    ensures { λ r. ⌜ Tells (Cleared (now (work .entry))) r ⌝ }
+    ensures { λ r. ⌜ Decides (Cleared (now (work .entry))) r ⌝ }
 {
-    if work.len() < 12288 {
+    if work.len() < WORK_LENGTH {
         return false;
     }
     let mut i: usize = 0;
-    while i < 12288 {
+    while i < WORK_LENGTH {
         if work[i] != 0 {
             return false;
         }
         i += 1;
     }
-    is_kept(work, 12288)
+    is_kept(work, WORK_LENGTH)
 }
 
 pub fn show_work(work: &[u32]) {

@@ -1,19 +1,21 @@
 // Functions of the inner crates as C functions, for the benchmark alone. They are no entry points of the product.
+use buffers::wide;
 use depot_map::MapRead;
 use depot_map::read_map;
-use fields::leg::GREATEST_LEG_LENGTH;
 use model::ReadAnswer;
 use model::WriteAnswer;
+use model::limits::GREATEST_LEG_LENGTH;
+use model::limits::WORK_LENGTH;
 use model::number_of;
+use opening::Opened;
+use opening::open_map;
 use reader::read;
-use search::chains::link;
 use search::search;
-use work_area::WORK_LENGTH;
 use writer::write;
 ghost use mathlib.Core.Path.{_≡_};
 ghost use lib.ListN.{length};
 ghost use Rattle.model.specs.Map.{Map};
-ghost use Rattle.work_area.specs.Area.{Holds};
+ghost use Rattle.search.specs.Area.{Set};
 ghost use Rattle.model.specs.Stretch.{stretchOf};
 ghost use Rattle.measured.specs.Refusal.{mapRefusal, ReadNumber, WriteNumber};
 
@@ -31,12 +33,11 @@ pub extern "C" fn measured_read_map(map: &[u8], work: &mut [u32]) -> u32
     }
 }
 
-// Searches `times` times from the same line, on the map that the work area holds.
-fn search_again(work: &mut [u32], lines: u32, first: u32, class: u32, limit: u32, times: u32)
-    requires { ⌜ ((m : Map) × Holds (now work) (length (m .nodes)) lines m) ⌝ }
+// Searches `times` times from the same line, on a map that is ready in the work area.
+fn search_again(work: &mut [u32], lines: usize, first: u32, class: u32, limit: u32, times: u32)
+    requires { ⌜ ((m : Map) × Set m lines (now work)) ⌝ }
 {
-    link(work, lines as usize);
-    if lines <= first {
+    if lines <= wide(first) {
         return;
     }
     if GREATEST_LEG_LENGTH < limit {
@@ -44,12 +45,12 @@ fn search_again(work: &mut [u32], lines: u32, first: u32, class: u32, limit: u32
     }
     let mut i: u32 = 0;
     while i < times {
-        search(work, lines as usize, first as usize, class, limit);
+        search(work, lines, wide(first), class, limit);
         i += 1;
     }
 }
 
-// Reads a map, makes its chains and searches `times` times: the number of the refusal, or 0. The time of a search is the difference that `times` makes.
+// Opens a map and searches `times` times: the number of the refusal, or 0. The time of a search is the difference that `times` makes.
 #[no_mangle]
 pub extern "C" fn measured_search(
     map: &[u8],
@@ -64,12 +65,12 @@ pub extern "C" fn measured_search(
     if work.len() < WORK_LENGTH {
         return 1;
     }
-    match read_map(map, work) {
-        MapRead::Whole(_, lines) => {
+    match open_map(map, work) {
+        Opened::Ready(_, lines) => {
             search_again(work, lines, first, class, limit, times);
             0
         }
-        MapRead::Refused(why) => number_of(why),
+        Opened::Refused(why) => number_of(why),
     }
 }
 

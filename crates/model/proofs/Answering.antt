@@ -1,11 +1,18 @@
 -- Answers to the definitions' questions: an answer of one part is the answer of the next, and a refusal leaves the buffer.
-use Prim.Native.Nat.{ℕ}
-use mathlib.Core.Path.{refl}
+use Prim.Native.Nat.{ℕ, _≤_, _<_}
+use mathlib.Core.Path.{_≡_, refl, sym, subst}
+use lib.ListN.{length}
+use Rattle.model.specs.Map.{Map, decode}
+use Rattle.model.specs.Work.{workLength, cleared}
+use Rattle.model.specs.Opening.{OnMap, Opens}
+use Rattle.model.proofs.Cleared.{cleared-short}
+use Rattle.model.proofs.Opened.{area-full}
 use mathlib.Core.List.{List}
 use Rattle.model.specs.declared.Refusal.{Refusal}
-use Rattle.model.specs.Refusal.{refusalOf}
+use Rattle.model.specs.Refusal.{Refused, row, refusalOf}
 use Rattle.model.specs.Outcome.{ReadOutcome, WriteOutcome}
-use Rattle.model.specs.Call.{linesAfter, bytesAfter, ReadAnswers, WriteAnswers, Answered, ReadAnswered, WriteAnswered}
+use Rattle.model.specs.Call.{linesAfter, bytesAfter, ReadAnswers, WriteAnswers, Answered, Called, ReadAnswered, WriteAnswered}
+use Rattle.model.proofs.Opened as Opened
 use Rattle.model.specs.declared.ReadAnswer.the-variants as Reader
 use Rattle.model.specs.declared.WriteAnswer.the-variants as Writer
 
@@ -23,3 +30,19 @@ pub refused-write : {Asks : WriteOutcome → Type 0} {bytes : List ℕ} (r : Ref
     WriteAnswered Asks bytes bytes (Writer.Refused r)
 unfolding bytesAfter
 refused-write r h = record { outcome = WriteOutcome.refused (refusalOf r); asked = h; answers = WriteAnswers.refusal; buffer-after = refl }
+
+-- ---- the whole call, from the answer on the map
+
+module _ {Outcome Answer : Type 0} {Tells : Answer → Outcome → Type 0} {left : Outcome → List ℕ → List ℕ} (refused : Refused → Outcome)
+    (Asks : Map → Outcome → Type 0) (mb : List ℕ) {a : Answer} where
+  pub area-short : {buffer work : List ℕ} → length work < workLength → Answered Tells left (λ o. o ≡ refused (row 1)) buffer buffer a →
+      Called Tells left (Opens refused Asks mb (length work)) work work buffer buffer a
+  area-short {work = work} h d =
+      record {
+        answered = answered-by (λ o e. subst (Opens refused Asks mb (length work)) (sym e) (Opened.area-short refused Asks mb (length work) h)) d;
+        work-after = cleared-short work h;
+      }
+
+  pub called : {before after work work′ : List ℕ} → workLength ≤ length work → Answered Tells left (OnMap refused Asks (decode mb)) before after a →
+      work′ ≡ cleared work → Called Tells left (Opens refused Asks mb (length work)) work work′ before after a
+  called {work = work} h d e = record { answered = answered-by (λ o p. area-full refused Asks mb (length work) o h p) d; work-after = e }

@@ -15,6 +15,7 @@ pub mod Points
 pub mod Composed
 pub mod Outcomes
 pub mod Cleared
+pub mod Opened
 pub mod Once
 pub mod Calls
 pub mod Answering

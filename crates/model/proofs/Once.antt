@@ -1,19 +1,17 @@
 -- The reader's call has one outcome at most, and so has the writer's: a promise that names the outcome pins the answer.
 use Prim.Native.Nat.{ℕ}
 use mathlib.Core.Path.{_≡_, refl}
-use mathlib.Core.Bool.{Bool, true, false}
 use mathlib.Core.List.{List}
 use native.Mathlib.Omega.{arith}
-use lib.Dec.{ltb}
 use Rattle.model.specs.declared.Span.{Span}
-use Rattle.model.specs.Map.{Map, MapAnswer, whole, decode}
+use Rattle.model.specs.Map.{Map}
 use Rattle.model.specs.Reference.{Reference, ParseAnswer, parsed, parse}
 use Rattle.model.specs.Reading.{Leg}
 use Rattle.model.specs.Stretch.{Stretch, StretchAnswer, remains, checkStretch}
 use Rattle.model.specs.Choice.{LegTest, MoreFirst, more, later, Preferred, same, fewer, more-first, Chosen}
 use Rattle.model.specs.Locate.{located, locate}
-use Rattle.model.specs.Outcome.{LegsAnswer, LegsRead, SpansRead, ReadOutcome, ReadEnd, ReadOn, ReadParsed, ReadMap, ReadWork, Reads, WriteOutcome, WriteOn, WriteStretch, WriteMap, WriteWork, Writes}
-use Rattle.model.specs.Work.{workLength}
+use Rattle.model.specs.Outcome.{LegsAnswer, LegsRead, SpansRead, ReadOutcome, ReadEnd, ReadOn, ReadParsed, Reads, WriteOutcome, WriteOn, WriteStretch, Writes}
+use Rattle.model.proofs.Opened.{opens-once}
 use Rattle.model.proofs.Legs.{legs-same}
 use Rattle.model.proofs.Spans.{span-same, no-span}
 
@@ -53,16 +51,8 @@ module _ (mb : List ℕ) (s : Stretch) (room : ℕ) {o o′ : WriteOutcome} wher
   write-stretch-same m (remains r) h h′ = write-on-same h h′
   write-stretch-same m (StretchAnswer.refused n) h h′ = cc
 
-  write-map-same : (a : MapAnswer) → WriteMap a s room o → WriteMap a s room o′ → o ≡ o′
-  write-map-same (whole m) h h′ = write-stretch-same m (checkStretch m s) h h′
-  write-map-same (MapAnswer.refused n) h h′ = cc
-
-  write-work-same : (t : Bool) → WriteWork t mb s room o → WriteWork t mb s room o′ → o ≡ o′
-  write-work-same true h h′ = cc
-  write-work-same false h h′ = write-map-same (decode mb) h h′
-
   pub writes-once : (work : ℕ) → Writes mb s work room o → Writes mb s work room o′ → o ≡ o′
-  writes-once work h h′ = write-work-same (ltb work workLength) h h′
+  writes-once work h h′ = opens-once WriteOutcome.refused (λ m. WriteStretch m (checkStretch m s) room) (λ m. write-stretch-same m (checkStretch m s)) mb work h h′
 
 module _ (m : Map) (r : Reference) (room : ℕ) where
   module _ {lss : List (List ℕ)} {p p′ n n′ : Span} (a : SpansRead m r lss p n) (b : SpansRead m r lss p′ n′) where
@@ -122,13 +112,5 @@ module _ (mb ref : List ℕ) (room : ℕ) {o o′ : ReadOutcome} where
   read-parsed-same m (parsed r) h h′ = read-on-same m r room h h′
   read-parsed-same m (ParseAnswer.refused n) h h′ = cc
 
-  read-map-same : (a : MapAnswer) → ReadMap a ref room o → ReadMap a ref room o′ → o ≡ o′
-  read-map-same (whole m) h h′ = read-parsed-same m (parse ref) h h′
-  read-map-same (MapAnswer.refused n) h h′ = cc
-
-  read-work-same : (t : Bool) → ReadWork t mb ref room o → ReadWork t mb ref room o′ → o ≡ o′
-  read-work-same true h h′ = cc
-  read-work-same false h h′ = read-map-same (decode mb) h h′
-
   pub reads-once : (work : ℕ) → Reads mb ref work room o → Reads mb ref work room o′ → o ≡ o′
-  reads-once work h h′ = read-work-same (ltb work workLength) h h′
+  reads-once work h h′ = opens-once ReadOutcome.refused (λ m. ReadParsed m (parse ref) room) (λ m. read-parsed-same m (parse ref)) mb work h h′

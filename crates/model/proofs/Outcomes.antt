@@ -11,7 +11,8 @@ use Rattle.model.specs.Map.{Map, MapAnswer, whole, decode}
 use Rattle.model.specs.Reference.{Reference, parsed, parse}
 use Rattle.model.specs.Stretch.{Stretch, remaining, StretchAnswer, remains, checkStretch}
 use Rattle.model.specs.Choice.{good, Chosen, stretchBytes}
-use Rattle.model.specs.Outcome.{ReadOutcome, ReadOn, Reads, WriteOutcome, written, WriteOn, WriteStretch, WriteMap, WriteWork, Writes}
+use Rattle.model.specs.Opening.{OnArea}
+use Rattle.model.specs.Outcome.{ReadOutcome, ReadOn, Reads, WriteOutcome, written, WriteOn, WriteStretch, WriteMap, Writes}
 use Rattle.model.specs.Work.{workLength}
 use Rattle.model.proofs.Skipping.{Left, taken}
 
@@ -43,7 +44,7 @@ module _ (mb : List ℕ) (s : Stretch) (bytes : List ℕ) (room : ℕ) where
   written-map (whole m) d h = (m, written-stretch m _ d refl h)
   written-map (MapAnswer.refused n) d h = absurd (not-refused h)
 
-  written-work : (t : Bool) → WriteWork t mb s room (written bytes) → (m : Map) × Written m mb s bytes
+  written-work : (t : Bool) → OnArea WriteOutcome.refused (λ m. WriteStretch m (checkStretch m s) room) t mb (written bytes) → (m : Map) × Written m mb s bytes
   written-work true h = absurd (not-refused h)
   written-work false h = written-map _ refl h
 

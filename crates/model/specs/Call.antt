@@ -49,18 +49,18 @@ ReadAnswered Asks before after a = Answered ReadAnswers linesAfter Asks before a
 abbrev pub WriteAnswered : (WriteOutcome → Type 0) → List ℕ → List ℕ → WriteAnswer → Type 0
 WriteAnswered Asks before after a = Answered WriteAnswers bytesAfter Asks before after a
 
--- A call of the reader: its answer, and the work area and the line buffer before and after it.
-pub record ReadCall (mb ref work lines : List ℕ) (a : ReadAnswer) (work′ lines′ : List ℕ) : Type 0 where
-  pub outcome : ReadOutcome
-  pub reads : Reads mb ref (length work) (length lines) outcome
-  pub answers : ReadAnswers a outcome
+-- A call with a work area: an answer, and the area cleared.
+pub record Called {Outcome Answer : Type 0} (Tells : Answer → Outcome → Type 0) (left : Outcome → List ℕ → List ℕ) (Asks : Outcome → Type 0)
+    (work work′ before after : List ℕ) (a : Answer) : Type 0 where
+  pub answered : Answered Tells left Asks before after a
   pub work-after : work′ ≡ cleared work
-  pub lines-after : lines′ ≡ linesAfter outcome lines
+
+-- A call of the reader: its answer, and the work area and the line buffer before and after it.
+abbrev pub ReadCall : (mb ref work lines : List ℕ) → ReadAnswer → (work′ lines′ : List ℕ) → Type 0
+ReadCall mb ref work before a work′ after =
+    Called ReadAnswers linesAfter (Reads mb ref (length work) (length before)) work work′ before after a
 
 -- A call of the writer: its answer, and the work area and the byte buffer before and after it.
-pub record WriteCall (mb : List ℕ) (s : Stretch) (work bytes : List ℕ) (a : WriteAnswer) (work′ bytes′ : List ℕ) : Type 0 where
-  pub outcome : WriteOutcome
-  pub writes : Writes mb s (length work) (length bytes) outcome
-  pub answers : WriteAnswers a outcome
-  pub work-after : work′ ≡ cleared work
-  pub bytes-after : bytes′ ≡ bytesAfter outcome bytes
+abbrev pub WriteCall : (mb : List ℕ) → Stretch → (work bytes : List ℕ) → WriteAnswer → (work′ bytes′ : List ℕ) → Type 0
+WriteCall mb s work before a work′ after =
+    Called WriteAnswers bytesAfter (Writes mb s (length work) (length before)) work work′ before after a

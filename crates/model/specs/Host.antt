@@ -8,6 +8,7 @@ use lib.Dec.{eqb}
 use Rattle.model.specs.Refusal.{numberOf, placeOf}
 use Rattle.model.specs.Stretch.{Stretch}
 use Rattle.model.specs.Outcome.{ReadOutcome, read, Reads, WriteOutcome, written, Writes}
+use Rattle.model.specs.Call.{Answered}
 use Rattle.model.specs.Work.{workLength, placed}
 
 -- The line numbers of some bytes; bytes beyond the last whole four are left out.
@@ -28,8 +29,11 @@ unfoldable pub hostStretch : List ℕ → ℕ → ℕ → Stretch
 hostStretch bytes pos neg = record { lines = cond (eqb (length bytes % 4) 0) (words bytes) []; pos = pos; neg = neg }
 
 -- "A line buffer holds a quarter of its bytes, rounded down, and a list of over 1,024 lines is refusal 20."
+abbrev pub greatestHostLines : ℕ
+greatestHostLines = 1_024
+
 unfoldable pub hostRoom : ℕ → ℕ
-hostRoom bytes = min (bytes / 4) 1_024
+hostRoom bytes = min (bytes / 4) greatestHostLines
 
 -- The numbers that the host gets from the reader: a refusal or 0, its point or leg, the count of lines and the spans; 0 where they say nothing.
 pub record HostRead : Type 0 where
@@ -74,15 +78,11 @@ hostBytesAfter (written bs) bytes = placed bs bytes
 hostBytesAfter (WriteOutcome.refused r) bytes = bytes
 
 -- A host's call of the reader, with the line buffer before and after it. "The entry points hold the work area themselves."
-pub record HostReadCall (mb ref lines : List ℕ) (a : HostRead) (lines′ : List ℕ) : Type 0 where
-  pub outcome : ReadOutcome
-  pub reads : Reads mb ref workLength (hostRoom (length lines)) outcome
-  pub answers : a ≡ hostRead outcome
-  pub lines-after : lines′ ≡ hostLinesAfter outcome lines
+abbrev pub HostReadCall : (mb ref lines : List ℕ) → HostRead → (lines′ : List ℕ) → Type 0
+HostReadCall mb ref lines a lines′ =
+    Answered (λ given o. given ≡ hostRead o) hostLinesAfter (Reads mb ref workLength (hostRoom (length lines))) lines lines′ a
 
 -- A host's call of the writer, with the byte buffer before and after it.
-pub record HostWriteCall (mb stretch : List ℕ) (pos neg : ℕ) (bytes : List ℕ) (a : HostWritten) (bytes′ : List ℕ) : Type 0 where
-  pub outcome : WriteOutcome
-  pub writes : Writes mb (hostStretch stretch pos neg) workLength (length bytes) outcome
-  pub answers : a ≡ hostWritten outcome
-  pub bytes-after : bytes′ ≡ hostBytesAfter outcome bytes
+abbrev pub HostWriteCall : (mb stretch : List ℕ) → (pos neg : ℕ) → (bytes : List ℕ) → HostWritten → (bytes′ : List ℕ) → Type 0
+HostWriteCall mb stretch pos neg bytes a bytes′ =
+    Answered (λ given o. given ≡ hostWritten o) hostBytesAfter (Writes mb (hostStretch stretch pos neg) workLength (length bytes)) bytes bytes′ a

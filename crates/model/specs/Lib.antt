@@ -12,8 +12,9 @@ pub mod Choice
 pub mod Refusal
 pub mod Locate
 pub mod Span
-pub mod Outcome
 pub mod Work
+pub mod Opening
+pub mod Outcome
 pub mod Call
 pub mod Host
 pub mod Demand3

@@ -1,13 +1,12 @@
 -- What the reader and the writer come to: for each outcome, when it is the one (paper 01, "Refused, by place").
 use Prim.Native.Nat.{ℕ, _+_, _≤_, _<_}
 use mathlib.Core.Path.{_≡_}
-use mathlib.Core.Bool.{Bool, true, false}
 use mathlib.Core.List.{List, [], _∷_}
 use lib.ListN.{length}
-use lib.Dec.{ltb}
 use Rattle.model.specs.declared.Span.{Span}
+use Rattle.model.specs.Opening.{OnMap, Opens}
 use Rattle.model.specs.Refusal.{Refused, row, rowAt}
-use Rattle.model.specs.Map.{Map, MapAnswer, whole, decode}
+use Rattle.model.specs.Map.{Map, MapAnswer}
 use Rattle.model.specs.Lines.{total}
 use Rattle.model.specs.Reference.{Reference, ParseAnswer, parsed, parse}
 use Rattle.model.specs.Reading.{Leg, Only, Several, Unread, joined}
@@ -15,7 +14,6 @@ use Rattle.model.specs.Stretch.{Stretch, StretchAnswer, remains, checkSt
 use Rattle.model.specs.Choice.{good, Choice, Chosen, firstLeg, lastLeg, stretchBytes}
 use Rattle.model.specs.Locate.{locate, located, no-node}
 use Rattle.model.specs.Span.{SpanRead, NoOffset}
-use Rattle.model.specs.Work.{workLength}
 
 -- Every leg read, or a refusal and the leg it is given for.
 pub data LegsAnswer : Type 0 where
@@ -67,16 +65,11 @@ ReadParsed m (parsed r) room o = ReadOn m r room o
 ReadParsed m (ParseAnswer.refused r) room o = o ≡ refused r
 
 abbrev pub ReadMap : MapAnswer → List ℕ → ℕ → ReadOutcome → Type 0
-ReadMap (whole m) ref room o = ReadParsed m (parse ref) room o
-ReadMap (MapAnswer.refused r) ref room o = o ≡ refused r
-
-abbrev pub ReadWork : Bool → List ℕ → List ℕ → ℕ → ReadOutcome → Type 0
-ReadWork true mb ref room o = o ≡ refused (row 1)
-ReadWork false mb ref room o = ReadMap (decode mb) ref room o
+ReadMap answer ref room o = OnMap ReadOutcome.refused (λ m. ReadParsed m (parse ref) room) answer o
 
 -- The reader's outcome for map bytes, reference bytes, a work area of `work` numbers and a line buffer of `room` numbers.
 abbrev pub Reads : List ℕ → List ℕ → ℕ → ℕ → ReadOutcome → Type 0
-Reads mb ref work room o = ReadWork (ltb work workLength) mb ref room o
+Reads mb ref work room o = Opens ReadOutcome.refused (λ m. ReadParsed m (parse ref) room) mb work o
 
 -- An outcome of the writer.
 pub data WriteOutcome : Type 0 where
@@ -97,13 +90,8 @@ WriteStretch m (remains s) room o = WriteOn m s room o
 WriteStretch m (StretchAnswer.refused r) room o = o ≡ refused r
 
 abbrev pub WriteMap : MapAnswer → Stretch → ℕ → WriteOutcome → Type 0
-WriteMap (whole m) s room o = WriteStretch m (checkStretch m s) room o
-WriteMap (MapAnswer.refused r) s room o = o ≡ refused r
-
-abbrev pub WriteWork : Bool → List ℕ → Stretch → ℕ → WriteOutcome → Type 0
-WriteWork true mb s room o = o ≡ refused (row 1)
-WriteWork false mb s room o = WriteMap (decode mb) s room o
+WriteMap answer s room o = OnMap WriteOutcome.refused (λ m. WriteStretch m (checkStretch m s) room) answer o
 
 -- The writer's outcome for map bytes, a stretch as given, a work area of `work` numbers and a byte buffer of `room` bytes.
 abbrev pub Writes : List ℕ → Stretch → ℕ → ℕ → WriteOutcome → Type 0
-Writes mb s work room o = WriteWork (ltb work workLength) mb s room o
+Writes mb s work room o = Opens WriteOutcome.refused (λ m. WriteStretch m (checkStretch m s) room) mb work o

@@ -2,6 +2,8 @@
 ghost use mathlib.Core.Path.{_≡_};
 ghost use Rattle.model.specs.Refusal.{numberOf, placeOf, refusalOf};
 
+pub mod limits;
+
 // Why a call is refused: a variant for each number of the table "Refused, by place" of paper 01, in its order.
 // `refusalOf` in specs/Refusal.antt gives the number, and the point or leg for 16, 17 and 18.
 pub enum Refusal {
@@ -45,58 +47,40 @@ pub enum WriteAnswer {
     Refused(Refusal),
 }
 
+// A refusal as the table has it: its number, and the point or leg that it carries, 0 where it carries none.
+pub struct Row(pub u32, pub u32);
+
+// The row of a refusal in the table.
+pub fn row_of(why: Refusal) -> Row
+    ensures { λ r. ⌜ (r .0 ≡ numberOf (refusalOf why)) × (r .1 ≡ placeOf (refusalOf why)) ⌝ }
+{
+    match why {
+        Refusal::WorkAreaShort => Row(1, 0),
+        Refusal::MapNumber => Row(2, 0),
+        Refusal::MapCount => Row(3, 0),
+        Refusal::MapCoordinate => Row(4, 0),
+        Refusal::MapLine => Row(5, 0),
+        Refusal::EqualCodes => Row(6, 0),
+        Refusal::StretchLines => Row(7, 0),
+        Refusal::StretchGap => Row(8, 0),
+        Refusal::StretchOffsets => Row(9, 0),
+        Refusal::NoChoice => Row(10, 0),
+        Refusal::BytesShort => Row(11, 0),
+        Refusal::ReferenceLength => Row(12, 0),
+        Refusal::ReferenceStatus => Row(13, 0),
+        Refusal::ReferenceBits => Row(14, 0),
+        Refusal::ReferenceFlags => Row(15, 0),
+        Refusal::NoNode(place) => Row(16, place),
+        Refusal::NoReading(place) => Row(17, place),
+        Refusal::SeveralReadings(place) => Row(18, place),
+        Refusal::NoOffset => Row(19, 0),
+        Refusal::LinesShort => Row(20, 0),
+    }
+}
+
 // The number of a refusal in the table.
 pub fn number_of(why: Refusal) -> u32
     ensures { λ r. ⌜ r ≡ numberOf (refusalOf why) ⌝ }
 {
-    match why {
-        Refusal::WorkAreaShort => 1,
-        Refusal::MapNumber => 2,
-        Refusal::MapCount => 3,
-        Refusal::MapCoordinate => 4,
-        Refusal::MapLine => 5,
-        Refusal::EqualCodes => 6,
-        Refusal::StretchLines => 7,
-        Refusal::StretchGap => 8,
-        Refusal::StretchOffsets => 9,
-        Refusal::NoChoice => 10,
-        Refusal::BytesShort => 11,
-        Refusal::ReferenceLength => 12,
-        Refusal::ReferenceStatus => 13,
-        Refusal::ReferenceBits => 14,
-        Refusal::ReferenceFlags => 15,
-        Refusal::NoNode(_) => 16,
-        Refusal::NoReading(_) => 17,
-        Refusal::SeveralReadings(_) => 18,
-        Refusal::NoOffset => 19,
-        Refusal::LinesShort => 20,
-    }
-}
-
-// The point or leg that a refusal carries, 0 where it carries none.
-pub fn place_of(why: Refusal) -> u32
-    ensures { λ r. ⌜ r ≡ placeOf (refusalOf why) ⌝ }
-{
-    match why {
-        Refusal::WorkAreaShort => 0,
-        Refusal::MapNumber => 0,
-        Refusal::MapCount => 0,
-        Refusal::MapCoordinate => 0,
-        Refusal::MapLine => 0,
-        Refusal::EqualCodes => 0,
-        Refusal::StretchLines => 0,
-        Refusal::StretchGap => 0,
-        Refusal::StretchOffsets => 0,
-        Refusal::NoChoice => 0,
-        Refusal::BytesShort => 0,
-        Refusal::ReferenceLength => 0,
-        Refusal::ReferenceStatus => 0,
-        Refusal::ReferenceBits => 0,
-        Refusal::ReferenceFlags => 0,
-        Refusal::NoNode(point) => point,
-        Refusal::NoReading(leg) => leg,
-        Refusal::SeveralReadings(leg) => leg,
-        Refusal::NoOffset => 0,
-        Refusal::LinesShort => 0,
-    }
+    row_of(why).0
 }

@@ -13,12 +13,12 @@ use Rattle.model.specs.Refusal.{refusalOf}
 use Rattle.model.specs.Outcome.{ReadOutcome, read, Reads}
 use Rattle.model.specs.Work.{workLength, placed}
 use Rattle.model.specs.Call.{linesAfter, ReadAnswers, lines, refusal, ReadAnswered}
-use Rattle.model.specs.Host.{wordBytes, hostRoom, HostRead, hostRead, hostLinesAfter, HostReadCall}
+use Rattle.model.specs.Host.{greatestHostLines, wordBytes, hostRoom, HostRead, hostRead, hostLinesAfter, HostReadCall}
 
 -- ---- the reader
 
 -- The room for line numbers, where the host's buffer and the numbers are lent.
-pub room-is : (ns bs : List ℕ) (room : ℕ) → room ≡ min (length bs / 4) (length ns) → length ns ≡ 1_024 → length (take room ns) ≡ hostRoom (length bs)
+pub room-is : (ns bs : List ℕ) (room : ℕ) → room ≡ min (length bs / 4) (length ns) → length ns ≡ greatestHostLines → length (take room ns) ≡ hostRoom (length bs)
 unfolding hostRoom
 room-is ns bs room e n = length-take-le room ns (omega (arith, e)) ∙ e ∙ ap (min (length bs / 4)) n
 
@@ -69,7 +69,7 @@ module _ {Asks : ReadOutcome → Type 0} {front front′ : List ℕ} {a : ReadAn
   first rest =
       take-append-le count front′ rest (omega (arith, count-fits, kept)) ∙ ap (take count) stands ∙ take-at ls (drop (length ls) front) count (sym count-is)
 
-module _ {mb ref front front′ : List ℕ} {a : ReadAnswer} (d : ReadAnswered (Reads mb ref workLength (length front)) front front′ a) where
+module _ (mb ref : List ℕ) {front front′ : List ℕ} {a : ReadAnswer} (d : ReadAnswered (Reads mb ref workLength (length front)) front front′ a) where
   pub host-read : {count : ℕ} {pos neg : Span} {room room′ : List ℕ} → a ≡ Read count pos neg → length front′ ≡ length front → (rest : List ℕ) →
       length front ≡ hostRoom (length room) → room′ ≡ placed (wordBytes (take count (front′ ++ rest))) room →
       HostReadCall mb ref room (accepted count pos neg) room′
@@ -78,9 +78,9 @@ module _ {mb ref front front′ : List ℕ} {a : ReadAnswer} (d : ReadAnswered (
       let same = outcome-is d e kept in
       record {
         outcome = d .outcome;
-        reads = subst (λ (n : ℕ). Reads mb ref workLength n (d .outcome)) size (d .asked);
+        asked = subst (λ (n : ℕ). Reads mb ref workLength n (d .outcome)) size (d .asked);
         answers = ap (λ (n : ℕ). accepted n pos neg) (count-is d e kept) ∙ ap hostRead (sym same);
-        lines-after = put ∙ ap (λ (l : List ℕ). placed (wordBytes l) room) (first d e kept rest) ∙ ap (λ (o : ReadOutcome). hostLinesAfter o room) (sym same);
+        buffer-after = put ∙ ap (λ (l : List ℕ). placed (wordBytes l) room) (first d e kept rest) ∙ ap (λ (o : ReadOutcome). hostLinesAfter o room) (sym same);
       }
 
   pub host-not-read : {why : Refusal} {room : List ℕ} {r : HostRead} → a ≡ Refused why → length front ≡ hostRoom (length room) →
@@ -90,7 +90,7 @@ module _ {mb ref front front′ : List ℕ} {a : ReadAnswer} (d : ReadAnswered (
       let outcome-is = told-refused (d .answers) e in
       record {
         outcome = d .outcome;
-        reads = subst (λ (n : ℕ). Reads mb ref workLength n (d .outcome)) size (d .asked);
+        asked = subst (λ (n : ℕ). Reads mb ref workLength n (d .outcome)) size (d .asked);
         answers = given ∙ ap hostRead (sym outcome-is);
-        lines-after = ap (λ (o : ReadOutcome). hostLinesAfter o room) (sym outcome-is);
+        buffer-after = ap (λ (o : ReadOutcome). hostLinesAfter o room) (sym outcome-is);
       }

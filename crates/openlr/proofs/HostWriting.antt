@@ -8,13 +8,14 @@ use lib.ListN.{length, take}
 use lib.Seq.{take-all, length-take-le}
 use lib.Dec.{ltb}
 use borrow.Author.Tests.{ltb-true, ltb-false, lt-ltb, ne-eqb}
+use Rattle.model.proofs.Opened.{opens-by}
 use Rattle.model.specs.declared.Refusal.{Refusal}
 use Rattle.model.specs.declared.WriteAnswer.{WriteAnswer}
 use Rattle.model.specs.declared.WriteAnswer.the-variants.{Written, Refused}
-use Rattle.model.specs.Map.{Map, MapAnswer, whole, decode}
+use Rattle.model.specs.Map.{Map}
 use Rattle.model.specs.Refusal.{row, refusalOf}
 use Rattle.model.specs.Stretch.{Stretch, StretchAnswer, checkStretch, greatestStretch, stretchOf}
-use Rattle.model.specs.Outcome.{WriteOutcome, written, WriteStretch, WriteMap, WriteWork, Writes}
+use Rattle.model.specs.Outcome.{WriteOutcome, written, WriteStretch, Writes}
 use Rattle.model.specs.Work.{workLength}
 use Rattle.model.specs.Call.{bytesAfter, WriteAnswers, bytes, refusal, WriteAnswered}
 use Rattle.model.specs.Host.{hostStretch, HostWritten, hostWritten, hostBytesAfter, HostWriteCall}
@@ -36,23 +37,16 @@ first-65 m ls pos neg = go (ltb 65 (length ls)) refl
         over-long m (stretchOf (take 65 ls) pos neg) (omega (arith, length-take-le 65 ls (omega arith))) ∙ sym (over-long m (stretchOf ls pos neg) (omega arith))
     go false e = ap (λ (l : List ℕ). checkStretch m (stretchOf l pos neg)) (take-all 65 ls (ltb-false 65 (length ls) e))
 
--- Stretches with the same checks have the same outcomes.
-module _ (mb : List ℕ) (s t : Stretch) (same : (m : Map) → checkStretch m s ≡ checkStretch m t) (room : ℕ) (o : WriteOutcome) where
-  on-map : (a : MapAnswer) → WriteMap a s room o → WriteMap a t room o
-  on-map (whole m) h = subst (λ (x : StretchAnswer). WriteStretch m x room o) (same m) h
-  on-map (MapAnswer.refused n) h = h
-
-  on-work : (b : Bool) → WriteWork b mb s room o → WriteWork b mb t room o
-  on-work true h = h
-  on-work false h = on-map (decode mb) h
-
 -- The line numbers taken from a host's bytes stand for its stretch.
 pub stretch-stands : (mb stretch ns : List ℕ) (pos neg work room : ℕ) (o : WriteOutcome) → ns ≡ take 65 (stretchLines stretch) →
     Writes mb (stretchOf ns pos neg) work room o → Writes mb (hostStretch stretch pos neg) work room o
 unfolding hostStretch
 stretch-stands mb stretch ns pos neg work room o e h =
-    on-work mb (stretchOf ns pos neg) (hostStretch stretch pos neg)
-    (λ m. ap (λ (l : List ℕ). checkStretch m (stretchOf l pos neg)) e ∙ first-65 m (stretchLines stretch) pos neg) room o (ltb work workLength) h
+    let same : (m : Map) → checkStretch m (stretchOf ns pos neg) ≡ checkStretch m (hostStretch stretch pos neg) =
+    λ m. ap (λ (l : List ℕ). checkStretch m (stretchOf l pos neg)) e ∙ first-65 m (stretchLines stretch) pos neg in
+    opens-by WriteOutcome.refused (λ m. WriteStretch m (checkStretch m (stretchOf ns pos neg)) room)
+    (λ m. WriteStretch m (checkStretch m (hostStretch stretch pos neg)) room)
+    (λ m p. subst (λ (x : StretchAnswer). WriteStretch m x room o) (same m) p) mb work h
 
 -- ---- the answer
 
@@ -78,15 +72,15 @@ unfolding bytesAfter hostBytesAfter
 same-bytes room (written bs) = refl
 same-bytes room (WriteOutcome.refused r) = refl
 
-module _ {mb ns room room′ : List ℕ} {pos neg : ℕ} {a : WriteAnswer} (d : WriteAnswered (Writes mb (stretchOf ns pos neg) workLength (length room)) room room′ a)
+module _ (mb ns : List ℕ) (pos neg : ℕ) {room room′ : List ℕ} {a : WriteAnswer} (d : WriteAnswered (Writes mb (stretchOf ns pos neg) workLength (length room)) room room′ a)
     (stretch : List ℕ) (taken : ns ≡ take 65 (stretchLines stretch)) where
   host-call : {r : HostWritten} → r ≡ hostWritten (d .outcome) → HostWriteCall mb stretch pos neg room r room′
   host-call given =
       record {
         outcome = d .outcome;
-        writes = stretch-stands mb stretch ns pos neg workLength (length room) (d .outcome) taken (d .asked);
+        asked = stretch-stands mb stretch ns pos neg workLength (length room) (d .outcome) taken (d .asked);
         answers = given;
-        bytes-after = d .buffer-after ∙ same-bytes room (d .outcome);
+        buffer-after = d .buffer-after ∙ same-bytes room (d .outcome);
       }
 
   pub host-written : {count : ℕ} → a ≡ Written count → HostWriteCall mb stretch pos neg room (record { refusal = 0; bytes = count }) room′

@@ -6,9 +6,11 @@ use buffers::words::take_words;
 use model::ReadAnswer;
 use model::Refusal;
 use model::WriteAnswer;
+use model::limits::GREATEST_HOST_LINES;
+use model::limits::GREATEST_STRETCH;
+use model::limits::WORK_LENGTH;
 use model::number_of;
-use model::place_of;
-use work_area::WORK_LENGTH;
+use model::row_of;
 ghost use mathlib.Core.Path.{_≡_};
 ghost use Prim.Native.Nat.{ℕ, _≤_};
 ghost use mathlib.Core.List.{List};
@@ -17,15 +19,12 @@ ghost use Rattle.model.specs.Refusal.{refusalOf};
 ghost use Rattle.model.specs.Outcome.{ReadOutcome, Reads, Writes};
 ghost use Rattle.model.specs.Work.{workLength};
 ghost use Rattle.model.specs.Call.{ReadAnswered, WriteAnswered};
-ghost use Rattle.model.specs.Host.{hostRead, HostReadCall, HostWriteCall};
+ghost use Rattle.model.specs.Host.{greatestHostLines, hostRead, HostReadCall, HostWriteCall};
 ghost use Rattle.model.specs.Stretch.{stretchOf};
 ghost use Rattle.openlr.specs.Host.{asRead, asWritten, stretchLines};
 
-// The most line numbers that a host is given.
-const MOST_LINES: usize = 1_024;
-
 // How many line numbers are taken from a stretch: one more than it may have, so that a longer one is refused.
-const STRETCH_NUMBERS: usize = 65;
+const STRETCH_NUMBERS: usize = GREATEST_STRETCH + 1;
 
 // What the host gets from the reader; `struct openlr_lines` in C. 0 where a number says nothing.
 #[repr(C)]
@@ -50,11 +49,10 @@ pub struct Written {
 fn no_lines(why: Refusal) -> Lines
     ensures { λ r. ⌜ asRead r ≡ hostRead (ReadOutcome.refused (refusalOf why)) ⌝ }
 {
-    let number = number_of(why);
-    let place = place_of(why);
+    let row = row_of(why);
     Lines {
-        refusal: number,
-        place: place,
+        refusal: row.0,
+        place: row.1,
         lines: 0,
         pos_least: 0,
         pos_greatest: 0,
@@ -73,7 +71,7 @@ fn read_into(map: &[u8], reference: &[u8], numbers: &mut [u32]) -> ReadAnswer
 
 // Reads with line numbers in `numbers`, and puts them into `lines`, four bytes each, low byte first.
 fn read_lines(map: &[u8], reference: &[u8], numbers: &mut [u32], lines: &mut [u8]) -> Lines
-    requires { ⌜ length (now numbers) ≡ 1_024 ⌝ }
+    requires { ⌜ length (now numbers) ≡ greatestHostLines ⌝ }
     ensures { λ r. ⌜ HostReadCall (now (map .entry)) (now (reference .entry)) (now (lines .entry)) (asRead r) (now (lines .exit)) ⌝ }
 {
     let room = lesser(lines.len() / WORD_BYTES, numbers.len());
@@ -99,7 +97,7 @@ fn read_lines(map: &[u8], reference: &[u8], numbers: &mut [u32], lines: &mut [u8
 pub extern "C" fn openlr_read(map: &[u8], reference: &[u8], lines: &mut [u8]) -> Lines
     ensures { λ r. ⌜ HostReadCall (now (map .entry)) (now (reference .entry)) (now (lines .entry)) (asRead r) (now (lines .exit)) ⌝ }
 {
-    let mut numbers = [0u32; MOST_LINES];
+    let mut numbers = [0u32; GREATEST_HOST_LINES];
     read_lines(map, reference, &mut numbers, lines)
 }
 

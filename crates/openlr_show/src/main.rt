@@ -4,12 +4,16 @@ use console::print_each;
 use console::show;
 use libc::STDOUT_FILENO;
 use model::ReadAnswer;
+use model::limits::WORK_LENGTH;
 use reader::read;
+
+// How many numbers the line buffer has.
+const PRINTED_LINES: usize = 1_024;
 
 // Prints the answer for a map and a reference, and on a row each the lines that it counts.
 fn run(map: &[u8], reference: &[u8]) {
-    let mut work = [0; 12288];
-    let mut lines = [0; 1024];
+    let mut work = [0; WORK_LENGTH];
+    let mut lines = [0; PRINTED_LINES];
     let answer = read(map, reference, &mut work, &mut lines);
     show(answer);
     if let ReadAnswer::Read(count, _, _) = answer {

@@ -5,13 +5,12 @@ use mathlib.Core.List.{List}
 use native.Mathlib.Omega.{arith}
 use lib.ListN.{length, take, drop}
 use lib.Seq.{take-at}
-use borrow.Author.Tests.{lt-ltb, le-ltb}
 use Rattle.model.specs.Map.{Map, MapAnswer, decode}
 use Rattle.model.specs.Refusal.{refusalOf}
 use Rattle.model.specs.Reference.{Reference, ParseAnswer, parse}
 use Rattle.model.specs.Reading.{Leg, joined}
 use Rattle.model.specs.Locate.{located, no-node, locate}
-use Rattle.model.specs.Outcome.{LegsRead, every, failed, ReadOutcome, read, ReadEnd, ReadOn, no-point, no-leg, every-leg, ReadParsed, ReadMap, Reads}
+use Rattle.model.specs.Outcome.{LegsRead, every, failed, ReadOutcome, read, ReadEnd, ReadOn, no-point, no-leg, every-leg, ReadParsed, ReadMap}
 use Rattle.model.specs.Work.{workLength, cleared, placed}
 use Rattle.model.specs.Call.{linesAfter, ReadAnswers, lines, refusal, ReadAnswered, ReadCall}
 use Rattle.model.specs.declared.Refusal.{Refusal}
@@ -19,13 +18,13 @@ use Rattle.model.specs.declared.Span.{Span}
 use Rattle.model.specs.declared.ReadAnswer.{ReadAnswer}
 use Rattle.model.specs.declared.ReadAnswer.the-variants.{Read, Refused}
 use Rattle.model.proofs.Legs.{legs-same}
-use Rattle.model.proofs.Cleared.{cleared-short}
-use Rattle.model.proofs.Answering.{answered-by, refused-read}
+use Rattle.model.proofs.Answering.{refused-read}
 use Rattle.reference_legs.specs.declared.Sums.{Sums}
 use Rattle.reference_legs.specs.declared.Legs.{Legs}
 use Rattle.reference_legs.specs.declared.Legs.the-variants.{Every, Unread, Several}
 use Rattle.reference_legs.specs.Legs.{Laid, AllRead, LegsTell, LegsDone}
 use Rattle.reader.specs.Ending.{Ended}
+use Rattle.model.proofs.Answering as Answering
 use Rattle.model.specs.Refusal as definitions
 use Rattle.model.specs.declared.Refusal.the-variants as why
 
@@ -143,14 +142,11 @@ map-refused map bytes room r e = refused-read r (rw e refl)
 -- ---- the whole call
 
 module _ (mb ref lines : List ℕ) where
-  call : {after work work′ : List ℕ} {a : ReadAnswer} → ReadAnswered (Reads mb ref (length work) (length lines)) lines after a → work′ ≡ cleared work →
-      ReadCall mb ref work lines a work′ after
-  call d e = record { outcome = d .outcome; reads = d .asked; answers = d .answers; work-after = e; lines-after = d .buffer-after }
-
   pub area-short : (work : List ℕ) → length work < workLength → ReadCall mb ref work lines (Refused why.WorkAreaShort) work lines
   unfolding refusalOf
-  area-short work h = call (refused-read why.WorkAreaShort (rw (lt-ltb (length work) workLength h) refl)) (cleared-short work h)
+  area-short work h =
+      Answering.area-short ReadOutcome.refused (λ m. ReadParsed m (parse ref) (length lines)) mb h (refused-read why.WorkAreaShort refl)
 
   pub called : {after work work′ : List ℕ} {a : ReadAnswer} → workLength ≤ length work → ReadAnswered (ReadMap (decode mb) ref (length lines)) lines after a →
       work′ ≡ cleared work → ReadCall mb ref work lines a work′ after
-  called {work = work} h d e = call (answered-by (λ o r. rw (le-ltb (length work) workLength h) r) d) e
+  called h d e = Answering.called ReadOutcome.refused (λ m. ReadParsed m (parse ref) (length lines)) mb h d e

@@ -1,18 +1,17 @@
 // The reader of references (paper 01): `read`, and its parts in the order in which they are asked.
 use buffers::copy;
-use depot_map::MapRead;
-use depot_map::read_map;
 use ending::answer;
 use model::ReadAnswer;
 use model::Refusal;
+use model::limits::WORK_LENGTH;
+use opening::Opened;
+use opening::open_map;
 use reference_legs::Legs;
 use reference_legs::read_legs;
 use references::points::Places;
 use references::points::locate;
 use references::reference::Form;
 use references::reference::Reference;
-use search::chains::link;
-use work_area::WORK_LENGTH;
 use work_area::clear;
 ghost use mathlib.Core.Path.{_≡_};
 ghost use Prim.Native.Nat.{ℕ, _≤_, _<_};
@@ -25,7 +24,6 @@ ghost use Rattle.model.specs.Outcome.{LegsRead, every, ReadOn, ReadParsed, Read
 ghost use Rattle.model.specs.Locate.{located};
 ghost use Rattle.model.specs.Work.{workLength, placed};
 ghost use Rattle.model.specs.Call.{ReadAnswered, ReadCall};
-ghost use Rattle.work_area.specs.Area.{Holds};
 ghost use Rattle.search.specs.Area.{Set};
 ghost use Rattle.references.specs.Form.{SoundBytes};
 ghost use Rattle.references.specs.Legs.{legsAt};
@@ -112,30 +110,32 @@ fn on_points(
     }
 }
 
-// The answer for a map that stands whole in the work area.
-fn on_map(reference: &[u8], work: &mut [u32], nodes: u32, lines: u32, out: &mut [u32]) -> ReadAnswer
-    requires { ⌜ ((m : Map) × Holds (now work) nodes lines m) ⌝ }
-    ensures { λ r. ⌜ ((m : Map) → Holds (now (work .entry)) nodes lines m
+// The answer on a map that is ready in the work area.
+fn on_map(
+    reference: &[u8],
+    work: &mut [u32],
+    nodes: u32,
+    lines: usize,
+    out: &mut [u32],
+) -> ReadAnswer
+    requires { ⌜ ((m : Map) × Set m lines (now work) × (length (m .nodes) ≡ nodes)) ⌝ }
+    ensures { λ r. ⌜ ((m : Map) → Set m lines (now (work .entry)) → length (m .nodes) ≡ nodes
         → ReadAnswered (ReadParsed m (parse (now (reference .entry))) (length (now (out .entry)))) (now (out .entry)) (now (out .exit)) r) ⌝ }
 {
     match Reference::of(reference) {
-        Form::Sound(sound) => {
-            let count = lines as usize;
-            link(work, count);
-            on_points(reference, sound.points, work, nodes, count, out)
-        }
+        Form::Sound(sound) => on_points(reference, sound.points, work, nodes, lines, out),
         Form::Refused(why) => ReadAnswer::Refused(why),
     }
 }
 
 // The answer where the work area is large enough.
-fn on_bytes(map: &[u8], reference: &[u8], work: &mut [u32], out: &mut [u32]) -> ReadAnswer
+fn on_area(map: &[u8], reference: &[u8], work: &mut [u32], out: &mut [u32]) -> ReadAnswer
     requires { ⌜ workLength ≤ length (now work) ⌝ }
     ensures { λ r. ⌜ ReadAnswered (ReadMap (decode (now (map .entry))) (now (reference .entry)) (length (now (out .entry)))) (now (out .entry)) (now (out .exit)) r ⌝ }
 {
-    match read_map(map, work) {
-        MapRead::Whole(nodes, lines) => on_map(reference, work, nodes, lines, out),
-        MapRead::Refused(why) => ReadAnswer::Refused(why),
+    match open_map(map, work) {
+        Opened::Ready(nodes, lines) => on_map(reference, work, nodes, lines, out),
+        Opened::Refused(why) => ReadAnswer::Refused(why),
     }
 }
 
@@ -147,7 +147,7 @@ pub fn read(map: &[u8], reference: &[u8], work: &mut [u32], lines: &mut [u32]) -
     if work.len() < WORK_LENGTH {
         return ReadAnswer::Refused(Refusal::WorkAreaShort);
     }
-    let given = on_bytes(map, reference, &mut work[..WORK_LENGTH], lines);
+    let given = on_area(map, reference, &mut work[..WORK_LENGTH], lines);
     clear(work);
     given
 }

@@ -1,18 +1,19 @@
 -- The numbers of a point are those of the leg that starts at it, and they fit their bytes.
+use Rattle.work_area.specs.Area.{lineNumbers}
+use Rattle.model.specs.Map.{Line, Map}
+use Rattle.model.specs.Reading.{greatestLegLength}
 use Prim.Native.Nat.{ℕ, _+_, _*_, _-_, _/_, _≤_, _<_}
 use mathlib.Core.Path.{_≡_, _∙_, ap}
 use mathlib.Core.Bool.{Bool}
 use mathlib.Core.List.{List, [], _∷_}
 use native.Mathlib.Omega.{arith}
 use lib.ListN.{length, getD}
-use Rattle.model.specs.Map.{Line, Map}
 use Rattle.model.specs.Field.{sector, distance}
 use Rattle.model.specs.Lines.{LineAttributes, lineAt, total, lowest, firstOf, lastOf, leaving, arriving}
 use Rattle.model.specs.WellFormed.{WellFormed, LineOk}
 use Rattle.model.specs.Reference.{bytes2, byteP, byteQ, pointBytes}
 use Rattle.model.specs.Choice.{Good, pointOf}
 use Rattle.model.proofs.Joining.{connected, first-ok, lowest-small}
-use Rattle.work_area.specs.Area.{lineNumbers}
 use Rattle.fields.specs.declared.leg.Attributes.{Attributes}
 use Rattle.fields.specs.Leg.{attributesIn}
 use Rattle.reference_bytes.specs.declared.point.Step.{Step}
@@ -53,7 +54,7 @@ attributes-sector a b e = ap (λ (x : LineAttributes). x .sector) e
 
 module _ {m : Map} (w : WellFormed m) {last : Bool} {ls : List ℕ} (g : Good m last ls) (a : Attributes) (low len : ℕ)
     (leaves : attributesIn a ≡ attributesBy (lineAt m (getD ls 0 0)) 5) (classes : low ≡ lowest m ls) (sum : len ≡ total m ls) where
-  pub small : (a .frc * 8 + a .fow < 256) × (low * 32 + a .sector < 256) × (len ≤ 150_000)
+  pub small : (a .frc * 8 + a .fow < 256) × (low * 32 + a .sector < 256) × (len ≤ greatestLegLength)
   small =
       let ok : LineOk (length (m .nodes)) (lineAt m (getD ls 0 0)) = rw (first-is ls) (first-ok w (connected g)) in
       let fits = attributes-fit a 5 ok (ok .out) leaves in (

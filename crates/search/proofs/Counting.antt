@@ -1,4 +1,7 @@
 -- What a step of a search does to what is known of lengths and notes: a length comes down, a line is noted, a line waits no longer.
+use Rattle.work_area.specs.Area.{lengthsFrom, beforeFrom, headsFrom, nextFrom, Held}
+use Rattle.model.specs.Map.{Map}
+use Rattle.search.specs.Area.{far, pending, listWeight, several, Listing, lengthTo, lineBefore, listed, reached}
 use Prim.Native.Nat.{ℕ, _+_, _-_, _*_, _/_, _%_, _≤_, _<_}
 use mathlib.Core.Path.{_≡_, refl, sym, _∙_, ap, subst}
 use mathlib.Core.List.{List}
@@ -6,12 +9,9 @@ use mathlib.Core.Logic.{⊎-elim, _≢_}
 use native.Mathlib.Omega.{arith}
 use lib.ListN.{set}
 use lib.Seq.{getD-set-same}
-use Rattle.model.specs.Map.{Map}
 use Rattle.model.specs.Lines.{lineAt, Follows}
 use Rattle.buffers.specs.Kept.{Kept}
 use Rattle.search.specs.Ways.{line, Reached}
-use Rattle.work_area.specs.Area.{Held}
-use Rattle.search.specs.Area.{Listing, lengthTo, lineBefore, listed, far, reached}
 use Rattle.search.specs.Steps.{Task, Waits, noteAt, Leads, Backed, Counted, Underway, weight, Stepped, Lowered}
 use Rattle.search.proofs.Follows.{known}
 use Rattle.buffers.proofs.Kept.{kept-none, kept-then, kept-within, at-set, kept-set}
@@ -151,7 +151,7 @@ module _ {q : Task} {n c limit count j note x r : ℕ} {w v : List ℕ} (g : Und
         noted = λ z t. absurd (omega (arith, d .found, t .equal, k .tight ok (omega (arith, d .found, t .equal))));
       }
 
-  pub lowered : note < 2000 → lineAt (q .map) j .frc ≤ c → Reached (q .map) c (q .first) (line j) x → Backed (q .map) v j note →
+  pub lowered : note < several → lineAt (q .map) j .frc ≤ c → Reached (q .map) c (q .first) (line j) x → Backed (q .map) v j note →
       Stepped q n c limit w v r
   lowered small ok way backed =
       let h = g .held in
@@ -178,35 +178,35 @@ module _ {q : Task} {n c limit count j note x r : ℕ} {w v : List ℕ} (g : Und
               rw (e .1) (backed-less h fell (e .0) (g .backed k k< (omega (arith, e .0)))));
         };
         fell = fell;
-        lighter = sum-le (λ l. 2 * lengthTo v l + lineBefore v l / 4096) (λ l. 2 * lengthTo w l + lineBefore w l / 4096) n
-            (here-or (λ l. l < n → 2 * lengthTo v l + lineBefore v l / 4096 ≤ 2 * lengthTo w l + lineBefore w l / 4096) j
+        lighter = sum-le (λ l. 2 * lengthTo v l + lineBefore v l / pending) (λ l. 2 * lengthTo w l + lineBefore w l / pending) n
+            (here-or (λ l. l < n → 2 * lengthTo v l + lineBefore v l / pending ≤ 2 * lengthTo w l + lineBefore w l / pending) j
             (λ l<. omega (arith, d .found, d .before))
             (λ l o l<. let e = d .others l (omega arith) o in omega (arith, e .0, e .1)));
         kept = d .kept;
       }
     where
-      counted : (l k : ℕ) → l < n → lengthTo v l ≤ limit → lineBefore v l < 4096 → Follows (q .map) l k → Counted (q .map) c limit l k v
+      counted : (l k : ℕ) → l < n → lengthTo v l ≤ limit → lineBefore v l < pending → Follows (q .map) l k → Counted (q .map) c limit l k v
       counted l k l< z awake f =
           let n≤ = few (g .held) in
           let all = g .held .line-count in
           let to = known f in
-          let o : l ≢ j = λ e. omega (arith, subst (λ (a : ℕ). lineBefore v a < 4096) e awake, d .before) in
+          let o : l ≢ j = λ e. omega (arith, subst (λ (a : ℕ). lineBefore v a < pending) e awake, d .before) in
           let a = d .others l (omega arith) o in
           let old : Counted (q .map) c limit l k w = g .counted l k l< (omega (arith, a .0)) (omega (arith, a .1)) f in
           here-or (λ b. Counted (q .map) c limit l b w → b < n → Counted (q .map) c limit l b v) j
           (λ b b<. passed ok (a .0) b)
           (λ b p old b<.
           let e = d .others b (omega arith) p in
-          counted-same (a .0) (e .0) (ap (λ (y : ℕ). y % 4096) (e .1)) old)
+          counted-same (a .0) (e .0) (ap (λ (y : ℕ). y % pending) (e .1)) old)
           k old (omega arith)
 
 -- Notes change, and lines wait no longer.
-module _ {q : Task} {n c limit count : ℕ} {w v : List ℕ} (g : Underway q n c limit count w) (k : Kept 9216 10240 w v) where
+module _ {q : Task} {n c limit count : ℕ} {w v : List ℕ} (g : Underway q n c limit count w) (k : Kept beforeFrom headsFrom w v) where
   pub same-length : (l : ℕ) → l < n → lengthTo v l ≡ lengthTo w l
-  same-length l l< = let n≤ = few (g .held) in k .below (8192 + l) (omega arith)
+  same-length l l< = let n≤ = few (g .held) in k .below (lengthsFrom + l) (omega arith)
 
-  pub renoted : ((l : ℕ) → l < n → lineBefore v l / 4096 ≤ lineBefore w l / 4096) →
-      ((l j : ℕ) → l < n → j < n → lengthTo w l ≤ limit → lineBefore v l < 4096 → Follows (q .map) l j → Counted (q .map) c limit l j v) →
+  pub renoted : ((l : ℕ) → l < n → lineBefore v l / pending ≤ lineBefore w l / pending) →
+      ((l j : ℕ) → l < n → j < n → lengthTo w l ≤ limit → lineBefore v l < pending → Follows (q .map) l j → Counted (q .map) c limit l j v) →
       ((j : ℕ) → j < n → lengthTo w j ≤ limit → Backed (q .map) v j (noteAt v j)) → Stepped q n c limit w v count
   renoted awake counted backed =
       let h = g .held in
@@ -216,39 +216,39 @@ module _ {q : Task} {n c limit count : ℕ} {w v : List ℕ} (g : Underway q n c
         underway = record {
           held = held-kept (omega arith) k h;
           chained = chained-kept (omega arith) (omega arith) h k (g .chained);
-          listing = listing-same same-length (λ i i<. ap (λ (x : ℕ). x / 2048) (k .above (10752 + i) (omega arith))) (g .listing);
+          listing = listing-same same-length (λ i i<. ap (λ (x : ℕ). x / listWeight) (k .above (nextFrom + i) (omega arith))) (g .listing);
           small = g .small;
           real = λ l l<. rw (same-length l l<) (g .real l l<);
           counted = λ l j l< near z f. counted l j l< (let to = known f in omega arith) (omega (arith, same-length l l<)) z f;
           backed = λ j j< near. backed j j< (omega (arith, same-length j j<));
         };
         fell = λ l l<. omega (arith, same-length l l<);
-        lighter = sum-le (λ l. 2 * lengthTo v l + lineBefore v l / 4096) (λ l. 2 * lengthTo w l + lineBefore w l / 4096) n
+        lighter = sum-le (λ l. 2 * lengthTo v l + lineBefore v l / pending) (λ l. 2 * lengthTo w l + lineBefore w l / pending) n
             (λ l l<. omega (arith, same-length l l<, awake l l<));
         kept = kept-within (omega arith) (omega arith) k;
       }
 
 -- Line `l` waits no longer, when it is taken into account at every line.
-module _ {q : Task} {n c limit count l y : ℕ} {w : List ℕ} (g : Underway q n c limit count w) (l< : l < n) (is : y ≡ lineBefore w l % 4096) where
+module _ {q : Task} {n c limit count l y : ℕ} {w : List ℕ} (g : Underway q n c limit count w) (l< : l < n) (is : y ≡ lineBefore w l % pending) where
   abbrev awoken : List ℕ
-  awoken = set w (9216 + l) y
+  awoken = set w (beforeFrom + l) y
 
   cells : (P : ℕ → ℕ → Type 0) → P l y → ((k : ℕ) → k ≢ l → P k (lineBefore w k)) → (k : ℕ) → P k (lineBefore awoken k)
-  cells P = at-set P w 9216 l y (let h = g .held in let n≤ = few h in omega arith)
+  cells P = at-set P w beforeFrom l y (let h = g .held in let n≤ = few h in omega arith)
 
-  kept : Kept 9216 10240 w awoken
-  kept = let n≤ = few (g .held) in kept-set (9216 + l) y (omega arith) (omega arith)
+  kept : Kept beforeFrom headsFrom w awoken
+  kept = let n≤ = few (g .held) in kept-set (beforeFrom + l) y (omega arith) (omega arith)
 
   same-note : (k : ℕ) → noteAt awoken k ≡ noteAt w k
-  same-note = cells (λ k b. b % 4096 ≡ noteAt w k) (omega arith) (λ k o. refl)
+  same-note = cells (λ k b. b % pending ≡ noteAt w k) (omega arith) (λ k o. refl)
 
   pub awake : ((j : ℕ) → lengthTo w l ≤ limit → Follows (q .map) l j → Counted (q .map) c limit l j w) → Stepped q n c limit w awoken count
   awake counted =
       renoted g kept
-      (cells (λ k b. k < n → b / 4096 ≤ lineBefore w k / 4096) (λ k<. omega arith) (λ k o k<. omega arith))
+      (cells (λ k b. k < n → b / pending ≤ lineBefore w k / pending) (λ k<. omega arith) (λ k o k<. omega arith))
       (λ k j k< j< near z f.
       counted-same (same-length g kept k k<) (same-length g kept j j<) (same-note j)
-      (cells (λ k b. b < 4096 → lengthTo w k ≤ limit → k < n → Follows (q .map) k j → Counted (q .map) c limit k j w)
+      (cells (λ k b. b < pending → lengthTo w k ≤ limit → k < n → Follows (q .map) k j → Counted (q .map) c limit k j w)
       (λ z near k< f. counted j near f)
       (λ k o z near k< f. g .counted k j k< near z f)
       k z near k< f))
@@ -258,10 +258,10 @@ module _ {q : Task} {n c limit count l y : ℕ} {w : List ℕ} (g : Underway q n
 
   pub lighter : Waits w l → weight awoken n < weight w n
   lighter waits =
-      sum-less (λ k. 2 * lengthTo awoken k + lineBefore awoken k / 4096) (λ k. 2 * lengthTo w k + lineBefore w k / 4096) n l l<
+      sum-less (λ k. 2 * lengthTo awoken k + lineBefore awoken k / pending) (λ k. 2 * lengthTo w k + lineBefore w k / pending) n l l<
       (let h = g .held in
       let n≤ = few h in
-      omega (arith, same-length g kept l l<, getD-set-same w (9216 + l) y 0 (omega arith)))
+      omega (arith, same-length g kept l l<, getD-set-same w (beforeFrom + l) y 0 (omega arith)))
       (λ k k<.
       omega
-      (arith, same-length g kept k k<, cells (λ k b. b / 4096 ≤ lineBefore w k / 4096) (omega arith) (λ k o. omega arith) k))
+      (arith, same-length g kept k k<, cells (λ k b. b / pending ≤ lineBefore w k / pending) (omega arith) (λ k o. omega arith) k))

@@ -1,12 +1,12 @@
 -- What is used of `Follows`, and what decides it. No other module looks inside it.
-use Prim.Native.Nat.{ℕ, _+_, _*_, _<_}
+use Rattle.work_area.specs.Area.{linePlace, startNode, endNode, Held}
+use Rattle.model.specs.Map.{Map}
+use Prim.Native.Nat.{ℕ, _+_, _<_}
 use mathlib.Core.Path.{_≡_, sym, _∙_}
 use mathlib.Core.List.{List}
 use native.Mathlib.Omega.{arith}
 use lib.ListN.{length, getD}
-use Rattle.model.specs.Map.{Map}
 use Rattle.model.specs.Lines.{lineAt, Follows}
-use Rattle.work_area.specs.Area.{Held}
 
 module _ {m : Map} {l j : ℕ} where
   -- A line that can follow is a line, and it starts where the other ends: so it is in the chain of that node.
@@ -17,9 +17,9 @@ module _ {m : Map} {l j : ℕ} where
   meets f = sym (f .meets)
 
   module _ {w : List ℕ} {n : ℕ} (h : Held w n m) (l< : l < n) (j< : j < n) where
-    pub apart : (getD w (1024 + 7 * l + 1) 0 ≡ getD w (1024 + 7 * j + 0) 0 → ⊥) → Follows m l j → ⊥
+    pub apart : (getD w (linePlace l + endNode) 0 ≡ getD w (linePlace j + startNode) 0 → ⊥) → Follows m l j → ⊥
     apart d f = d (h .line-held l 1 l< (omega arith) ∙ f .meets ∙ sym (h .line-held j 0 j< (omega arith)))
 
-    pub follow : getD w (1024 + 7 * l + 1) 0 ≡ getD w (1024 + 7 * j + 0) 0 → Follows m l j
+    pub follow : getD w (linePlace l + endNode) 0 ≡ getD w (linePlace j + startNode) 0 → Follows m l j
     follow e =
         record { line = omega arith; meets = sym (h .line-held l 1 l< (omega arith)) ∙ e ∙ h .line-held j 0 j< (omega arith) }

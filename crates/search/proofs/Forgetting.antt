@@ -1,4 +1,7 @@
 -- How the list is gone through to forget what a search found.
+use Rattle.work_area.specs.Area.{searchFrom, lengthsFrom, headsFrom, nextFrom, nearestFrom, Held}
+use Rattle.model.specs.Map.{greatestNodeCount, Map}
+use Rattle.search.specs.Area.{far, listWeight, Chained, Listing, lengthTo, firstLeaving, nextLeaving, listed}
 use Prim.Native.Nat.{ℕ, _+_, _/_, _%_, _≤_, _<_}
 use mathlib.Core.Path.{_≡_, refl, sym, _∙_, ap, subst}
 use mathlib.Core.List.{List}
@@ -7,10 +10,7 @@ use native.Mathlib.Nat.{eq-or-lt-of-le}
 use native.Mathlib.Omega.{arith}
 use lib.ListN.{getD, set, length-set}
 use lib.Seq.{getD-set-other}
-use Rattle.model.specs.Map.{Map}
 use Rattle.buffers.specs.Kept.{Kept}
-use Rattle.work_area.specs.Area.{Held}
-use Rattle.search.specs.Area.{Chained, Listing, lengthTo, firstLeaving, nextLeaving, listed, far}
 use Rattle.search.specs.Steps.{Forgotten}
 use Rattle.buffers.proofs.Kept.{kept-none, kept-then, at-set, kept-set}
 use Rattle.search.proofs.Reached.{listing-none}
@@ -20,12 +20,12 @@ use Rattle.work_area.proofs.Holding.{few}
 
 -- The first `i` places are gone through. A line that is still reached is at one of the others.
 pub record Forgetting (n count i : ℕ) (u w : List ℕ) : Type 0 where
-  pub heads : (a : ℕ) → a < 512 → firstLeaving w a ≡ firstLeaving u a
+  pub heads : (a : ℕ) → a < greatestNodeCount → firstLeaving w a ≡ firstLeaving u a
   pub nexts : (k : ℕ) → k < n → nextLeaving w k ≡ nextLeaving u k
   pub gone : (k : ℕ) → k < i → listed w k ≡ 0
   pub left : (k : ℕ) → i ≤ k → k < n → listed w k ≡ listed u k
   pub every : (l : ℕ) → l < n → lengthTo w l < far → (k : ℕ) × (i ≤ k) × (k < count) × (listed u k ≡ l + 1)
-  pub kept : Kept 8192 11776 u w
+  pub kept : Kept searchFrom nearestFrom u w
 
 pub forgetting-start : {n count : ℕ} {u : List ℕ} → Listing u n count → Forgetting n count 0 u u
 forgetting-start s =
@@ -46,28 +46,28 @@ module _ {n count i : ℕ} {u w : List ℕ} {m : Map} (h : Held u n m) (s : List
   pub at-end : listed w i ≡ 0 → count ≤ i
   at-end e = past s i< (sym (k .left i (omega arith) i<) ∙ e)
 
-  pub forgetting-step : (l y : ℕ) → l + 1 ≡ listed w i → y ≡ getD (set w (8192 + l) 150001) (10752 + i) 0 % 2048 →
-      Forgetting n count (i + 1) u (set (set w (8192 + l) 150001) (10752 + i) y)
+  pub forgetting-step : (l y : ℕ) → l + 1 ≡ listed w i → y ≡ getD (set w (lengthsFrom + l) far) (nextFrom + i) 0 % listWeight →
+      Forgetting n count (i + 1) u (set (set w (lengthsFrom + l) far) (nextFrom + i) y)
   forgetting-step l y e z =
       let n≤ = few h in
       let o = k .kept .same in
-      let w₁ = set w (8192 + l) 150001 in
+      let w₁ = set w (lengthsFrom + l) far in
       let l< : l < n = omega (arith, listed-le) in
-      let cell : getD w₁ (10752 + i) 0 ≡ getD w (10752 + i) 0 = getD-set-other w (8192 + l) (10752 + i) 150001 0 (omega arith) in
+      let cell : getD w₁ (nextFrom + i) 0 ≡ getD w (nextFrom + i) 0 = getD-set-other w (lengthsFrom + l) (nextFrom + i) far 0 (omega arith) in
       record {
-        heads = λ a a<. getD-set-other w₁ (10752 + i) (10240 + a) y 0 (omega arith)
-            ∙ getD-set-other w (8192 + l) (10240 + a) 150001 0 (omega arith) ∙ k .heads a a<;
-        nexts = at-set (λ a b. a < n → b % 2048 ≡ nextLeaving u a) w₁ 10752 i y (simp length-set (omega arith))
+        heads = λ a a<. getD-set-other w₁ (nextFrom + i) (headsFrom + a) y 0 (omega arith)
+            ∙ getD-set-other w (lengthsFrom + l) (headsFrom + a) far 0 (omega arith) ∙ k .heads a a<;
+        nexts = at-set (λ a b. a < n → b % listWeight ≡ nextLeaving u a) w₁ nextFrom i y (simp length-set (omega arith))
             (λ a<. omega (arith, k .nexts i i<))
-            (λ a d a<. rw (getD-set-other w (8192 + l) (10752 + a) 150001 0 (omega arith)) (k .nexts a a<));
-        gone = at-set (λ a b. a < i + 1 → b / 2048 ≡ 0) w₁ 10752 i y (simp length-set (omega arith)) (λ a<. omega arith)
-            (λ a d a<. rw (getD-set-other w (8192 + l) (10752 + a) 150001 0 (omega arith)) (k .gone a (omega arith)));
-        left = λ a a≤ a<. ap (λ (b : ℕ). b / 2048)
-            (getD-set-other w₁ (10752 + i) (10752 + a) y 0 (omega arith) ∙ getD-set-other w (8192 + l) (10752 + a) 150001 0 (omega arith))
+            (λ a d a<. rw (getD-set-other w (lengthsFrom + l) (nextFrom + a) far 0 (omega arith)) (k .nexts a a<));
+        gone = at-set (λ a b. a < i + 1 → b / listWeight ≡ 0) w₁ nextFrom i y (simp length-set (omega arith)) (λ a<. omega arith)
+            (λ a d a<. rw (getD-set-other w (lengthsFrom + l) (nextFrom + a) far 0 (omega arith)) (k .gone a (omega arith)));
+        left = λ a a≤ a<. ap (λ (b : ℕ). b / listWeight)
+            (getD-set-other w₁ (nextFrom + i) (nextFrom + a) y 0 (omega arith) ∙ getD-set-other w (lengthsFrom + l) (nextFrom + a) far 0 (omega arith))
             ∙ k .left a (omega arith) a<;
-        every = λ a a< d. every a a< (rw (getD-set-other w₁ (10752 + i) (8192 + a) y 0 (omega arith)) at d);
+        every = λ a a< d. every a a< (rw (getD-set-other w₁ (nextFrom + i) (lengthsFrom + a) y 0 (omega arith)) at d);
         kept = kept-then (k .kept)
-            (kept-then (kept-set (8192 + l) 150001 (omega arith) (omega arith)) (kept-set (10752 + i) y (omega arith) (omega arith)));
+            (kept-then (kept-set (lengthsFrom + l) far (omega arith) (omega arith)) (kept-set (nextFrom + i) y (omega arith) (omega arith)));
       }
     where
       later : (a b : ℕ) → a ≢ l → i ≤ b → listed u b ≡ a + 1 → i + 1 ≤ b
@@ -77,10 +77,10 @@ module _ {n count i : ℕ} {u w : List ℕ} {m : Map} (h : Held u n m) (s : List
           (λ l. omega arith)
           (eq-or-lt-of-le {n = i} {m = b} p)
 
-      every : (a : ℕ) → a < n → lengthTo (set w (8192 + l) 150001) a < far →
+      every : (a : ℕ) → a < n → lengthTo (set w (lengthsFrom + l) far) a < far →
           (b : ℕ) × (i + 1 ≤ b) × (b < count) × (listed u b ≡ a + 1)
       every =
-          at-set (λ a d. a < n → d < far → (b : ℕ) × (i + 1 ≤ b) × (b < count) × (listed u b ≡ a + 1)) w 8192 l 150001
+          at-set (λ a d. a < n → d < far → (b : ℕ) × (i + 1 ≤ b) × (b < count) × (listed u b ≡ a + 1)) w lengthsFrom l far
           (let n≤ = few h in let o = k .kept .same in omega (arith, listed-le))
           (λ a< d. absurd (omega arith))
           (λ a d a< f. let b = k .every a a< f in (b .0, later a (b .0) d (b .1) (b .3), b .2, b .3))

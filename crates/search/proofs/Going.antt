@@ -1,5 +1,9 @@
 -- How a search begins, and how it goes on from a line: at one line that can follow it, and along the chain of all.
-use Prim.Native.Nat.{ℕ, _+_, _-_, _*_, _/_, _%_, _≤_, _<_}
+use Rattle.work_area.specs.Area.{linePlace, lineLength, lineFrc, beforeFrom, headsFrom, Held}
+use Rattle.model.specs.Map.{greatestLineCount, Map}
+use Rattle.model.specs.Reading.{greatestLegLength}
+use Rattle.search.specs.Area.{pending, several, latest, lengthTo, lineBefore, listed, Tie}
+use Prim.Native.Nat.{ℕ, _+_, _-_, _/_, _%_, _≤_, _<_}
 use mathlib.Core.Path.{_≡_, refl, sym, _∙_, ap, subst}
 use mathlib.Core.List.{List, [], _∷_, _++_}
 use mathlib.Core.Logic.{_⊎_, inl, inr, ⊎-elim, _≢_}
@@ -7,11 +11,8 @@ use native.Mathlib.Nat.{eq-or-lt-of-le}
 use native.Mathlib.Omega.{arith}
 use native.Mathlib.Decide.{ℕ-discrete}
 use lib.ListN.{getD}
-use Rattle.model.specs.Map.{Map}
 use Rattle.model.specs.Lines.{lineAt, Follows}
 use Rattle.buffers.specs.Kept.{Kept}
-use Rattle.work_area.specs.Area.{Held}
-use Rattle.search.specs.Area.{latest, lengthTo, lineBefore, listed, Tie}
 use Rattle.search.specs.Steps.{Task, task, Waits, noteAt, Leads, Backed, Notes, Counted, Underway, Stepped, Forgotten, Begun, Noted, TieNoted, Lowered, Relaxed, Ahead, WentOn, weight}
 use Rattle.search.proofs.Plain.{way-one, way-more, total-more, total-one}
 use Rattle.search.proofs.Follows.{known, meets}
@@ -22,7 +23,7 @@ use Rattle.search.proofs.Leaving.{latest-le, latest-hit, latest-all}
 use Rattle.search.proofs.Counting.{counted-same, stepped-none, stepped-then, lowered, renoted, same-length, backed-less}
 
 -- No line is reached.
-module _ {m : Map} {n f limit : ℕ} {w v : List ℕ} (h : Held w n m) (f< : f < n) (small : limit ≤ 150000) (k : Forgotten m n w v) where
+module _ {m : Map} {n f limit : ℕ} {w v : List ℕ} (h : Held w n m) (f< : f < n) (small : limit ≤ greatestLegLength) (k : Forgotten m n w v) where
   bare : (c : ℕ) → Underway (task m f) n c limit 0 v
   bare c =
       record {
@@ -35,23 +36,23 @@ module _ {m : Map} {n f limit : ℕ} {w v : List ℕ} (h : Held w n m) (f< : f <
         backed = λ j j< near. absurd (omega (arith, k .all j j<));
       }
 
-  class-of : getD v (1024 + 7 * f + 3) 0 ≡ lineAt m f .frc
+  class-of : getD v (linePlace f + lineFrc) 0 ≡ lineAt m f .frc
   class-of = held-kept (omega arith) (k .kept) h .line-held f 3 f< (omega arith)
 
-  length-of : getD v (1024 + 7 * f + 2) 0 ≡ lineAt m f .length
+  length-of : getD v (linePlace f + lineLength) 0 ≡ lineAt m f .length
   length-of = held-kept (omega arith) (k .kept) h .line-held f 2 f< (omega arith)
 
   none : (c : ℕ) → (lineAt m f .frc ≤ c → lineAt m f .length ≤ limit → ⊥) → Begun m n c f limit w v 0
   none c out =
       record { underway = bare c; based = λ ok near. absurd (out ok near); waits = λ i i<. absurd (omega arith); kept = k .kept }
 
-  pub begun-shut : {c : ℕ} → c < getD v (1024 + 7 * f + 3) 0 → Begun m n c f limit w v 0
+  pub begun-shut : {c : ℕ} → c < getD v (linePlace f + lineFrc) 0 → Begun m n c f limit w v 0
   begun-shut {c} x = none c (λ ok near. omega (arith, class-of))
 
-  pub begun-far : {c : ℕ} → limit < getD v (1024 + 7 * f + 2) 0 → Begun m n c f limit w v 0
+  pub begun-far : {c : ℕ} → limit < getD v (linePlace f + lineLength) 0 → Begun m n c f limit w v 0
   begun-far {c} x = none c (λ ok near. omega (arith, length-of))
 
-  pub begun : {c x r : ℕ} {u : List ℕ} → getD v (1024 + 7 * f + 3) 0 ≤ c → x ≡ getD v (1024 + 7 * f + 2) 0 → x ≤ limit →
+  pub begun : {c x r : ℕ} {u : List ℕ} → getD v (linePlace f + lineFrc) 0 ≤ c → x ≡ getD v (linePlace f + lineLength) 0 → x ≤ limit →
       Lowered f 0 0 x v u r → Begun m n c f limit w u r
   begun {c} {x} {r} {u} ok is near d =
       let e = d .new (k .all f f<) in
@@ -70,10 +71,10 @@ module _ {m : Map} {n f limit : ℕ} {w v : List ℕ} (h : Held w n m) (f< : f <
       }
 
 -- What is noted.
-noted-cases : {x l y : ℕ} → Noted x l y → ((x ≡ 0) × (y ≡ l + 1)) ⊎ (((x ≡ l + 1) × (y ≡ l + 1)) ⊎ ((y ≡ 2000) × (0 < x) × (x ≢ l + 1)))
+noted-cases : {x l y : ℕ} → Noted x l y → ((x ≡ 0) × (y ≡ l + 1)) ⊎ (((x ≡ l + 1) × (y ≡ l + 1)) ⊎ ((y ≡ several) × (0 < x) × (x ≢ l + 1)))
 noted-cases {x} {l} {y} n = first (ℕ-discrete x 0) (ℕ-discrete x (l + 1))
   where
-    first : Dec (x ≡ 0) → Dec (x ≡ l + 1) → ((x ≡ 0) × (y ≡ l + 1)) ⊎ (((x ≡ l + 1) × (y ≡ l + 1)) ⊎ ((y ≡ 2000) × (0 < x) × (x ≢ l + 1)))
+    first : Dec (x ≡ 0) → Dec (x ≡ l + 1) → ((x ≡ 0) × (y ≡ l + 1)) ⊎ (((x ≡ l + 1) × (y ≡ l + 1)) ⊎ ((y ≡ several) × (0 < x) × (x ≢ l + 1)))
     first (yes a) b = inl (a, n .first a)
     first (no a) (yes b) = inr (inl (b, n .same b))
     first (no a) (no b) = let p : 0 < x = omega (arith, a) in inr (inr (n .again p b, p, b))
@@ -85,7 +86,7 @@ notes-new n =
     (⊎-elim (λ a. (omega (arith, a .1), λ z. omega (arith, a .1))) (λ a. (omega (arith, a .0), λ z. absurd (omega (arith, a .0)))))
     (noted-cases n)
 
-notes-old : {x l k y : ℕ} → l < 1024 → Noted x l y → Notes k x → Notes k y
+notes-old : {x l k y : ℕ} → l < greatestLineCount → Noted x l y → Notes k x → Notes k y
 notes-old l< n o =
     ⊎-elim
     (λ a. absurd (omega (arith, a .0, o .0)))
@@ -96,10 +97,10 @@ notes-old l< n o =
 
 -- By way of line `l` to line `j`.
 module _ {q : Task} {n c limit count l j : ℕ} {w : List ℕ} (g : Underway q n c limit count w) (l< : l < n) (j< : j < n) where
-  length-at : getD w (1024 + 7 * j + 2) 0 ≡ lineAt (q .map) j .length
+  length-at : getD w (linePlace j + lineLength) 0 ≡ lineAt (q .map) j .length
   length-at = g .held .line-held j 2 j< (omega arith)
 
-  class-at : getD w (1024 + 7 * j + 3) 0 ≡ lineAt (q .map) j .frc
+  class-at : getD w (linePlace j + lineFrc) 0 ≡ lineAt (q .map) j .frc
   class-at = g .held .line-held j 3 j< (omega arith)
 
   relaxed-none : (Follows (q .map) l j → Counted (q .map) c limit l j w) → Relaxed q n c limit l j w w count
@@ -109,32 +110,32 @@ module _ {q : Task} {n c limit count l j : ℕ} {w : List ℕ} (g : Underway q n
   pub apart : (Follows (q .map) l j → ⊥) → Relaxed q n c limit l j w w count
   apart d = relaxed-none (λ f. absurd (d f))
 
-  pub nearer : lengthTo w j < lengthTo w l + getD w (1024 + 7 * j + 2) 0 → Relaxed q n c limit l j w w count
+  pub nearer : lengthTo w j < lengthTo w l + getD w (linePlace j + lineLength) 0 → Relaxed q n c limit l j w w count
   nearer less =
       relaxed-none
       (λ f.
       record { tight = λ ok z. omega (arith, length-at); noted = λ z t. absurd (omega (arith, length-at, t .equal)) })
 
-  pub shut : lengthTo w l + getD w (1024 + 7 * j + 2) 0 < lengthTo w j → c < getD w (1024 + 7 * j + 3) 0 → Relaxed q n c limit l j w w count
+  pub shut : lengthTo w l + getD w (linePlace j + lineLength) 0 < lengthTo w j → c < getD w (linePlace j + lineFrc) 0 → Relaxed q n c limit l j w w count
   shut less x =
       relaxed-none
       (λ f.
       record { tight = λ ok z. absurd (omega (arith, class-at)); noted = λ z t. absurd (omega (arith, length-at, t .equal)) })
 
-  pub beyond : lengthTo w l + getD w (1024 + 7 * j + 2) 0 < lengthTo w j → limit < lengthTo w l + getD w (1024 + 7 * j + 2) 0 →
+  pub beyond : lengthTo w l + getD w (linePlace j + lineLength) 0 < lengthTo w j → limit < lengthTo w l + getD w (linePlace j + lineLength) 0 →
       Relaxed q n c limit l j w w count
   beyond less x =
       relaxed-none
       (λ f.
       record { tight = λ ok z. absurd (omega (arith, length-at)); noted = λ z t. absurd (omega (arith, length-at, t .equal)) })
 
-  pub brought-down : {x r : ℕ} {v : List ℕ} → x ≡ lengthTo w l + getD w (1024 + 7 * j + 2) 0 → Follows (q .map) l j →
-      getD w (1024 + 7 * j + 3) 0 ≤ c → x < lengthTo w j → x ≤ limit → Lowered j (l + 1) count x w v r → Relaxed q n c limit l j w v r
+  pub brought-down : {x r : ℕ} {v : List ℕ} → x ≡ lengthTo w l + getD w (linePlace j + lineLength) 0 → Follows (q .map) l j →
+      getD w (linePlace j + lineFrc) 0 ≤ c → x < lengthTo w j → x ≤ limit → Lowered j (l + 1) count x w v r → Relaxed q n c limit l j w v r
   brought-down {x} {r} {v} e f ok less near d =
       let h = g .held in
       let n≤ = few h in
       let way = g .real l l< (omega arith) in
-      let o : l ≢ j = λ z. omega (arith, subst (λ (k : ℕ). x ≡ lengthTo w k + getD w (1024 + 7 * j + 2) 0) z e) in
+      let o : l ≢ j = λ z. omega (arith, subst (λ (k : ℕ). x ≡ lengthTo w k + getD w (linePlace j + lineLength) 0) z e) in
       let a = d .others l (omega arith) o in
       let b : lengthTo v l + lineAt (q .map) j .length ≡ lengthTo v j = omega (arith, a .0, d .found, length-at) in
       let z : l + 1 - 1 ≡ l = omega arith in
@@ -151,13 +152,13 @@ module _ {q : Task} {n c limit count l j : ℕ} {w : List ℕ} (g : Underway q n
             backed;
         here = λ f. record { tight = λ ok t. omega arith; noted = λ t u. (omega arith, λ p. omega arith) };
         from = a .0;
-        others = λ k k< p. let t = d .others k (omega arith) p in (t .0, ap (λ (y : ℕ). y % 4096) (t .1));
+        others = λ k k< p. let t = d .others k (omega arith) p in (t .0, ap (λ (y : ℕ). y % pending) (t .1));
         waits = λ t. omega (arith, a .1);
       }
 
   -- Both ways are equal, and line `l` is noted.
-  module _ {v : List ℕ} (f : Follows (q .map) l j) (equal : lengthTo w j ≡ lengthTo w l + getD w (1024 + 7 * j + 2) 0) (t : TieNoted l j w v) where
-    kept : Kept 9216 10240 w v
+  module _ {v : List ℕ} (f : Follows (q .map) l j) (equal : lengthTo w j ≡ lengthTo w l + getD w (linePlace j + lineLength) 0) (t : TieNoted l j w v) where
+    kept : Kept beforeFrom headsFrom w v
     kept = let n≤ = few (g .held) in kept-within (omega arith) (omega arith) (t .kept)
 
     same : (k : ℕ) → k < n → lengthTo v k ≡ lengthTo w k
@@ -169,15 +170,15 @@ module _ {q : Task} {n c limit count l j : ℕ} {w : List ℕ} (g : Underway q n
     cell : (k : ℕ) → k < n → k ≢ j → lineBefore v k ≡ lineBefore w k
     cell k k< o =
         ⊎-elim
-        (λ a. t .kept .above (9216 + k) (omega (arith, o)))
-        (λ a. t .kept .below (9216 + k) (omega arith))
+        (λ a. t .kept .above (beforeFrom + k) (omega (arith, o)))
+        (λ a. t .kept .below (beforeFrom + k) (omega arith))
         (le-or-lt j k)
 
-    waiting : (k : ℕ) → k < n → lineBefore v k / 4096 ≡ lineBefore w k / 4096
+    waiting : (k : ℕ) → k < n → lineBefore v k / pending ≡ lineBefore w k / pending
     waiting =
-        here-or (λ k. k < n → lineBefore v k / 4096 ≡ lineBefore w k / 4096) j
+        here-or (λ k. k < n → lineBefore v k / pending ≡ lineBefore w k / pending) j
         (λ k<. omega (arith, t .here, t .noted .low))
-        (λ k o k<. ap (λ (y : ℕ). y / 4096) (cell k k< o))
+        (λ k o k<. ap (λ (y : ℕ). y / pending) (cell k k< o))
 
     leads : Leads (q .map) w l j
     leads = let h = g .held in record { known = omega arith; follows = f; enough = omega (arith, length-at) }
@@ -200,7 +201,7 @@ module _ {q : Task} {n c limit count l j : ℕ} {w : List ℕ} (g : Underway q n
           many = λ p. ⊎-elim
               (λ big. old .many big)
               (λ low. (noteAt w j - 1, l, old .one (a .1) low, leads, λ e. a .2 (omega (arith, a .1))))
-              (le-or-lt 2000 (noteAt w j));
+              (le-or-lt several (noteAt w j));
         }))
         (noted-cases (t .noted))
 
@@ -220,7 +221,7 @@ module _ {q : Task} {n c limit count l j : ℕ} {w : List ℕ} (g : Underway q n
                 tight = λ ok y. omega (arith, same k k<, same j j<, old .tight ok (omega (arith, same k k<)));
                 noted = λ y u. rw note-here (notes-old (omega arith) (t .noted) (old .noted (omega (arith, same j j<)) (tied-same k< u)));
               })
-              (λ b o b< old. counted-same (same k k<) (same b b<) (ap (λ (y : ℕ). y % 4096) (cell b b< o)) old)
+              (λ b o b< old. counted-same (same k k<) (same b b<) (ap (λ (y : ℕ). y % pending) (cell b b< o)) old)
               b b< (g .counted k b k< near (omega (arith, waiting k k<)) f))
               (here-or (λ b. b < n → lengthTo w b ≤ limit → Backed (q .map) v b (noteAt v b)) j
               (λ b< near. rw note-here (backed-less (g .held) (λ k k<. omega (arith, same k k<)) (same j j<) (backed near)))
@@ -232,7 +233,7 @@ module _ {q : Task} {n c limit count l j : ℕ} {w : List ℕ} (g : Underway q n
                 noted = λ y u. rw note-here (notes-new (t .noted));
               };
           from = same l l<;
-          others = λ k k< o. (same k k<, ap (λ (y : ℕ). y % 4096) (cell k k< o));
+          others = λ k k< o. (same k k<, ap (λ (y : ℕ). y % pending) (cell k k< o));
           waits = λ y. omega (arith, waiting l l<);
         }
 
@@ -275,7 +276,7 @@ module _ {q : Task} {n c limit l : ℕ} {u : List ℕ} where
         inside = omega arith;
         joined = λ z. absurd (omega arith);
       })
-      (le-or-lt 4096 (lineBefore u l))
+      (le-or-lt pending (lineBefore u l))
 
   pub along-step : {w v : List ℕ} {at next r s : ℕ} → Along q n c limit l u w at r → 0 < at → Relaxed q n c limit l (at - 1) w v s →
       next ≡ latest (q .map) (lineAt (q .map) (at - 1) .start) (at - 1) → Along q n c limit l u v next s

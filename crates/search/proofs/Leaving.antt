@@ -1,5 +1,8 @@
 -- The chains of the lines that leave a node: how they are made, and that a walk along one meets every such line.
-use Prim.Native.Nat.{ℕ, zero, suc, _+_, _-_, _*_, _/_, _%_, _≤_, _<_}
+use Rattle.work_area.specs.Area.{linePlace, startNode, endNode, searchFrom, lengthsFrom, headsFrom, nextFrom, nearestFrom, Held}
+use Rattle.model.specs.Map.{greatestNodeCount, Map}
+use Rattle.search.specs.Area.{far, listWeight, latest, lengthTo, firstLeaving, nextLeaving, listed}
+use Prim.Native.Nat.{ℕ, zero, suc, _+_, _-_, _/_, _%_, _≤_, _<_}
 use mathlib.Core.Path.{_≡_, sym, _∙_, ap, subst}
 use mathlib.Core.Bool.{cond}
 use mathlib.Core.List.{List}
@@ -11,11 +14,8 @@ use borrow.Author.Tests.{eq-eqb, ne-eqb, eqb-true, eqb-false}
 use lib.Dec.{eqb}
 use lib.ListN.{length, getD, set, length-set}
 use lib.Seq.{getD-set-other}
-use Rattle.model.specs.Map.{Map}
 use Rattle.model.specs.Lines.{lineAt}
 use Rattle.buffers.specs.Kept.{Kept, Filled}
-use Rattle.work_area.specs.Area.{Held}
-use Rattle.search.specs.Area.{latest, lengthTo, firstLeaving, nextLeaving, listed, far}
 use Rattle.search.specs.Promises.{Linked}
 use Rattle.buffers.proofs.Kept.{kept-none, kept-then, at-set, kept-set}
 use Rattle.search.proofs.Reached.{listing-none}
@@ -62,9 +62,9 @@ pub record Linking (w : List ℕ) (i : ℕ) (m : Map) (v : List ℕ) : Type 0 wh
   pub heads : (a : ℕ) → a < length (m .nodes) → firstLeaving v a ≡ latest m a i
   pub nexts : (l : ℕ) → l < i → (nextLeaving v l ≡ latest m (lineAt m l .start) l) × (listed v l ≡ 0)
   pub all : (l : ℕ) → l < i → far ≤ lengthTo v l
-  pub kept : Kept 8192 11776 w v
+  pub kept : Kept searchFrom nearestFrom w v
 
-pub link-none : {w v : List ℕ} {n : ℕ} {m : Map} → Held v n m → Filled 10240 512 0 w v → Linking v 0 m v
+pub link-none : {w v : List ℕ} {n : ℕ} {m : Map} → Held v n m → Filled headsFrom greatestNodeCount 0 w v → Linking v 0 m v
 link-none h f =
     let k = h .formed in
     record {
@@ -86,46 +86,46 @@ linked k =
     }
 
 module _ {u w : List ℕ} {n i : ℕ} {m : Map} (h : Held u n m) (i< : i < n) (k : Linking u i m w) where
-  pub start-at : getD w (1024 + 7 * i + 0) 0 ≡ lineAt m i .start
+  pub start-at : getD w (linePlace i + startNode) 0 ≡ lineAt m i .start
   start-at = held-kept (omega arith) (k .kept) h .line-held i 0 i< (omega arith)
 
-  pub start-small : getD w (1024 + 7 * i + 0) 0 < 512
+  pub start-small : getD w (linePlace i + startNode) 0 < greatestNodeCount
   start-small = let f = h .formed in omega (arith, start-at, line-ok h i< .start)
 
-  pub link-step : {v : ℕ} → v ≡ getD w (1024 + 7 * i + 0) 0 →
-      Linking u (i + 1) m (set (set (set w (10752 + i) (getD w (10240 + v) 0)) (10240 + v) (i + 1)) (8192 + i) 150001)
+  pub link-step : {v : ℕ} → v ≡ getD w (linePlace i + startNode) 0 →
+      Linking u (i + 1) m (set (set (set w (nextFrom + i) (getD w (headsFrom + v) 0)) (headsFrom + v) (i + 1)) (lengthsFrom + i) far)
   link-step {v} at =
-      let x = getD w (10240 + v) 0 in
-      let w₁ = set w (10752 + i) x in
-      let w₂ = set w₁ (10240 + v) (i + 1) in
+      let x = getD w (headsFrom + v) 0 in
+      let w₁ = set w (nextFrom + i) x in
+      let w₂ = set w₁ (headsFrom + v) (i + 1) in
       let z = start-small in
       let n≤ = few h in
       let s = k .kept .same in
       let from : v ≡ lineAt m i .start = at ∙ start-at in
       let e : x ≡ latest m (lineAt m i .start) i = rw from (k .heads _ (line-ok h i< .start)) in
       record {
-        heads = λ a a<. getD-set-other w₂ (8192 + i) (10240 + a) 150001 0 (omega arith)
-            ∙ at-set (λ a y. a < length (m .nodes) → y ≡ latest m a (i + 1)) w₁ 10240 v (i + 1)
+        heads = λ a a<. getD-set-other w₂ (lengthsFrom + i) (headsFrom + a) far 0 (omega arith)
+            ∙ at-set (λ a y. a < length (m .nodes) → y ≡ latest m a (i + 1)) w₁ headsFrom v (i + 1)
             (simp length-set (omega arith))
             (λ a<. sym (latest-same m v i (sym from)))
-            (λ a d a<. getD-set-other w (10752 + i) (10240 + a) x 0 (let f = h .formed in omega arith) ∙ k .heads a a<
+            (λ a d a<. getD-set-other w (nextFrom + i) (headsFrom + a) x 0 (let f = h .formed in omega arith) ∙ k .heads a a<
             ∙ sym (latest-other m a i (λ y. d (sym (from ∙ y))))) a a<;
         nexts = λ l l<.
-            rw (getD-set-other w₂ (8192 + i) (10752 + l) 150001 0 (omega arith), getD-set-other w₁ (10240 + v) (10752 + l) (i + 1) 0 (omega arith))
-            (at-set (λ a y. a < i + 1 → (y % 2048 ≡ latest m (lineAt m a .start) a) × (y / 2048 ≡ 0)) w 10752 i x (omega arith)
+            rw (getD-set-other w₂ (lengthsFrom + i) (nextFrom + l) far 0 (omega arith), getD-set-other w₁ (headsFrom + v) (nextFrom + l) (i + 1) 0 (omega arith))
+            (at-set (λ a y. a < i + 1 → (y % listWeight ≡ latest m (lineAt m a .start) a) × (y / listWeight ≡ 0)) w nextFrom i x (omega arith)
             (λ a<. let b = latest-le m (lineAt m i .start) i in (omega arith, omega arith))
             (λ a d a<. k .nexts a (omega arith)) l l<);
-        all = at-set (λ a y. a < i + 1 → far ≤ y) w₂ 8192 i 150001 (simp length-set (omega arith)) (λ a<. omega arith)
+        all = at-set (λ a y. a < i + 1 → far ≤ y) w₂ lengthsFrom i far (simp length-set (omega arith)) (λ a<. omega arith)
             (λ a d a<.
-            rw (getD-set-other w₁ (10240 + v) (8192 + a) (i + 1) 0 (omega arith), getD-set-other w (10752 + i) (8192 + a) x 0 (omega arith))
+            rw (getD-set-other w₁ (headsFrom + v) (lengthsFrom + a) (i + 1) 0 (omega arith), getD-set-other w (nextFrom + i) (lengthsFrom + a) x 0 (omega arith))
             (k .all a (omega arith)));
         kept = kept-then (k .kept)
-            (kept-then (kept-set (10752 + i) x (omega arith) (omega arith))
-            (kept-then (kept-set (10240 + v) (i + 1) (omega arith) (omega arith)) (kept-set (8192 + i) 150001 (omega arith) (omega arith))));
+            (kept-then (kept-set (nextFrom + i) x (omega arith) (omega arith))
+            (kept-then (kept-set (headsFrom + v) (i + 1) (omega arith) (omega arith)) (kept-set (lengthsFrom + i) far (omega arith) (omega arith))));
       }
 
 -- The node where line `l` ends.
-module _ {w : List ℕ} {n l v : ℕ} {m : Map} (h : Held w n m) (l< : l < n) (at : v ≡ getD w (1024 + 7 * l + 1) 0) where
+module _ {w : List ℕ} {n l v : ℕ} {m : Map} (h : Held w n m) (l< : l < n) (at : v ≡ getD w (linePlace l + endNode) 0) where
   pub end-is : v ≡ lineAt m l .end
   end-is = at ∙ h .line-held l 1 l< (omega arith)
 

@@ -1,14 +1,14 @@
 -- Where no line waits the lengths are least, and the notes are right.
+use Rattle.model.specs.Map.{Map}
+use Rattle.search.specs.Area.{far, pending, several, lengthTo, lineBefore, listed, Tie, Tied}
 use Prim.Native.Nat.{ℕ, _-_, _≤_, _<_}
 use mathlib.Core.Path.{_≡_, subst}
 use mathlib.Core.List.{List}
 use mathlib.Core.Logic.{⊎-elim}
 use native.Mathlib.Omega.{arith}
 use lib.ListN.{length}
-use Rattle.model.specs.Map.{Map}
 use Rattle.model.specs.Lines.{lineAt, Follows, total}
 use Rattle.search.specs.Ways.{line, Distance}
-use Rattle.search.specs.Area.{lengthTo, lineBefore, listed, Tie, Tied}
 use Rattle.search.specs.Steps.{Task, noteAt, Leads, Counted, Underway, Based, Sought}
 use Rattle.search.proofs.Plain.{Grown, one, more, class-last, total-more, total-one, grown-of}
 use Rattle.search.proofs.Follows.{known}
@@ -21,11 +21,11 @@ last-known (more g f k) = known f
 module _ {q : Task} {n c limit count place : ℕ} {w : List ℕ} (g : Underway q n c limit count w) (b : Based (q .map) c (q .first) limit w)
     (s : Sought count w place) (end : count ≤ place) where
   -- Every line within the limit is on the list, and none of these waits.
-  still : (l : ℕ) → l < n → lengthTo w l ≤ limit → lineBefore w l < 4096
+  still : (l : ℕ) → l < n → lengthTo w l ≤ limit → lineBefore w l < pending
   still l l< near =
       let a = g .listing .every l l< (omega (arith, g .small)) in
       let e : listed w (a .0) - 1 ≡ l = omega (arith, a .2) in
-      subst (λ (k : ℕ). lineBefore w k < 4096) e (s .none end (a .0) (a .1))
+      subst (λ (k : ℕ). lineBefore w k < pending) e (s .none end (a .0) (a .1))
 
   all : (l j : ℕ) → l < n → lengthTo w l ≤ limit → Follows (q .map) l j → Counted (q .map) c limit l j w
   all l j l< near f = g .counted l j l< near (still l l< near) f
@@ -61,7 +61,7 @@ module _ {q : Task} {n c limit count place : ℕ} {w : List ℕ} (g : Underway q
         let k = all a j (omega arith) (omega arith) (t .follows) .tight class-at (omega arith) in
         record { known = from; follows = t .follows; equal = omega arith }
 
-    notes : (l : ℕ) → Tie (q .map) w l j → (0 < noteAt w j) × (noteAt w j < 2000 → l ≡ noteAt w j - 1)
+    notes : (l : ℕ) → Tie (q .map) w l j → (0 < noteAt w j) × (noteAt w j < several → l ≡ noteAt w j - 1)
     notes l t =
         let h = g .held in
         let from = t .known in

@@ -1,42 +1,48 @@
 -- What stands in the work area besides the map: the chains of the lines that leave a node, the list of the lines that a search has
 -- reached, and what it has found.
+use Rattle.work_area.specs.Area.{lengthsFrom, beforeFrom, headsFrom, nextFrom, nearestFrom, Held}
+use Rattle.model.specs.Map.{Map}
+use Rattle.model.specs.Reading.{greatestLegLength}
 use Prim.Native.Nat.{ℕ, zero, suc, _+_, _-_, _/_, _%_, _≤_, _<_}
 use mathlib.Core.Path.{_≡_}
 use mathlib.Core.Bool.{cond}
 use mathlib.Core.List.{List, [], _∷_, _++_}
 use lib.ListN.{length, getD}
 use lib.Dec.{eqb}
-use Rattle.model.specs.Map.{Map}
 use Rattle.model.specs.Lines.{lineAt, Follows}
-use Rattle.model.specs.Reading.{greatestLegLength}
-use Rattle.work_area.specs.Area.{Held}
 use Rattle.search.specs.Ways.{line, Distance}
 
 -- The cells. For each line: the length found to it (past the limit of the search where no way is within it), and the line before it.
--- While a search is under way 4,096 is added to the latter where the line waits: it is still to be gone on from.
+-- While a search is under way `pending` is added to the latter where the line waits: it is still to be gone on from.
+abbrev pub pending : ℕ
+pending = 4_096
+
 abbrev pub lengthTo : List ℕ → ℕ → ℕ
-lengthTo w l = getD w (8_192 + l) 0
+lengthTo w l = getD w (lengthsFrom + l) 0
 
 abbrev pub lineBefore : List ℕ → ℕ → ℕ
-lineBefore w l = getD w (9_216 + l) 0
+lineBefore w l = getD w (beforeFrom + l) 0
 
 -- For each node the first line of its chain, for each line the next, and for each node the nearest line that ends there.
 abbrev pub firstLeaving : List ℕ → ℕ → ℕ
-firstLeaving w v = getD w (10_240 + v) 0
+firstLeaving w v = getD w (headsFrom + v) 0
+
+abbrev pub listWeight : ℕ
+listWeight = 2_048
 
 abbrev pub nextLeaving : List ℕ → ℕ → ℕ
-nextLeaving w l = getD w (10_752 + l) 0 % 2_048
+nextLeaving w l = getD w (nextFrom + l) 0 % listWeight
 
 abbrev pub nearestLine : List ℕ → ℕ → ℕ
-nearestLine w v = getD w (11_776 + v) 0
+nearestLine w v = getD w (nearestFrom + v) 0
 
--- In the cells of the next lines stands the list of the lines that a search has reached, 2,048 times: 1 + the line at place `i`, or 0.
+-- In the cells of the next lines stands the list of the lines that a search has reached, times `listWeight`: 1 + the line at place `i`, or 0.
 abbrev pub listed : List ℕ → ℕ → ℕ
-listed w i = getD w (10_752 + i) 0 / 2_048
+listed w i = getD w (nextFrom + i) 0 / listWeight
 
 -- The length to a line that is not reached: one past the greatest limit.
 abbrev pub far : ℕ
-far = 150_001
+far = greatestLegLength + 1
 
 -- What a cell says instead of 1 + a line: that there are several.
 abbrev pub several : ℕ

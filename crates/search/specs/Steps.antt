@@ -1,24 +1,24 @@
 -- What the steps of a search promise one another.
+use Rattle.work_area.specs.Area.{searchFrom, beforeFrom, nearestFrom, Held}
+use Rattle.model.specs.Map.{greatestLineCount, greatestNodeCount, Map}
+use Rattle.model.specs.Reading.{greatestLegLength}
+use Rattle.search.specs.Area.{far, pending, several, Chained, Listing, latest, lengthTo, lineBefore, firstLeaving, nextLeaving, listed, sum, Tie}
 use Prim.Native.Nat.{ℕ, _+_, _-_, _*_, _/_, _%_, _≤_, _<_}
 use mathlib.Core.Path.{_≡_}
 use mathlib.Core.List.{List}
 use mathlib.Core.Logic.{_≢_}
 use lib.ListN.{length}
-use Rattle.model.specs.Map.{Map}
 use Rattle.model.specs.Lines.{lineAt, Follows}
-use Rattle.model.specs.Reading.{greatestLegLength}
 use Rattle.buffers.specs.Kept.{Kept}
 use Rattle.search.specs.Ways.{line, Reached}
-use Rattle.work_area.specs.Area.{Held}
-use Rattle.search.specs.Area.{Chained, Listing, latest, lengthTo, lineBefore, firstLeaving, nextLeaving, listed, far, several, sum, Tie}
 
 -- Line `l` waits: its length came down, and it was not gone on from since.
 abbrev pub Waits : List ℕ → ℕ → Type 0
-Waits w l = 4_096 ≤ lineBefore w l
+Waits w l = pending ≤ lineBefore w l
 
 -- What is noted at line `j`: 0, 1 + a line before it, or several.
 abbrev pub noteAt : List ℕ → ℕ → ℕ
-noteAt w j = lineBefore w j % 4_096
+noteAt w j = lineBefore w j % pending
 
 -- By way of line `l` line `j` is as near as the length found to it, or nearer.
 pub record Leads (m : Map) (w : List ℕ) (l j : ℕ) : Type 0 where
@@ -60,26 +60,26 @@ pub record Underway (q : Task) (lines class limit count : ℕ) (w : List ℕ) : 
   pub listing : Listing w lines count
   pub small : limit ≤ greatestLegLength
   pub real : (l : ℕ) → l < lines → lengthTo w l ≤ limit → Reached (q .map) class (q .first) (line l) (lengthTo w l)
-  pub counted : (l j : ℕ) → l < lines → lengthTo w l ≤ limit → lineBefore w l < 4_096 → Follows (q .map) l j → Counted (q .map) class limit l j w
+  pub counted : (l j : ℕ) → l < lines → lengthTo w l ≤ limit → lineBefore w l < pending → Follows (q .map) l j → Counted (q .map) class limit l j w
   pub backed : (j : ℕ) → j < lines → lengthTo w j ≤ limit → Backed (q .map) w j (noteAt w j)
 
 -- It falls with each length that does, and with each line that waits no longer.
 abbrev pub weight : List ℕ → ℕ → ℕ
-weight w lines = sum (λ l. 2 * lengthTo w l + lineBefore w l / 4_096) lines
+weight w lines = sum (λ l. 2 * lengthTo w l + lineBefore w l / pending) lines
 
 -- A step took `w` to `v`: the search is under way, with `r` lines on the list, and lengths only came down.
 pub record Stepped (q : Task) (lines class limit : ℕ) (w v : List ℕ) (r : ℕ) : Type 0 where
   pub underway : Underway q lines class limit r v
   pub fell : (k : ℕ) → k < lines → lengthTo v k ≤ lengthTo w k
   pub lighter : weight v lines ≤ weight w lines
-  pub kept : Kept 8_192 11_776 w v
+  pub kept : Kept searchFrom nearestFrom w v
 
 -- What the last search found is forgotten: no line is reached.
 pub record Forgotten (m : Map) (lines : ℕ) (w v : List ℕ) : Type 0 where
   pub chained : Chained v lines m
   pub empty : Listing v lines 0
   pub all : (l : ℕ) → l < lines → far ≤ lengthTo v l
-  pub kept : Kept 8_192 11_776 w v
+  pub kept : Kept searchFrom nearestFrom w v
 
 -- The length to the first line is its own, where its class and its length allow that.
 abbrev pub Based : Map → ℕ → ℕ → ℕ → List ℕ → Type 0
@@ -91,12 +91,12 @@ pub record Begun (m : Map) (lines class first limit : ℕ) (w v : List ℕ) (r :
   pub underway : Underway (task m first) lines class limit r v
   pub based : Based m class first limit v
   pub waits : (i : ℕ) → i < r → Waits v (listed v i - 1)
-  pub kept : Kept 8_192 11_776 w v
+  pub kept : Kept searchFrom nearestFrom w v
 
 -- The line at place `r` waits; or `r` is past the list, and none on it does.
 pub record Sought (count : ℕ) (w : List ℕ) (r : ℕ) : Type 0 where
   pub waits : r < count → Waits w (listed w r - 1)
-  pub none : count ≤ r → (i : ℕ) → i < count → lineBefore w (listed w i - 1) < 4_096
+  pub none : count ≤ r → (i : ℕ) → i < count → lineBefore w (listed w i - 1) < pending
 
 -- `r` is `x` with line `l` noted.
 pub record Noted (x l r : ℕ) : Type 0 where
@@ -109,20 +109,20 @@ pub record Noted (x l r : ℕ) : Type 0 where
 pub record TieNoted (l j : ℕ) (w v : List ℕ) : Type 0 where
   pub note : ℕ
   pub noted : Noted (noteAt w j) l note
-  pub here : lineBefore v j ≡ lineBefore w j / 4_096 * 4_096 + note
-  pub kept : Kept (9_216 + j) (9_216 + j + 1) w v
+  pub here : lineBefore v j ≡ lineBefore w j / pending * pending + note
+  pub kept : Kept (beforeFrom + j) (beforeFrom + j + 1) w v
 
 -- The length to line `j` is `x` now, with the note `note`; it waits, and it is on the list, which has `r` lines.
 pub record Lowered (j note count x : ℕ) (w v : List ℕ) (r : ℕ) : Type 0 where
   pub found : lengthTo v j ≡ x
-  pub before : lineBefore v j ≡ 4_096 + note
-  pub others : (k : ℕ) → k < 1_024 → k ≢ j → (lengthTo v k ≡ lengthTo w k) × (lineBefore v k ≡ lineBefore w k)
-  pub heads : (a : ℕ) → a < 512 → firstLeaving v a ≡ firstLeaving w a
-  pub nexts : (k : ℕ) → k < 1_024 → nextLeaving v k ≡ nextLeaving w k
-  pub list : (i : ℕ) → i < 1_024 → i ≢ count → listed v i ≡ listed w i
+  pub before : lineBefore v j ≡ pending + note
+  pub others : (k : ℕ) → k < greatestLineCount → k ≢ j → (lengthTo v k ≡ lengthTo w k) × (lineBefore v k ≡ lineBefore w k)
+  pub heads : (a : ℕ) → a < greatestNodeCount → firstLeaving v a ≡ firstLeaving w a
+  pub nexts : (k : ℕ) → k < greatestLineCount → nextLeaving v k ≡ nextLeaving w k
+  pub list : (i : ℕ) → i < greatestLineCount → i ≢ count → listed v i ≡ listed w i
   pub known : lengthTo w j < far → (r ≡ count) × (listed v count ≡ listed w count)
   pub new : far ≤ lengthTo w j → (r ≡ count + 1) × (listed v count ≡ j + 1)
-  pub kept : Kept 8_192 11_776 w v
+  pub kept : Kept searchFrom nearestFrom w v
 
 -- Line `l` is taken into account at line `j`.
 pub record Relaxed (q : Task) (lines class limit l j : ℕ) (w v : List ℕ) (r : ℕ) : Type 0 where
@@ -135,7 +135,7 @@ pub record Relaxed (q : Task) (lines class limit l j : ℕ) (w v : List ℕ) (r 
 -- `r` is the chain of the lines to go on to from line `l`, or 0 where that does not wait.
 pub record Ahead (m : Map) (lines l : ℕ) (w : List ℕ) (r : ℕ) : Type 0 where
   pub waits : Waits w l → r ≡ latest m (lineAt m l .end) lines
-  pub still : lineBefore w l < 4_096 → r ≡ 0
+  pub still : lineBefore w l < pending → r ≡ 0
 
 -- The search went on from line `l`, where that waited, and maybe from others.
 pub record WentOn (q : Task) (lines class limit l : ℕ) (w v : List ℕ) (r : ℕ) : Type 0 where

@@ -1,6 +1,6 @@
 // The chains of the lines that leave each node, and which line can follow which.
 use crate::cells::FAR;
-use crate::cells::LISTED;
+use crate::cells::LIST_WEIGHT;
 use buffers::fill;
 use buffers::wide;
 use work_area::END;
@@ -52,7 +52,7 @@ pub fn next_leaving(work: &[u32], lines: usize, at: usize) -> usize
     ensures { λ r. ⌜ ((m : Map) → Held (now (work .entry)) lines m → Chained (now (work .entry)) lines m
         → r ≡ latest m (lineAt m (at - 1) .start) (at - 1)) ⌝ }
 {
-    wide(work[NEXT + (at - 1)] % LISTED)
+    wide(work[NEXT + (at - 1)] % LIST_WEIGHT)
 }
 
 // Whether line `j` can stand straight after line `l`. Nothing else decides that.

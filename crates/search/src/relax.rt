@@ -1,6 +1,6 @@
 // How a search goes on from a line: at each line that can follow it, the length to that comes down, or the line is noted as one before it.
+use crate::cells::PENDING;
 use crate::cells::SEVERAL;
-use crate::cells::WAITING;
 use crate::cells::by_way_of;
 use crate::cells::line_at;
 use crate::chains::first_leaving;
@@ -13,17 +13,17 @@ use work_area::END;
 use work_area::FRC;
 use work_area::LENGTHS;
 use work_area::field;
+ghost use Rattle.work_area.specs.Area.{Held};
+ghost use Rattle.model.specs.Map.{greatestLineCount, Map};
+ghost use Rattle.model.specs.Work.{workLength};
+ghost use Rattle.search.specs.Area.{Chained, listed};
 ghost use Prim.Native.Nat.{_-_, _≤_, _<_};
 ghost use lib.ListN.{length};
-ghost use Rattle.model.specs.Work.{workLength};
-ghost use Rattle.model.specs.Map.{Map};
-ghost use Rattle.work_area.specs.Area.{Held};
-ghost use Rattle.search.specs.Area.{Chained, listed};
 ghost use Rattle.search.specs.Steps.{Task, Underway, Noted, TieNoted, Relaxed, Ahead, WentOn};
 
 // `x` with line `l` noted.
 fn note(x: u32, l: usize) -> u32
-    requires { ⌜ l < 1_024 ⌝ }
+    requires { ⌜ l < greatestLineCount ⌝ }
     ensures { λ r. ⌜ Noted x l r ⌝ }
 {
     let line = (l + 1) as u32;
@@ -38,12 +38,12 @@ fn note(x: u32, l: usize) -> u32
 
 // Notes line `l` at line `j`.
 fn note_tie(work: &mut [u32], l: usize, j: usize)
-    requires { ⌜ (l < 1_024) × (j < 1_024) × (workLength ≤ length (now work)) ⌝ }
+    requires { ⌜ (l < greatestLineCount) × (j < greatestLineCount) × (workLength ≤ length (now work)) ⌝ }
     ensures { λ _. ⌜ TieNoted l j (now (work .entry)) (now (work .exit)) ⌝ }
 {
     let x = work[BEFORE + j];
-    let noted = note(x % WAITING, l);
-    work[BEFORE + j] = x / WAITING * WAITING + noted;
+    let noted = note(x % PENDING, l);
+    work[BEFORE + j] = x / PENDING * PENDING + noted;
 }
 
 // Takes line `l` into account at line `j`, where that can follow it: how many lines are on the list now.
@@ -88,7 +88,7 @@ fn ahead(work: &[u32], lines: usize, l: usize) -> usize
     requires { ⌜ ((m : Map) × Held (now work) lines m × Chained (now work) lines m) ⌝ }
     ensures { λ r. ⌜ ((m : Map) → Held (now (work .entry)) lines m → Chained (now (work .entry)) lines m → Ahead m lines l (now (work .entry)) r) ⌝ }
 {
-    if work[BEFORE + l] < WAITING {
+    if work[BEFORE + l] < PENDING {
         return 0;
     }
     first_leaving(work, lines, wide(field(work, l, END)))
@@ -114,7 +114,7 @@ fn relax_all(
         reached = relax(work, lines, l, at - 1, reached, class, limit);
         at = next_leaving(work, lines, at);
     }
-    work[BEFORE + l] = work[BEFORE + l] % WAITING;
+    work[BEFORE + l] = work[BEFORE + l] % PENDING;
     reached
 }
 

@@ -7,19 +7,19 @@ use work_area::FRC;
 use work_area::LENGTH;
 use work_area::NODE_NUMBERS;
 use work_area::field;
+ghost use Rattle.work_area.specs.Area.{lineSize, nodeNumbers, lineNumbers, Held};
+ghost use Rattle.model.specs.Map.{Map};
 ghost use mathlib.Core.Path.{_≡_};
 ghost use Prim.Native.Nat.{_≤_, _<_, max};
 ghost use lib.ListN.{length, getD};
-ghost use Rattle.model.specs.Map.{Map};
 ghost use Rattle.model.specs.Lines.{lineAt, nodeAt, total, lowest};
-ghost use Rattle.work_area.specs.Area.{nodeNumbers, lineNumbers, Held};
 ghost use Rattle.fields.specs.Leg.{attributesIn};
 ghost use Rattle.stretches.specs.Stretch.{Known};
 ghost use Rattle.stretches.specs.Attributes.{attributesBy};
 
 // Number `k` of the line that stands at `i`.
 pub fn field_of(work: &[u32], lines: usize, list: &[u32], i: usize, k: usize) -> u32
-    requires { ⌜ Known lines (now list) × (i < length (now list)) × (k < 7) ⌝ }
+    requires { ⌜ Known lines (now list) × (i < length (now list)) × (k < lineSize) ⌝ }
     requires { ⌜ ((m : Map) × Held (now work) lines m) ⌝ }
     ensures { λ r. ⌜ ((m : Map) → Held (now (work .entry)) lines m
         → r ≡ getD (lineNumbers (lineAt m (getD (now (list .entry)) i 0))) k 0) ⌝ }
@@ -71,7 +71,7 @@ pub fn attributes_of(
     i: usize,
     bearing: usize,
 ) -> Attributes
-    requires { ⌜ Known lines (now list) × (i < length (now list)) × (bearing < 7) ⌝ }
+    requires { ⌜ Known lines (now list) × (i < length (now list)) × (bearing < lineSize) ⌝ }
     requires { ⌜ ((m : Map) × Held (now work) lines m) ⌝ }
     ensures { λ r. ⌜ ((m : Map) → Held (now (work .entry)) lines m
         → attributesIn r ≡ attributesBy (lineAt m (getD (now (list .entry)) i 0)) bearing) ⌝ }

@@ -3,6 +3,7 @@ use crate::lines::field_of;
 use crate::lines::total_length;
 use buffers::wide;
 use model::Refusal;
+use model::limits::GREATEST_STRETCH;
 use work_area::END;
 use work_area::LENGTH;
 use work_area::START;
@@ -14,9 +15,6 @@ ghost use Rattle.model.specs.Map.{Map};
 ghost use Rattle.model.specs.Stretch.{unknown, gap, stretchOf};
 ghost use Rattle.work_area.specs.Area.{Held};
 ghost use Rattle.stretches.specs.Stretch.{Known, Skips, Leaves, Checks};
-
-// The greatest count of lines.
-pub const GREATEST_STRETCH: usize = 64;
 
 // What remains of a stretch: its lines from `from` up to `to`, and what is left of its offsets.
 pub struct Remaining {

@@ -4,27 +4,35 @@ use cases::Part;
 use cases::word_at;
 use console::print;
 use console::print_each;
-use depot_map::MapRead;
-use depot_map::read_map;
 use fields::leg::Arrival;
 use fields::leg::Attributes;
 use fields::leg::Leg;
 use fields::leg::Reading;
 use fields::leg::Verdict;
 use fields::leg::longest_leg;
-use legs::verdict;
+use legs::ends::both;
+use legs::from_line;
 use libc::STDOUT_FILENO;
+use model::limits::WORK_LENGTH;
 use model::number_of;
-use search::chains::link;
+use opening::Opened;
+use opening::open_map;
+use search::chains::first_leaving;
+use search::chains::next_leaving;
 use search::search;
 use ways::Ways;
 use ways::to_line;
 use ways::write_lines;
-ghost use Prim.Native.Nat.{_≤_, _<_};
+use work_area::MAP_LINES;
+ghost use mathlib.Core.Path.{_≡_};
+ghost use Prim.Native.Nat.{_<_, _≤_};
 ghost use lib.ListN.{length};
-ghost use Rattle.model.specs.Map.{Map};
-ghost use Rattle.work_area.specs.Area.{Holds};
+ghost use Rattle.model.specs.Map.{Map, greatestLineCount};
+ghost use Rattle.fields.specs.Leg.{legIn};
+ghost use Rattle.legs.specs.Verdict.{Anywhere, Judged};
 ghost use Rattle.search.specs.Area.{Set};
+ghost use Rattle.model.specs.Work.{workLength};
+ghost use Rattle.model.specs.Reading as definitions;
 
 fn attributes_at(words: &[u8], at: usize) -> Attributes
     requires { ⌜ at < 1_000 ⌝ }
@@ -73,34 +81,56 @@ fn print_verdict(found: Verdict) {
     }
 }
 
-// The verdict on a leg of the map that the work area holds. A leg from no node has no reading.
-fn judge(work: &mut [u32], nodes: u32, lines: u32, leg: Leg) -> Verdict
-    requires { ⌜ ((m : Map) × Holds (now work) nodes lines m) ⌝ }
-    ensures { λ _. ⌜ ((m : Map) → Holds (now (work .entry)) nodes lines m → Set m lines (now (work .exit))) ⌝ }
+// The verdict on a leg: that on each line that leaves its first node, one after another.
+fn verdict(work: &mut [u32], lines: usize, leg: Leg) -> Verdict
+    requires { ⌜ ((m : Map) × Set m lines (now work) × (leg .from < length (m .nodes))) ⌝ }
+    ensures { λ r. ⌜ ((m : Map) → Set m lines (now (work .entry)) → leg .from < length (m .nodes)
+        → Judged m lines (definitions.Reading m (legIn leg)) Anywhere (now (work .entry)) (now (work .exit)) r) ⌝ }
 {
-    link(work, lines as usize);
+    let from = leg.from;
+    let mut found = Verdict::Unread;
+    let mut at = first_leaving(work, lines, from);
+    while 0 < at {
+        let more = from_line(work, lines, at - 1, leg);
+        found = both(found, more);
+        at = next_leaving(work, lines, at);
+    }
+    found
+}
+
+// The same where the leg may start at no node of the map: then it has no reading.
+fn judge(work: &mut [u32], nodes: u32, lines: usize, leg: Leg) -> Verdict
+    requires { ⌜ ((m : Map) × Set m lines (now work) × (length (m .nodes) ≡ nodes)) ⌝ }
+    ensures { λ _. ⌜ ((m : Map) → Set m lines (now (work .entry)) → length (m .nodes) ≡ nodes → Set m lines (now (work .exit))) ⌝ }
+{
     if nodes as usize <= leg.from {
         return Verdict::Unread;
     }
-    verdict(work, lines as usize, leg)
+    verdict(work, lines, leg)
 }
 
 // Writes the lines of a leg's reading by a search from its first line, and answers how many they are: 0 where the search finds no such reading.
-fn write_reading(work: &mut [u32], lines: u32, leg: Leg, reading: Reading, out: &mut [u32]) -> usize
-    requires { ⌜ ((m : Map) × Set m lines (now work)) × (1_024 ≤ length (now out)) ⌝ }
-    ensures { λ r. ⌜ r ≤ 1_024 ⌝ }
+fn write_reading(
+    work: &mut [u32],
+    lines: usize,
+    leg: Leg,
+    reading: Reading,
+    out: &mut [u32],
+) -> usize
+    requires { ⌜ ((m : Map) × Set m lines (now work)) × (greatestLineCount ≤ length (now out)) ⌝ }
+    ensures { λ r. ⌜ r ≤ greatestLineCount ⌝ }
 {
     let first = reading.first;
     let last = reading.last;
-    if lines as usize <= first {
+    if lines <= first {
         return 0;
     }
-    if lines as usize <= last {
+    if lines <= last {
         return 0;
     }
     let limit = longest_leg(leg.distance);
-    search(work, lines as usize, first, leg.lowest, limit);
-    match to_line(work, lines as usize, first, last, limit) {
+    search(work, lines, first, leg.lowest, limit);
+    match to_line(work, lines, first, last, limit) {
         Ways::Nothing => 0,
         Ways::Several(_) => 0,
         Ways::One(end, _, count) => {
@@ -111,15 +141,15 @@ fn write_reading(work: &mut [u32], lines: u32, leg: Leg, reading: Reading, out: 
 }
 
 // Prints the verdict on a leg, and the lines of its reading where there is one.
-fn show_leg(work: &mut [u32], nodes: u32, lines: u32, leg: Leg)
-    requires { ⌜ ((m : Map) × Holds (now work) nodes lines m) ⌝ }
+fn show_leg(work: &mut [u32], nodes: u32, lines: usize, leg: Leg)
+    requires { ⌜ ((m : Map) × Set m lines (now work) × (length (m .nodes) ≡ nodes)) ⌝ }
 {
     let found = judge(work, nodes, lines, leg);
     print_verdict(found);
     let Verdict::One(reading) = found else {
         return;
     };
-    let mut out = [0; 1024];
+    let mut out = [0; MAP_LINES];
     let n = write_reading(work, lines, leg, reading, &mut out);
     io::write_all(STDOUT_FILENO, b":");
     print_each(b" ", &out[..n]);
@@ -127,11 +157,11 @@ fn show_leg(work: &mut [u32], nodes: u32, lines: u32, leg: Leg)
 
 // Prints what is found of a leg, or why its map is refused.
 fn show(map: &[u8], words: &[u8], work: &mut [u32])
-    requires { ⌜ 12_288 ≤ length (now work) ⌝ }
+    requires { ⌜ workLength ≤ length (now work) ⌝ }
 {
-    match read_map(map, work) {
-        MapRead::Whole(nodes, lines) => show_leg(work, nodes, lines, leg_of(words)),
-        MapRead::Refused(why) => {
+    match open_map(map, work) {
+        Opened::Ready(nodes, lines) => show_leg(work, nodes, lines, leg_of(words)),
+        Opened::Refused(why) => {
             print(b"refused ", number_of(why) as u64);
         }
     }
@@ -139,7 +169,7 @@ fn show(map: &[u8], words: &[u8], work: &mut [u32])
 
 // Each case has two parts, a map and a leg. An empty map stands for the one before it.
 fn run(bytes: &[u8], work: &mut [u32])
-    requires { ⌜ 12_288 ≤ length (now work) ⌝ }
+    requires { ⌜ workLength ≤ length (now work) ⌝ }
 {
     let mut at: usize = 0;
     let mut map_from: usize = 0;
@@ -163,7 +193,7 @@ fn run(bytes: &[u8], work: &mut [u32])
 
 fn main() {
     let mut bytes = cases::megabyte();
-    let mut work = [0; 12288];
+    let mut work = [0; WORK_LENGTH];
     let n = console::load(b"cases.bin", &mut bytes);
     run(&bytes[..n], &mut work);
 }

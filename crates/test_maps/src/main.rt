@@ -6,19 +6,27 @@ use console::print;
 use depot_map::MapRead;
 use depot_map::read_map;
 use libc::STDOUT_FILENO;
+use model::limits::WORK_LENGTH;
 use model::number_of;
+use work_area::LINE_NUMBERS;
+use work_area::LINES;
+use work_area::NODE_NUMBERS;
+ghost use Rattle.model.specs.Work.{workLength};
 ghost use Prim.Native.Nat.{_≤_};
 ghost use lib.ListN.{length};
 
 fn show(map: &[u8], work: &mut [u32])
-    requires { ⌜ 12_288 ≤ length (now work) ⌝ }
+    requires { ⌜ workLength ≤ length (now work) ⌝ }
 {
     match read_map(map, work) {
         MapRead::Whole(nodes, lines) => {
-            let sum = sum_of(work, 0, 2 * nodes as usize, 0);
+            let sum = sum_of(work, 0, NODE_NUMBERS * nodes as usize, 0);
             print(b"nodes ", nodes as u64);
             print(b" lines ", lines as u64);
-            print(b" sum ", sum_of(work, 1024, 1024 + 7 * lines as usize, sum));
+            print(
+                b" sum ",
+                sum_of(work, LINES, LINES + LINE_NUMBERS * lines as usize, sum),
+            );
         }
         MapRead::Refused(why) => {
             print(b"refused ", number_of(why) as u64);
@@ -28,7 +36,7 @@ fn show(map: &[u8], work: &mut [u32])
 }
 
 fn run(bytes: &[u8], work: &mut [u32])
-    requires { ⌜ 12_288 ≤ length (now work) ⌝ }
+    requires { ⌜ workLength ≤ length (now work) ⌝ }
 {
     let mut at = 0;
     loop {
@@ -42,7 +50,7 @@ fn run(bytes: &[u8], work: &mut [u32])
 
 fn main() {
     let mut bytes = cases::megabyte();
-    let mut work = [0; 12288];
+    let mut work = [0; WORK_LENGTH];
     let n = console::load(b"cases.bin", &mut bytes);
     run(&bytes[..n], &mut work);
 }

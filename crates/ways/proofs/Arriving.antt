@@ -1,16 +1,16 @@
 -- Of the lines that end at a node the nearest: line by line of the list, and for every node in its cell.
-use Prim.Native.Nat.{ℕ, _+_, _*_, _≤_, _<_}
+use Rattle.work_area.specs.Area.{linePlace, endNode, lengthsFrom, nextFrom, nearestFrom, searchTo, Held}
+use Rattle.model.specs.Map.{greatestLineCount, greatestNodeCount, Map}
+use Rattle.model.specs.Reading.{greatestLegLength}
+use Rattle.search.specs.Area.{Listing, Among, lengthTo, listed, nearestLine, named, Nearest, NearestLine}
+use Prim.Native.Nat.{ℕ, _+_, _≤_, _<_}
 use mathlib.Core.Path.{_≡_, refl, sym, _∙_, ap, subst}
 use mathlib.Core.List.{List}
 use mathlib.Core.Logic.{_⊎_, ⊎-elim}
 use native.Mathlib.Omega.{arith}
 use lib.ListN.{length, getD, set}
-use Rattle.model.specs.Map.{Map}
 use Rattle.model.specs.Lines.{lineAt}
-use Rattle.model.specs.Reading.{greatestLegLength}
 use Rattle.buffers.specs.Kept.{Kept, Filled}
-use Rattle.work_area.specs.Area.{Held}
-use Rattle.search.specs.Area.{Listing, Among, lengthTo, listed, nearestLine, named, Nearest, NearestLine}
 use Rattle.ways.specs.Told.{Ended}
 use Rattle.search.proofs.Leaving.{end-is, end-in}
 use Rattle.buffers.proofs.Kept.{kept-none, kept-then, at-set, kept-set}
@@ -31,11 +31,11 @@ nearest-start =
     }
 
 -- Where the lengths and the list are kept, so is which line is nearest.
-nearest-kept : {m : Map} {limit n i a x hi : ℕ} {w v : List ℕ} → n ≤ 1024 → i ≤ n → Kept 11776 hi w v →
+nearest-kept : {m : Map} {limit n i a x hi : ℕ} {w v : List ℕ} → n ≤ greatestLineCount → i ≤ n → Kept nearestFrom hi w v →
     Nearest m limit w (Among w n i) a x → Nearest m limit v (Among v n i) a x
 nearest-kept {n = n} {i = i} {w = w} {v = v} few i≤ k c =
-    let e : (l : ℕ) → l < n → lengthTo v l ≡ lengthTo w l = λ l l<. k .below (8192 + l) (omega arith) in
-    let same : (j : ℕ) → j < n → listed v j ≡ listed w j = λ j j<. rw (k .below (10752 + j) (omega arith)) refl in
+    let e : (l : ℕ) → l < n → lengthTo v l ≡ lengthTo w l = λ l l<. k .below (lengthsFrom + l) (omega arith) in
+    let same : (j : ℕ) → j < n → listed v j ≡ listed w j = λ j j<. rw (k .below (nextFrom + j) (omega arith)) refl in
     let to : (l : ℕ) → Among w n i l → Among v n i l =
     λ l a. let b = a .below in record { line = a .line; place = a .place; below = b; here = same (a .place) (omega arith) ∙ a .here } in
     let from : (l : ℕ) → Among v n i l → Among w n i l =
@@ -78,7 +78,7 @@ module _ {m : Map} {limit n i : ℕ} {w : List ℕ} {v x : ℕ} (c : Nearest m l
       there : (k : ℕ) → k ≡ l → lineAt m k .end ≡ v → (limit < lengthTo w k) ⊎ ((0 < x) × (lengthTo w (named x) < lengthTo w k))
       there k e q = rw e (passes (rw e at q))
 
-  module _ (few : l < 1024) (line : l < n) (ends : lineAt m l .end ≡ v) (near : lengthTo w l ≤ limit) where
+  module _ (few : l < greatestLineCount) (line : l < n) (ends : lineAt m l .end ≡ v) (near : lengthTo w l ≤ limit) where
     -- It is nearer than all before it.
     pub nearest-new : {y : ℕ} → y ≡ l + 1 → (0 < x → lengthTo w l < lengthTo w (named x)) → Nearest m limit w (Among w n (i + 1)) v y
     nearest-new {y} z less =
@@ -136,14 +136,14 @@ nearest-all {limit = limit} {n = n} {i = i} {w = w} s c≤ small c =
 -- The cell of each node says which of the lines at the first `i` places is nearest, and nothing else is changed.
 pub record Ending (m : Map) (n i limit : ℕ) (w v : List ℕ) : Type 0 where
   pub cells : (a : ℕ) → a < length (m .nodes) → Nearest m limit v (Among v n i) a (nearestLine v a)
-  pub kept : Kept 11776 12288 w v
+  pub kept : Kept nearestFrom searchTo w v
 
-pub ending-start : {m : Map} {n limit : ℕ} {w v : List ℕ} → Held v n m → Filled 11776 512 0 w v → Ending m n 0 limit v v
+pub ending-start : {m : Map} {n limit : ℕ} {w v : List ℕ} → Held v n m → Filled nearestFrom greatestNodeCount 0 w v → Ending m n 0 limit v v
 ending-start h f =
     let k = h .formed in
     record { cells = λ a a<. rw (f .filled a (omega arith)) nearest-start; kept = kept-none }
 
-module _ {m : Map} {n i l limit v : ℕ} {u w : List ℕ} (h : Held u n m) (l< : l < n) (k : Ending m n i limit u w) (is : v ≡ getD w (1024 + 7 * l + 1) 0) where
+module _ {m : Map} {n i l limit v : ℕ} {u w : List ℕ} (h : Held u n m) (l< : l < n) (k : Ending m n i limit u w) (is : v ≡ getD w (linePlace l + endNode) 0) where
   pub ends-there : lineAt m l .end ≡ v
   ends-there = sym (end-is (held-kept (omega arith) (k .kept) h) l< is)
 
@@ -151,16 +151,16 @@ module _ {m : Map} {n i l limit v : ℕ} {u w : List ℕ} (h : Held u n m) (l< :
   there = end-in (held-kept (omega arith) (k .kept) h) l< is
 
   pub ending-step : {r : ℕ} → i < n → listed w i ≡ l + 1 → Nearest m limit w (Among w n (i + 1)) v r →
-      Ending m n (i + 1) limit u (set w (11776 + v) r)
+      Ending m n (i + 1) limit u (set w (nearestFrom + v) r)
   ending-step {r} i< at now =
       let s = k .kept .same in
       let n≤ = few h in
       let t = there in
       let f = h .formed in
-      let stored = kept-set {lo = 11776} {hi = 12288} {w = w} (11776 + v) r (omega arith) (omega arith) in
+      let stored = kept-set {lo = nearestFrom} {hi = searchTo} {w = w} (nearestFrom + v) r (omega arith) (omega arith) in
       record {
         cells = λ a a<. nearest-kept n≤ (omega arith) stored
-            (at-set (λ a y. a < length (m .nodes) → Nearest m limit w (Among w n (i + 1)) a y) w 11776 v r (omega arith) (λ _. now)
+            (at-set (λ a y. a < length (m .nodes) → Nearest m limit w (Among w n (i + 1)) a y) w nearestFrom v r (omega arith) (λ _. now)
             (λ a d a<. nearest-same (k .cells a a<) l at (λ e. absurd (d (sym e ∙ ends-there)))) a a<);
         kept = kept-then (k .kept) stored;
       }

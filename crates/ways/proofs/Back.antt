@@ -1,4 +1,6 @@
 -- The way back from a line, by the line before each: where that is always one, the way is the only one of its length.
+use Rattle.model.specs.Map.{Map}
+use Rattle.search.specs.Area.{far, several, lengthTo, linesTo, Tie, Before, Searched, lineBefore}
 use Prim.Native.Nat.{ℕ, zero, suc, _+_, _-_, _≤_, _<_}
 use mathlib.Core.Path.{_≡_, refl, sym, _∙_, ap, subst}
 use mathlib.Core.Bool.{cond}
@@ -8,10 +10,8 @@ use native.Mathlib.Nat.{eq-or-lt-of-le}
 use native.Mathlib.Omega.{arith}
 use borrow.Author.Tests.{ltb-true, ltb-false}
 use lib.Dec.{ltb}
-use Rattle.model.specs.Map.{Map}
 use Rattle.model.specs.Lines.{lineAt, total, lastOf}
 use Rattle.search.specs.Ways.{line, Way, Reached, Least, Only, Two}
-use Rattle.search.specs.Area.{lengthTo, linesTo, Tie, Before, Searched, lineBefore}
 use Rattle.search.proofs.Plain.{Grown, one, more, class-first, class-last, total-more, total-one, way-one, way-more, way-of, grown-of, same-before}
 use Rattle.search.proofs.Follows.{known}
 use Rattle.buffers.proofs.Cases.{le-or-lt, picked}
@@ -211,10 +211,10 @@ module _ {m : Map} {n c f limit : ℕ} {w : List ℕ} {last at count : ℕ} (s :
       (λ p. p)
       (le-or-lt _ 0)
 
-  pub walked-less : (at ≡ f → ⊥) → lineBefore w at < 2000 → lengthTo w (lineBefore w at - 1) < lengthTo w at
+  pub walked-less : (at ≡ f → ⊥) → lineBefore w at < several → lengthTo w (lineBefore w at - 1) < lengthTo w at
   walked-less out low = tie-near s (k .inside) (k .near) (before .tie (before-some out) low) .1
 
-  pub walked-step : (at ≡ f → ⊥) → lineBefore w at < 2000 → Walked m n c f limit w last (lineBefore w at - 1) (count + 1)
+  pub walked-step : (at ≡ f → ⊥) → lineBefore w at < several → Walked m n c f limit w last (lineBefore w at - 1) (count + 1)
   walked-step out low =
       let p = lineBefore w at - 1 in
       let t = before .tie (before-some out) low in
@@ -234,7 +234,7 @@ module _ {m : Map} {n c f limit : ℕ} {w : List ℕ} {last at count : ℕ} (s :
         two = λ o. k .two (two-step s (k .inside) (k .near) t o);
       }
 
-  pub walked-two : 2000 ≤ lineBefore w at → Two m c f (line last) (lengthTo w last)
+  pub walked-two : several ≤ lineBefore w at → Two m c f (line last) (lengthTo w last)
   walked-two big = let t = before .many big in k .two (two-ties s (k .inside) (k .near) (t .2) (t .3) (t .4))
 
   pub walked-one : at ≡ f → Only m c f (line last) (lengthTo w last) (linesTo w last count)

@@ -1,43 +1,43 @@
 -- What stays known when other parts of the work area change. For the callers of the search.
+use Rattle.work_area.specs.Area.{lengthsFrom, beforeFrom, headsFrom, nextFrom, nearestFrom, Held}
+use Rattle.model.specs.Map.{Map}
+use Rattle.search.specs.Area.{listWeight, Chained, lengthTo, Searched}
 use Prim.Native.Nat.{ℕ, _+_, _/_, _%_, _≤_, _<_}
 use mathlib.Core.Path.{_≡_, sym, _∙_, ap}
 use mathlib.Core.List.{List}
 use native.Mathlib.Omega.{arith}
-use Rattle.model.specs.Map.{Map}
 use Rattle.buffers.specs.Kept.{Kept}
-use Rattle.work_area.specs.Area.{Held}
-use Rattle.search.specs.Area.{Chained, lengthTo, Searched}
 use Rattle.work_area.proofs.Holding.{held-kept, few}
 use Rattle.search.proofs.Reached.{listing-same}
 use Rattle.ways.proofs.Ties.{before-kept}
 
 module _ {lo hi n : ℕ} {w v : List ℕ} {m : Map} where
   -- `nearest_lines` leaves what a search found, the chains and the list.
-  pub searched-kept : {c f limit : ℕ} → 10240 ≤ lo → Kept lo hi w v → Searched m n c f limit w → Searched m n c f limit v
+  pub searched-kept : {c f limit : ℕ} → headsFrom ≤ lo → Kept lo hi w v → Searched m n c f limit w → Searched m n c f limit v
   searched-kept low k s =
       let h = s .held in
       let n≤ = few h in
-      let e : (l : ℕ) → l < n → lengthTo w l ≡ lengthTo v l = λ l l<. sym (k .below (8192 + l) (omega arith)) in
+      let e : (l : ℕ) → l < n → lengthTo w l ≡ lengthTo v l = λ l l<. sym (k .below (lengthsFrom + l) (omega arith)) in
       record {
         held = held-kept (omega arith) k h;
         inside = s .inside;
         small = s .small;
         found = λ l l<. rw (e l l<) at (s .found l l<);
         tied = λ j j< near.
-            rw (k .below (9216 + j) (omega arith)) (before-kept (omega arith) (h .formed .few-lines) k (s .tied j j< (omega (arith, e j j<))));
+            rw (k .below (beforeFrom + j) (omega arith)) (before-kept (omega arith) (h .formed .few-lines) k (s .tied j j< (omega (arith, e j j<))));
       }
 
-  pub chained-above : 11776 ≤ lo → Kept lo hi w v → Held w n m → Chained w n m → Chained v n m
+  pub chained-above : nearestFrom ≤ lo → Kept lo hi w v → Held w n m → Chained w n m → Chained v n m
   chained-above low k h ch =
       let f = h .formed in
       let n≤ = few h in
       record {
-        heads = λ a a<. k .below (10240 + a) (omega arith) ∙ ch .heads a a<;
-        nexts = λ l l<. ap (λ (x : ℕ). x % 2048) (k .below (10752 + l) (omega arith)) ∙ ch .nexts l l<;
+        heads = λ a a<. k .below (headsFrom + a) (omega arith) ∙ ch .heads a a<;
+        nexts = λ l l<. ap (λ (x : ℕ). x % listWeight) (k .below (nextFrom + l) (omega arith)) ∙ ch .nexts l l<;
         listing = (
           ch .listing .0,
-          listing-same (λ l l<. k .below (8192 + l) (omega arith))
-              (λ i i<. ap (λ (x : ℕ). x / 2048) (k .below (10752 + i) (omega arith)))
+          listing-same (λ l l<. k .below (lengthsFrom + l) (omega arith))
+              (λ i i<. ap (λ (x : ℕ). x / listWeight) (k .below (nextFrom + i) (omega arith)))
               (ch .listing .1),
         );
       }

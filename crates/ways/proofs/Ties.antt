@@ -1,25 +1,26 @@
 -- The lines before each line: where the lengths are kept, so are the ties.
+use Rattle.work_area.specs.Area.{lengthsFrom, beforeFrom}
+use Rattle.model.specs.Map.{greatestLineCount, Map}
+use Rattle.search.specs.Area.{Tie, Before}
 use Prim.Native.Nat.{ℕ, _+_, _≤_}
 use mathlib.Core.List.{List}
 use native.Mathlib.Omega.{arith}
 use lib.ListN.{length}
-use Rattle.model.specs.Map.{Map}
 use Rattle.buffers.specs.Kept.{Kept}
-use Rattle.search.specs.Area.{Tie, Before}
 use Rattle.search.proofs.Follows.{known}
 use Rattle.buffers.proofs.Kept.{kept-sym}
 
-tie-kept : {m : Map} {lo hi : ℕ} {w v : List ℕ} {l j : ℕ} → 9216 ≤ lo → length (m .lines) ≤ 1024 → Kept lo hi w v → Tie m w l j → Tie m v l j
+tie-kept : {m : Map} {lo hi : ℕ} {w v : List ℕ} {l j : ℕ} → beforeFrom ≤ lo → length (m .lines) ≤ greatestLineCount → Kept lo hi w v → Tie m w l j → Tie m v l j
 tie-kept {l = l} {j = j} low few k t =
     let from = t .known in
     let to = known (t .follows) in
     record {
       known = from;
       follows = t .follows;
-      equal = omega (arith, t .equal, k .below (8192 + l) (omega arith), k .below (8192 + j) (omega arith));
+      equal = omega (arith, t .equal, k .below (lengthsFrom + l) (omega arith), k .below (lengthsFrom + j) (omega arith));
     }
 
-pub before-kept : {m : Map} {lo hi i j x : ℕ} {w v : List ℕ} → 9216 ≤ lo → length (m .lines) ≤ 1024 → Kept lo hi w v → Before m w i j x → Before m v i j x
+pub before-kept : {m : Map} {lo hi i j x : ℕ} {w v : List ℕ} → beforeFrom ≤ lo → length (m .lines) ≤ greatestLineCount → Kept lo hi w v → Before m w i j x → Before m v i j x
 before-kept low few k a =
     record {
       none = λ e l l< t. a .none e l l< (tie-kept low few (kept-sym k) t);

@@ -1,13 +1,13 @@
 -- From the ways to the nearest lines that end at a node to the ways to the node.
+use Rattle.model.specs.Map.{Map}
+use Rattle.search.specs.Area.{far, several, lengthTo, named, Searched, NearestLine}
 use Prim.Native.Nat.{ℕ, _≤_, _<_}
 use mathlib.Core.Path.{_≡_, refl, sym, _∙_, ap, subst}
 use mathlib.Core.List.{List}
 use mathlib.Core.Logic.{⊎-elim}
 use native.Mathlib.Omega.{arith}
-use Rattle.model.specs.Map.{Map}
 use Rattle.model.specs.Lines.{lineAt, total, lastOf}
 use Rattle.search.specs.Ways.{line, node, Way, Reached, Least, Beyond}
-use Rattle.search.specs.Area.{lengthTo, named, Searched, NearestLine}
 use Rattle.ways.specs.Told.{SeveralLeast, Told}
 use Rattle.ways.specs.declared.Ways.{Ways}
 use Rattle.ways.specs.declared.Ways.the-variants.{Nothing, Several, One}
@@ -49,7 +49,7 @@ module _ {m : Map} {n c f limit v x : ℕ} {w : List ℕ} (s : Searched m n c f 
     least : Least m c f (node v) (lengthTo w (named x))
     least = record { some = reached (k .ends pos) (at .some); least = bound }
 
-    pub node-several : 2000 ≤ x → SeveralLeast m c f limit (node v) (lengthTo w (named x))
+    pub node-several : several ≤ x → SeveralLeast m c f limit (node v) (lengthTo w (named x))
     node-several big =
         let o = k .many big in
         let d = k .near pos in
@@ -69,7 +69,7 @@ module _ {m : Map} {n c f limit v x : ℕ} {w : List ℕ} (s : Searched m n c f 
     same l =
         omega (arith, l .least _ (at .some .way), at .some .sum, at .least _ (l .some .way), l .some .sum)
 
-    told : x < 2000 → (r : Ways) → Told m n c f limit (line (named x)) w r → Told m n c f limit (node v) w r
+    told : x < several → (r : Ways) → Told m n c f limit (line (named x)) w r → Told m n c f limit (node v) w r
     told low Nothing h = absurd (omega (arith, h _ (at .some .way), at .some .sum, k .near pos))
     told low (Several length) h =
         let e = k .ends pos in
@@ -100,5 +100,5 @@ module _ {m : Map} {n c f limit v x : ℕ} {w : List ℕ} (s : Searched m n c f 
           h .3,
         )
 
-    pub node-told : {l : ℕ} → l ≡ named x → x < 2000 → (r : Ways) → Told m n c f limit (line l) w r → Told m n c f limit (node v) w r
+    pub node-told : {l : ℕ} → l ≡ named x → x < several → (r : Ways) → Told m n c f limit (line l) w r → Told m n c f limit (node v) w r
     node-told e low r h = told low r (subst (λ (y : ℕ). Told m n c f limit (line y) w r) e h)

@@ -1,26 +1,26 @@
 -- The lines of a way, written from the last to the first.
+use Rattle.work_area.specs.Area.{Held}
+use Rattle.model.specs.Map.{greatestLineCount, Map}
+use Rattle.search.specs.Area.{linesTo, lineBefore}
 use Prim.Native.Nat.{ℕ, zero, suc, _-_, _≤_, _<_}
 use mathlib.Core.Path.{_≡_, refl, sym, _∙_, ap}
 use mathlib.Core.List.{List, [], _∷_, _++_, append-nil}
 use native.Mathlib.Omega.{arith}
 use lib.ListN.{length, set, drop, length-set}
 use lib.Seq.{append-snoc, drop-cons, drop-length, drop-set-lt, getD-set-same}
-use Rattle.model.specs.Map.{Map}
 use Rattle.model.specs.Lines.{Connected, single, linked}
-use Rattle.work_area.specs.Area.{Held}
-use Rattle.search.specs.Area.{linesTo, lineBefore}
 use Rattle.work_area.proofs.Holding.{few}
 
 -- All are numbers of lines.
 abbrev pub Numbers : List ℕ → Type 0
 Numbers [] = Unit {0}
-Numbers (l ∷ ls) = (l < 1024) × Numbers ls
+Numbers (l ∷ ls) = (l < greatestLineCount) × Numbers ls
 
 pub numbers : {m : Map} {w : List ℕ} {n : ℕ} {ls : List ℕ} → Held w n m → Connected m ls → Numbers ls
 numbers h (single k) = (omega (arith, few h), tt)
 numbers h (linked k f c) = (omega (arith, few h), numbers h c)
 
-numbers-apart : (xs : List ℕ) (l : ℕ) → Numbers (xs ++ l ∷ []) → Numbers xs × (l < 1024)
+numbers-apart : (xs : List ℕ) (l : ℕ) → Numbers (xs ++ l ∷ []) → Numbers xs × (l < greatestLineCount)
 numbers-apart [] l h = (tt, h .0)
 numbers-apart (x ∷ xs) l h = let r = numbers-apart xs l (h .1) in ((h .0, r .0), r .1)
 
@@ -30,7 +30,7 @@ apart w at zero pos = absurd (omega arith)
 apart w at (suc j) pos = let z : suc j - 1 ≡ j = omega arith in rw z refl
 
 pub numbers-last : (w : List ℕ) (at left : ℕ) → 0 < left → Numbers (linesTo w at left) →
-    Numbers (linesTo w (lineBefore w at - 1) (left - 1)) × (at < 1024)
+    Numbers (linesTo w (lineBefore w at - 1) (left - 1)) × (at < greatestLineCount)
 numbers-last w at left pos h = numbers-apart (linesTo w (lineBefore w at - 1) (left - 1)) at (rw (apart w at left pos) at h)
 
 drop-set : (out : List ℕ) (i x : ℕ) → i < length out → drop i (set out i x) ≡ x ∷ drop (suc i) out

@@ -1,17 +1,18 @@
 -- What is asked of a finished search.
+use Rattle.work_area.specs.Area.{nearestFrom, searchTo}
+use Rattle.model.specs.Map.{Map}
+use Rattle.search.specs.Area.{Reaching, linesTo}
 use Prim.Native.Nat.{ℕ, _≤_, _<_}
 use mathlib.Core.List.{List}
-use Rattle.model.specs.Map.{Map}
 use Rattle.buffers.specs.Kept.{Kept}
 use Rattle.search.specs.Ways.{Target, Least, Only, Two, Beyond}
-use Rattle.search.specs.Area.{Reaching, linesTo}
 use Rattle.ways.specs.declared.Ways.{Ways}
 use Rattle.ways.specs.declared.Ways.the-variants.{Nothing, Several, One}
 
 -- The cell of each node says which line is nearest to it, and nothing else is changed.
 pub record Ended (m : Map) (lines limit : ℕ) (w v : List ℕ) : Type 0 where
   pub reaching : Reaching m lines limit v
-  pub kept : Kept 11_776 12_288 w v
+  pub kept : Kept nearestFrom searchTo w v
 
 -- Several ways within the limit are of least length.
 pub record SeveralLeast (m : Map) (class first limit : ℕ) (to : Target) (length : ℕ) : Type 0 where

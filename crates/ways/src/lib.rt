@@ -3,15 +3,15 @@ use buffers::wide;
 use search::cells::SEVERAL;
 use work_area::BEFORE;
 use work_area::LENGTHS;
+ghost use Rattle.work_area.specs.Area.{Held};
+ghost use Rattle.model.specs.Map.{greatestLineCount, Map};
+ghost use Rattle.model.specs.Work.{workLength};
+ghost use Rattle.search.specs.Area.{Searched, NearestLine, lineBefore, linesTo};
 ghost use mathlib.Core.Path.{_≡_};
 ghost use Prim.Native.Nat.{ℕ, _-_, _≤_, _<_};
 ghost use lib.ListN.{length};
-ghost use Rattle.model.specs.Map.{Map};
 ghost use Rattle.model.specs.Lines.{Connected};
-ghost use Rattle.model.specs.Work.{workLength};
 ghost use Rattle.search.specs.Ways.{line, node};
-ghost use Rattle.work_area.specs.Area.{Held};
-ghost use Rattle.search.specs.Area.{Searched, NearestLine, lineBefore, linesTo};
 ghost use Rattle.ways.specs.Told.{Told};
 
 pub mod nodes;
@@ -65,7 +65,7 @@ pub fn to_node(work: &[u32], lines: usize, first: usize, x: u32, limit: u32) -> 
 
 // The line before line `l` on a way. Before the first line it is of no use.
 fn line_before(work: &[u32], l: usize) -> usize
-    requires { ⌜ (l < 1_024) × (workLength ≤ length (now work)) ⌝ }
+    requires { ⌜ (l < greatestLineCount) × (workLength ≤ length (now work)) ⌝ }
     ensures { λ r. ⌜ r ≡ lineBefore (now (work .entry)) l - 1 ⌝ }
 {
     let x = wide(work[BEFORE + l]);

@@ -8,20 +8,20 @@ use work_area::LENGTHS;
 use work_area::NEAREST;
 use work_area::NODES;
 use work_area::field;
+ghost use Rattle.work_area.specs.Area.{Held};
+ghost use Rattle.model.specs.Map.{greatestLineCount, greatestNodeCount, Map};
+ghost use Rattle.model.specs.Work.{workLength};
+ghost use Rattle.model.specs.Reading.{greatestLegLength};
+ghost use Rattle.search.specs.Area.{Chained, Among, Nearest, NearestLine, listed, nearestLine};
 ghost use mathlib.Core.Path.{_≡_};
 ghost use Prim.Native.Nat.{ℕ, _+_, _≤_, _<_};
 ghost use lib.ListN.{length};
-ghost use Rattle.model.specs.Map.{Map};
 ghost use Rattle.model.specs.Lines.{lineAt};
-ghost use Rattle.model.specs.Work.{workLength};
-ghost use Rattle.model.specs.Reading.{greatestLegLength};
-ghost use Rattle.work_area.specs.Area.{Held};
-ghost use Rattle.search.specs.Area.{Chained, Among, Nearest, NearestLine, listed, nearestLine};
 ghost use Rattle.ways.specs.Told.{Ended};
 
 // The number `x` of a node with line `l`, which ends there and is next on the list, taken into account.
 fn nearer(work: &[u32], x: u32, l: usize, limit: u32) -> u32
-    requires { ⌜ (l < 1_024) × (workLength ≤ length (now work)) ⌝ }
+    requires { ⌜ (l < greatestLineCount) × (workLength ≤ length (now work)) ⌝ }
     ensures { λ r. ⌜ ((m : Map) → (lines i v : ℕ) → lineAt m l .end ≡ v → l < lines → listed (now (work .entry)) i ≡ l + 1
         → (Among (now (work .entry)) lines i l → ⊥) → Nearest m limit (now (work .entry)) (Among (now (work .entry)) lines i) v x
         → Nearest m limit (now (work .entry)) (Among (now (work .entry)) lines (i + 1)) v r) ⌝ }
@@ -100,7 +100,7 @@ pub fn nearest_lines(work: &mut [u32], lines: usize, limit: u32)
 
 // What stands in the cell of node `v`.
 pub fn nearest_at(work: &[u32], v: usize) -> u32
-    requires { ⌜ (v < 512) × (workLength ≤ length (now work)) ⌝ }
+    requires { ⌜ (v < greatestNodeCount) × (workLength ≤ length (now work)) ⌝ }
     ensures { λ r. ⌜ r ≡ nearestLine (now (work .entry)) v ⌝ }
 {
     work[NEAREST + v]

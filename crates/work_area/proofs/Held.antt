@@ -1,5 +1,7 @@
 -- The nodes and lines that a work area holds: one by one, and after a change elsewhere.
-use Prim.Native.Nat.{ℕ, zero, suc, _+_, _*_, _≤_, _<_}
+use Rattle.work_area.specs.Area.{nodeSize, nodePlace, latitude, lineSize, linePlace}
+use Rattle.model.specs.Map.{Node, Line}
+use Prim.Native.Nat.{ℕ, zero, suc, _+_, _≤_, _<_}
 use mathlib.Core.Path.{_≡_, refl, ap, ap₂, subst, _∙_}
 use mathlib.Core.List.{List, [], _∷_, _++_}
 use native.Mathlib.Numerals.{add-one}
@@ -8,10 +10,8 @@ use native.Mathlib.Omega.{arith}
 use lib.ListN.{length, getD, length-append, List·getD-append}
 use lib.Seq.{getD-at}
 use lib.Dec.{lit<}
-use Rattle.model.specs.Map.{Node, Line}
 use Rattle.buffers.specs.Kept.{Kept}
 use Rattle.work_area.specs.Held.{heldNode, lineFrom, heldLine, listed, heldNodes, heldLines}
-use Rattle.work_area.specs.Area.{linePlace}
 
 -- ---- the first n of some numbered things
 
@@ -54,18 +54,18 @@ line-path p q r s t u v = λ i. record { start = p i; end = q i; length = r i; f
 -- ---- a change that leaves them where they stand
 
 module _ {low high : ℕ} {w v : List ℕ} (kept : Kept low high w v) where
-  pub node-same : (i : ℕ) → 2 * i + 2 ≤ low → heldNode v i ≡ heldNode w i
+  pub node-same : (i : ℕ) → nodePlace i + nodeSize ≤ low → heldNode v i ≡ heldNode w i
   unfolding heldNode
-  node-same i h = node-path (kept .below (2 * i) (omega arith)) (kept .below (2 * i + 1) (omega arith))
+  node-same i h = node-path (kept .below (nodePlace i) (omega arith)) (kept .below (nodePlace i + latitude) (omega arith))
 
-  pub nodes-same : (n : ℕ) → 2 * n ≤ low → heldNodes v n ≡ heldNodes w n
+  pub nodes-same : (n : ℕ) → nodePlace n ≤ low → heldNodes v n ≡ heldNodes w n
   nodes-same n h = listed-same (heldNode v) (heldNode w) n (λ i l. node-same i (omega arith))
 
-  pub line-same : (i : ℕ) → linePlace i + 7 ≤ low → heldLine v i ≡ heldLine w i
+  pub line-same : (i : ℕ) → linePlace i + lineSize ≤ low → heldLine v i ≡ heldLine w i
   unfolding heldLine lineFrom
   line-same i h =
       let at = linePlace i in
-      let f : (k : ℕ) → k < 7 → getD v (linePlace i + k) 0 ≡ getD w (linePlace i + k) 0 = λ k l. kept .below (linePlace i + k) (omega arith) in
+      let f : (k : ℕ) → k < lineSize → getD v (linePlace i + k) 0 ≡ getD w (linePlace i + k) 0 = λ k l. kept .below (linePlace i + k) (omega arith) in
       line-path (kept .below (linePlace i) (omega arith)) (f 1 (lit< tt)) (f 2 (lit< tt)) (f 3 (lit< tt)) (f 4 (lit< tt)) (f 5 (lit< tt))
       (f 6 (lit< tt))
 
@@ -73,7 +73,7 @@ module _ {low high : ℕ} {w v : List ℕ} (kept : Kept low high w v) where
   lines-same n h = listed-same (heldLine v) (heldLine w) n (λ i l. line-same i (omega arith))
 
 -- One more is held after those before it.
-pub nodes-more : {w v : List ℕ} {high : ℕ} (i : ℕ) → Kept (2 * i) high w v → heldNodes v (i + 1) ≡ heldNodes w i ++ heldNode v i ∷ []
+pub nodes-more : {w v : List ℕ} {high : ℕ} (i : ℕ) → Kept (nodePlace i) high w v → heldNodes v (i + 1) ≡ heldNodes w i ++ heldNode v i ∷ []
 nodes-more {w} {v} i kept = listed-more (heldNode w) (heldNode v) i (λ k l. node-same kept k (omega arith))
 
 pub lines-more : {w v : List ℕ} {high : ℕ} (i : ℕ) → Kept (linePlace i) high w v →

@@ -1,14 +1,14 @@
 -- A work area that holds a map: it still does after a change from 8,192 on, and what its numbers are.
-use Prim.Native.Nat.{ℕ, _+_, _*_, _≤_, _<_}
+use Rattle.work_area.specs.Area.{nodePlace, latitude, linePlace, searchFrom, codesFrom, Holds, Held}
+use Rattle.model.specs.Map.{greatestLineCount, Map}
+use Prim.Native.Nat.{ℕ, _+_, _≤_, _<_}
 use mathlib.Core.Path.{_≡_, _∙_, sym, subst}
 use mathlib.Core.List.{List}
 use native.Mathlib.Nat.{add-zero}
 use native.Mathlib.Omega.{arith}
 use lib.ListN.{length, getD}
 use lib.Dec.{lit<}
-use Rattle.model.specs.Map.{Map}
 use Rattle.model.specs.Lines.{nodeAt, lineAt}
-use Rattle.work_area.specs.Area.{Holds, Held, codesFrom, linePlace}
 use Rattle.buffers.specs.Kept.{Kept}
 use Rattle.model.specs.WellFormed.{LineOk}
 
@@ -24,7 +24,7 @@ holds-kept h kept l =
       formed = h .formed;
       node-count = h .node-count;
       line-count = h .line-count;
-      node-held = λ i k a b. kept .below (2 * i + k) (omega arith) ∙ h .node-held i k a b;
+      node-held = λ i k a b. kept .below (nodePlace i + k) (omega arith) ∙ h .node-held i k a b;
       line-held = λ i k a b. kept .below (linePlace i + k) (omega arith) ∙ h .line-held i k a b;
     }
 
@@ -32,10 +32,10 @@ holds-kept h kept l =
 
 module _ {w : List ℕ} {nodes lines : ℕ} {m : Map} (h : Holds w nodes lines m) (i : ℕ) where
   module _ (known : i < nodes) where
-    pub lon-at : getD w (2 * i) 0 ≡ nodeAt m i .lon
+    pub lon-at : getD w (nodePlace i) 0 ≡ nodeAt m i .lon
     lon-at = rw add-zero at (h .node-held i 0 known (lit< tt))
 
-    pub lat-at : getD w (2 * i + 1) 0 ≡ nodeAt m i .lat
+    pub lat-at : getD w (nodePlace i + latitude) 0 ≡ nodeAt m i .lat
     lat-at = h .node-held i 1 known (lit< tt)
 
   module _ (known : i < lines) where
@@ -64,7 +64,7 @@ module _ {w : List ℕ} {nodes lines : ℕ} {m : Map} (h : Holds w nodes lines m
 
 module _ {lo hi : ℕ} where
   -- Past the map's part, a change leaves the map. Within the lines before, it leaves the chains and the list.
-  pub held-kept : {w v : List ℕ} {n : ℕ} {m : Map} → 8192 ≤ lo → Kept lo hi w v → Held w n m → Held v n m
+  pub held-kept : {w v : List ℕ} {n : ℕ} {m : Map} → searchFrom ≤ lo → Kept lo hi w v → Held w n m → Held v n m
   held-kept high k h = holds-kept h k high
 
 -- The node count that a caller holds is the map's.
@@ -72,7 +72,7 @@ pub held : {w : List ℕ} {nodes lines : ℕ} {m : Map} → Holds w nodes lines 
 held {w} {lines = lines} {m = m} h = subst (λ (k : ℕ). Holds w k lines m) (sym (h .node-count)) h
 
 module _ {w : List ℕ} {n : ℕ} {m : Map} (h : Held w n m) where
-  pub few : n ≤ 1024
+  pub few : n ≤ greatestLineCount
   few = let f = h .formed in omega arith
 
   pub line-ok : {l : ℕ} → l < n → LineOk (length (m .nodes)) (lineAt m l)

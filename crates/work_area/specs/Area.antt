@@ -20,7 +20,7 @@ nodePlace i = nodeSize * i
 abbrev pub latitude : ℕ
 latitude = 1
 
--- How many numbers a line has, and where those of line `i` start; which of them is which. The start node comes first.
+-- How many numbers a line has, and where those of line `i` start; which of them is which.
 abbrev pub lineSize : ℕ
 lineSize = 7
 
@@ -29,6 +29,9 @@ linesFrom = nodeSize * greatestNodeCount
 
 abbrev pub linePlace : ℕ → ℕ
 linePlace i = linesFrom + lineSize * i
+
+abbrev pub startNode : ℕ
+startNode = 0
 
 abbrev pub endNode : ℕ
 endNode = 1

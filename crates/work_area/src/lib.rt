@@ -1,5 +1,8 @@
 // The work area: where everything stands in it, how a line's numbers are read, and how it is cleared.
 // specs/Area.antt has the same places by name. No other file has an address.
+use model::limits::GREATEST_LINE_COUNT;
+use model::limits::GREATEST_NODE_COUNT;
+use model::limits::WORK_LENGTH;
 ghost use mathlib.Core.Path.{_≡_};
 ghost use Prim.Native.Nat.{_+_, _≤_, _<_};
 ghost use lib.ListN.{length, getD};
@@ -7,21 +10,16 @@ ghost use Rattle.model.specs.Map.{greatestLineCount};
 ghost use Rattle.model.specs.Work.{cleared, workLength};
 ghost use Rattle.work_area.specs.Area.{lineSize, linePlace};
 
-// How many numbers of the area a call uses.
-pub const WORK_LENGTH: usize = 12_288;
-
-// The greatest count of nodes, and of lines.
-pub const GREATEST_NODE_COUNT: u32 = 512;
-
-pub const GREATEST_LINE_COUNT: u32 = 1_024;
-
-pub const NODES: usize = 512;
-
 // How many numbers a node has. The first node's stand at 0.
 pub const NODE_NUMBERS: usize = 2;
 
+// The greatest count of nodes and of lines, as counts of numbers in the area.
+pub const NODES: usize = GREATEST_NODE_COUNT as usize;
+
+pub const MAP_LINES: usize = GREATEST_LINE_COUNT as usize;
+
 // Where the first line's numbers stand, and how many a line has.
-pub const LINES: usize = 1_024;
+pub const LINES: usize = NODE_NUMBERS * NODES;
 
 pub const LINE_NUMBERS: usize = 7;
 
@@ -40,21 +38,28 @@ pub const BEARING_OUT: usize = 5;
 
 pub const BEARING_BACK: usize = 6;
 
-// From here on the area is for searches. While a map is read, the test of equal codes uses it.
-pub const SCRATCH: usize = 8_192;
+// Behind the map. A number for each line: the length found to it, and the line before it.
+pub const LENGTHS: usize = LINES + LINE_NUMBERS * MAP_LINES;
 
-// A number for each line: the length found to it, and the line before it.
-pub const LENGTHS: usize = 8_192;
-
-pub const BEFORE: usize = 9_216;
+pub const BEFORE: usize = LENGTHS + MAP_LINES;
 
 // The chains of the lines that leave a node: 1 + the last such line for each node, 1 + the next for each line, or 0.
-pub const HEADS: usize = 10_240;
+pub const HEADS: usize = BEFORE + MAP_LINES;
 
-pub const NEXT: usize = 10_752;
+pub const NEXT: usize = HEADS + NODES;
 
 // A number for each node: the nearest line that ends there.
-pub const NEAREST: usize = 11_776;
+pub const NEAREST: usize = NEXT + MAP_LINES;
+
+// The same cells while a map is read, for the test of equal codes: the codes of each node, the node before it in its bucket, and the last node
+// of each bucket.
+pub const BUCKETS: usize = 512;
+
+pub const CODES: usize = LINES + LINE_NUMBERS * MAP_LINES;
+
+pub const BUCKET_CHAINS: usize = CODES + NODE_NUMBERS * NODES;
+
+pub const BUCKET_HEADS: usize = BUCKET_CHAINS + NODES;
 
 // Number `k` of line `l`.
 pub fn field(work: &[u32], l: usize, k: usize) -> u32

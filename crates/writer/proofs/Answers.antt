@@ -3,18 +3,16 @@ use Prim.Native.Nat.{ℕ, _≤_, _<_}
 use mathlib.Core.Path.{_≡_, refl, subst}
 use mathlib.Core.List.{List}
 use lib.ListN.{length}
-use borrow.Author.Tests.{lt-ltb, le-ltb}
 use Rattle.model.specs.Map.{Map, MapAnswer, decode}
 use Rattle.model.specs.Refusal.{refusalOf}
 use Rattle.model.specs.Stretch.{Stretch, StretchAnswer, checkStretch}
-use Rattle.model.specs.Outcome.{WriteStretch, WriteMap, Writes}
+use Rattle.model.specs.Outcome.{WriteOutcome, WriteStretch, WriteMap}
 use Rattle.model.specs.Work.{workLength, cleared}
 use Rattle.model.specs.Call.{WriteAnswered, WriteCall}
 use Rattle.model.specs.declared.Refusal.{Refusal}
 use Rattle.model.specs.declared.WriteAnswer.{WriteAnswer}
 use Rattle.model.specs.declared.WriteAnswer.the-variants.{Refused}
-use Rattle.model.proofs.Cleared.{cleared-short}
-use Rattle.model.proofs.Answering.{answered-by, refused-write}
+use Rattle.model.proofs.Answering.{refused-write}
 use Rattle.point_choice.specs.declared.Cut.{Cut}
 use Rattle.point_choice.specs.declared.Cut.the-variants.{Nowhere, Legs}
 use Rattle.stretches.specs.declared.stretch.Remaining.{Remaining}
@@ -22,6 +20,7 @@ use Rattle.stretches.specs.declared.stretch.Checked.{Checked}
 use Rattle.stretches.specs.declared.stretch.Checked.the-variants.{Remains}
 use Rattle.point_choice.specs.Cuts.{NoRoute}
 use Rattle.stretches.specs.Stretch.{Passes, Checks}
+use Rattle.model.proofs.Answering as Answering
 use Rattle.point_choice.specs.Cuts as cuts
 use Rattle.stretches.specs.declared.stretch.Checked.the-variants as checked
 use Rattle.model.specs.declared.Refusal.the-variants as why
@@ -53,14 +52,11 @@ map-refused map s room r e = refused-write r (rw e refl)
 
 -- The whole call.
 module _ (mb : List ℕ) (s : Stretch) (bytes : List ℕ) where
-  call : {after work work′ : List ℕ} {a : WriteAnswer} → WriteAnswered (Writes mb s (length work) (length bytes)) bytes after a → work′ ≡ cleared work →
-      WriteCall mb s work bytes a work′ after
-  call d e = record { outcome = d .outcome; writes = d .asked; answers = d .answers; work-after = e; bytes-after = d .buffer-after }
-
   pub area-short : (work : List ℕ) → length work < workLength → WriteCall mb s work bytes (Refused why.WorkAreaShort) work bytes
   unfolding refusalOf
-  area-short work h = call (refused-write why.WorkAreaShort (rw (lt-ltb (length work) workLength h) refl)) (cleared-short work h)
+  area-short work h =
+      Answering.area-short WriteOutcome.refused (λ m. WriteStretch m (checkStretch m s) (length bytes)) mb h (refused-write why.WorkAreaShort refl)
 
   pub called : {after work work′ : List ℕ} {a : WriteAnswer} → workLength ≤ length work → WriteAnswered (WriteMap (decode mb) s (length bytes)) bytes after a →
       work′ ≡ cleared work → WriteCall mb s work bytes a work′ after
-  called {work = work} h d e = call (answered-by (λ o r. rw (le-ltb (length work) workLength h) r) d) e
+  called h d e = Answering.called WriteOutcome.refused (λ m. WriteStretch m (checkStretch m s) (length bytes)) mb h d e

@@ -1,4 +1,5 @@
 -- The parts put together: tested legs, the choice of points over them and the bytes put make an outcome of the writer.
+use Rattle.leg_tests.proofs.Marks.{mark-sound, mark-complete}
 use Prim.Native.Nat.{ℕ, _+_, _≤_, _<_}
 use mathlib.Core.Path.{sym, subst, _∙_, ap}
 use mathlib.Core.List.{List, _∷_}
@@ -38,10 +39,10 @@ wider f (leg h g r) = leg h (f _ _ h (omega (arith, short r)) g) (wider f r)
 
 module _ {m : Map} {lines : ℕ} {ls table₀ table w v : List ℕ} (joint : Connected m ls) (all : AllTested m lines ls table₀ table w v) where
   sound : Sound (good m) ls (Marked table)
-  sound i j h l one = all .tested i j h l .sound one
+  sound i j h l one = mark-sound _ (all .tested i j h l) one
 
   complete : Complete (good m) ls (Marked table)
-  complete i j h l g = all .tested i j h l .complete g
+  complete i j h l g = mark-complete _ (all .tested i j h l) g
 
   pub takes : {cs : List ℕ} → Best (Marked table) (length ls) 0 cs → Chosen (good m) ls (legsFrom ls 0 cs)
   takes b = chosen (good m) ls (good-filled m) sound complete (filled joint) b

@@ -1,16 +1,15 @@
 // The writer of references (paper 01): `write`, and its parts in the order in which they are asked.
-use depot_map::MapRead;
-use depot_map::read_map;
 use leg_tests::test_legs;
 use model::Refusal;
 use model::WriteAnswer;
+use model::limits::WORK_LENGTH;
+use opening::Opened;
+use opening::open_map;
 use point_choice::Cut;
 use point_choice::choose;
 use reference_bytes::put;
-use search::chains::link;
 use stretches::stretch::Checked;
 use stretches::stretch::check;
-use work_area::WORK_LENGTH;
 use work_area::clear;
 ghost use Prim.Native.Nat.{_≤_};
 ghost use lib.ListN.{length};
@@ -51,8 +50,8 @@ fn on_part(
     }
 }
 
-// The answer on a map that stands in the work area, ready for searches.
-fn on_stretch(
+// The answer on a map that is ready in the work area.
+fn on_map(
     work: &mut [u32],
     lines: usize,
     stretch: &[u32],
@@ -75,7 +74,7 @@ fn on_stretch(
 }
 
 // The answer where the work area is large enough.
-fn on_map(
+fn on_area(
     map: &[u8],
     stretch: &[u32],
     pos: u32,
@@ -86,13 +85,9 @@ fn on_map(
     requires { ⌜ workLength ≤ length (now work) ⌝ }
     ensures { λ r. ⌜ WriteAnswered (WriteMap (decode (now (map .entry))) (stretchOf (now (stretch .entry)) pos neg) (length (now (bytes .entry)))) (now (bytes .entry)) (now (bytes .exit)) r ⌝ }
 {
-    match read_map(map, work) {
-        MapRead::Whole(_, count) => {
-            let lines = count as usize;
-            link(work, lines);
-            on_stretch(work, lines, stretch, pos, neg, bytes)
-        }
-        MapRead::Refused(why) => WriteAnswer::Refused(why),
+    match open_map(map, work) {
+        Opened::Ready(_, lines) => on_map(work, lines, stretch, pos, neg, bytes),
+        Opened::Refused(why) => WriteAnswer::Refused(why),
     }
 }
 
@@ -111,7 +106,7 @@ pub fn write(
     if work.len() < WORK_LENGTH {
         return WriteAnswer::Refused(Refusal::WorkAreaShort);
     }
-    let given = on_map(map, stretch, pos, neg, &mut work[..WORK_LENGTH], bytes);
+    let given = on_area(map, stretch, pos, neg, &mut work[..WORK_LENGTH], bytes);
     clear(work);
     given
 }

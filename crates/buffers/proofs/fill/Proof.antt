@@ -9,22 +9,22 @@ use Rattle.buffers.proofs.fill.Statement.{statement}
 use Rattle.buffers.proofs.fill.Tie as tie
 
 abbrev Inv-loop : tie.InvT-loop
-Inv-loop work₀ base count x i₀ work i = (i ≤ count) × Filled base i x work₀ work
+Inv-loop buffer₀ base count x i₀ buffer i = (i ≤ count) × Filled base i x buffer₀ buffer
 
 abbrev μ-loop : tie.MeasureT-loop
-μ-loop work₀ base count x i₀ work i = count - i
+μ-loop buffer₀ base count x i₀ buffer i = count - i
 
 loop-holds : tie.Need-loop-holds Inv-loop μ-loop
 loop-holds c = (search needs, record { filled = λ l l<. absurd (omega arith); kept = kept-none })
 
-add-work : tie.Need-add-work Inv-loop μ-loop
-add-work c = search needs
+add-buffer : tie.Need-add-buffer Inv-loop μ-loop
+add-buffer c = search needs
 
-mul-work : tie.Need-mul-work Inv-loop μ-loop
-mul-work c = search needs
+mul-buffer : tie.Need-mul-buffer Inv-loop μ-loop
+mul-buffer c = search needs
 
-slice-write-work : tie.Need-slice-write-work Inv-loop μ-loop
-slice-write-work c = search needs
+slice-write-buffer : tie.Need-slice-write-buffer Inv-loop μ-loop
+slice-write-buffer c = search needs
 
 add-i : tie.Need-add-i Inv-loop μ-loop
 add-i c = search needs
@@ -44,4 +44,4 @@ returns c =
 
 pub fill-spec : {M : Type 1} → statement M
 fill-spec =
-    tie.close (tie.spec Inv-loop μ-loop loop-holds add-work mul-work slice-write-work add-i loop-less loop-again same-length returns)
+    tie.close (tie.spec Inv-loop μ-loop loop-holds add-buffer mul-buffer slice-write-buffer add-i loop-less loop-again same-length returns)

@@ -9,7 +9,7 @@ use Rattle.buffers.specs.Kept.{Kept}
 use Rattle.buffers.proofs.Kept.{kept-none, kept-then, kept-within}
 use Rattle.search.specs.Area.{Set}
 use Rattle.point_choice.specs.Cuts.{Tested}
-use Rattle.leg_tests.specs.LegTests.{mark, Says1, Worked}
+use Rattle.leg_tests.specs.LegTests.{mark, Marks, Worked}
 use Rattle.leg_tests.proofs.Rows.{worked-then, rows-on}
 use borrow.Author.Needs.{needs}
 use native.Mathlib.Omega.{arith}
@@ -20,7 +20,7 @@ abbrev Inv-loop : tie.InvT-loop
 Inv-loop work₀ lines stretch table₀ reach₀ i₀ work table reach i =
     (i ≤ length stretch) × (length work ≡ length work₀) × (length table ≡ length table₀) ×
     ((m : Map) → Set m lines work₀ → Connected m stretch →
-    Worked m lines work₀ work × Kept 0 (65 * length stretch) table₀ table × ((k j : ℕ) → k < i → k < j → j ≤ length stretch → Says1 (Tested (good m) stretch k j) (mark table k j)))
+    Worked m lines work₀ work × Kept 0 (65 * length stretch) table₀ table × ((k j : ℕ) → k < i → k < j → j ≤ length stretch → Marks (Tested (good m) stretch k j) (mark table k j)))
 
 abbrev μ-loop : tie.MeasureT-loop
 μ-loop work₀ lines stretch table₀ reach₀ i₀ work table reach i = length stretch - i

@@ -5,7 +5,7 @@ use Prim.Native.Nat.{_-_, _≤_}
 use lib.ListN.{length}
 use mathlib.Core.Path.{sym, _∙_}
 use Rattle.marks.specs.Marks.{markOf, Marked}
-use Rattle.marks.proofs.Marks.{marked-next, says-yes, says-no}
+use Rattle.marks.proofs.Marks.{marked-next}
 use Rattle.marks.proofs.is_kept.Statement.{statement}
 use Rattle.marks.proofs.is_kept.Tie as tie
 
@@ -29,7 +29,7 @@ mark-requires c κs = search needs
 
 returns : tie.Need-returns Inv-loop μ-loop
 returns c =
-    says-no (λ all. c .if1 .taken (all _ (c .before .before .before .loop-test .taken) (c .before .before .before .before .loop .inv .0) ∙ sym (c .before .mark .ensures)))
+    (λ all. c .if1 .taken (all _ (c .before .before .before .loop-test .taken) (c .before .before .before .before .loop .inv .0) ∙ sym (c .before .mark .ensures)))
 
 add-i : tie.Need-add-i Inv-loop μ-loop
 add-i c = search needs
@@ -41,7 +41,7 @@ loop-again : tie.Need-loop-again Inv-loop μ-loop
 loop-again c = (search needs, marked-next markOf (c .before .before .before .before .before .before .args .buffer .now) _ _ (c .before .before .before .before .loop .inv .1) (c .if1 .left ∙ c .before .mark .ensures))
 
 returns-2 : tie.Need-returns-2 Inv-loop μ-loop
-returns-2 c = says-yes (λ k b f. c .before .loop .inv .1 k (omega arith) f)
+returns-2 c = (λ k b f. c .before .loop .inv .1 k (omega arith) f)
 
 pub is-kept-spec : {M : Type 1} → statement M
 is-kept-spec =

@@ -6,15 +6,12 @@ use borrow.Author.Needs.{needs}
 use Rattle.openlr.proofs.no_lines.Statement.{statement}
 use Rattle.openlr.proofs.no_lines.Tie as tie
 
-number-of-requires : tie.Need-number-of-requires
-number-of-requires c κs = search needs
-
-place-of-requires : tie.Need-place-of-requires
-place-of-requires c κs = search needs
+row-of-requires : tie.Need-row-of-requires
+row-of-requires c κs = search needs
 
 returns : tie.Need-returns
 unfolding asRead hostRead
-returns c = rw (c .before .number-of .ensures, c .place-of .ensures) refl
+returns c = rw (c .row-of .ensures .0, c .row-of .ensures .1) refl
 
 pub no-lines-spec : {M : Type 1} → statement M
-no-lines-spec = tie.close (tie.spec number-of-requires place-of-requires returns)
+no-lines-spec = tie.close (tie.spec row-of-requires returns)

@@ -87,7 +87,7 @@ returns c =
     let start = c .before .before .before .before .before .before .before .before .before .before .before .before .before .before .before .before .before in
     let room = c .before .before .before .before .before .before .before .before .before .before .before .before .lesser in
     let call = c .before .before .before .before .before .before .before .before .before .before .read-into in
-    host-read (call .ensures) (c .before .before .before .before .before .before .count .given .1) (call .kept .1 .1 .0) (drop (room .result) (start .args .numbers .now)) (room-is (start .args .numbers .now) (start .args .lines .now) (room .result) (room .ensures) (start .pre)) (c .before .before .put-words .ensures)
+    host-read (start .args .map .now) (start .args .reference .now) (call .ensures) (c .before .before .before .before .before .before .count .given .1) (call .kept .1 .1 .0) (drop (room .result) (start .args .numbers .now)) (room-is (start .args .numbers .now) (start .args .lines .now) (room .result) (room .ensures) (start .pre)) (c .before .before .put-words .ensures)
 
 same-length-3 : tie.Need-same-length-3
 same-length-3 c = search needs
@@ -97,7 +97,7 @@ returns-2 c =
     let start = c .before .before .before .before .before .before .before .before .before .before .before .before .before in
     let room = c .before .before .before .before .before .before .before .before .lesser in
     let call = c .before .before .before .before .before .before .read-into in
-    host-not-read (call .ensures) (c .before .before .why .given .1) (room-is (start .args .numbers .now) (start .args .lines .now) (room .result) (room .ensures) (start .pre)) (c .no-lines .ensures)
+    host-not-read (start .args .map .now) (start .args .reference .now) (call .ensures) (c .before .before .why .given .1) (room-is (start .args .numbers .now) (start .args .lines .now) (room .result) (room .ensures) (start .pre)) (c .no-lines .ensures)
 
 pub read-lines-spec : {M : Type 1} → statement M
 read-lines-spec =

@@ -28,7 +28,9 @@ same-length c = search needs
 
 returns : tie.Need-returns
 unfolding asWritten
-returns c = λ stretch taken. host-written (c .before .before .before .before .before .write-from .ensures) stretch taken (c .before .count .given .1)
+returns c = λ stretch taken.
+    let a = c .before .before .before .before .before .before .before .before .before .before .args in
+    host-written (a .map .now) (a .numbers .now) (a .pos) (a .neg) (c .before .before .before .before .before .write-from .ensures) stretch taken (c .before .count .given .1)
 
 same-length-2 : tie.Need-same-length-2
 same-length-2 c = search needs
@@ -36,7 +38,8 @@ same-length-2 c = search needs
 returns-2 : tie.Need-returns-2
 unfolding asWritten hostWritten
 returns-2 c = λ stretch taken.
-    host-not-written (c .before .before .before .before .before .before .write-from .ensures) stretch taken (c .before .before .why .given .1) (ap (λ (n : ℕ). record { refusal = n; bytes = 0 }) (c .number-of .ensures))
+    let a = c .before .before .before .before .before .before .before .before .before .before .before .args in
+    host-not-written (a .map .now) (a .numbers .now) (a .pos) (a .neg) (c .before .before .before .before .before .before .write-from .ensures) stretch taken (c .before .before .why .given .1) (ap (λ (n : ℕ). record { refusal = n; bytes = 0 }) (c .number-of .ensures))
 
 pub write-taken-spec : {M : Type 1} → statement M
 write-taken-spec =

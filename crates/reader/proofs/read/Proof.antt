@@ -12,14 +12,14 @@ use Rattle.reader.proofs.read.Tie as tie
 returns : tie.Need-returns
 returns c = let a = c .before .before .before .before .before .args in area-short (a .map .now) (a .reference .now) (a .lines .now) (a .work .now) (c .if1 .taken)
 
-slice-relend-prefix-on-bytes : tie.Need-slice-relend-prefix-on-bytes
-slice-relend-prefix-on-bytes c = search needs
+slice-relend-prefix-on-area : tie.Need-slice-relend-prefix-on-area
+slice-relend-prefix-on-area c = search needs
 
-slice-aggregate-on-bytes : tie.Need-slice-aggregate-on-bytes
-slice-aggregate-on-bytes c = sym (length-take-le workLength (c .before .before .before .before .before .before .args .work .now) (omega (arith, c .before .if1 .left)))
+slice-aggregate-on-area : tie.Need-slice-aggregate-on-area
+slice-aggregate-on-area c = sym (length-take-le workLength (c .before .before .before .before .before .before .args .work .now) (omega (arith, c .before .if1 .left)))
 
-on-bytes-requires : tie.Need-on-bytes-requires
-on-bytes-requires c κs = omega (arith, length-take-le workLength (c .before .before .before .before .before .before .before .args .work .now) (omega (arith, c .before .before .if1 .left)))
+on-area-requires : tie.Need-on-area-requires
+on-area-requires c κs = omega (arith, length-take-le workLength (c .before .before .before .before .before .before .before .args .work .now) (omega (arith, c .before .before .if1 .left)))
 
 clear-requires : tie.Need-clear-requires
 clear-requires c κs = search needs
@@ -34,17 +34,17 @@ returns-2 : tie.Need-returns-2
 returns-2 c =
     let a = c .before .before .before .before .before .before .before .before .before .before .before .before .before .before .before .before .args in
     let large = c .before .before .before .before .before .before .before .before .before .before .before .if1 .left in
-    called (a .map .now) (a .reference .now) (a .lines .now) (omega (arith, large)) (c .before .before .before .before .before .before .before .before .on-bytes .ensures)
-    (c .before .before .clear .ensures ∙ cleared-same (a .work .now) (c .before .before .before .before .before .before .before .before .on-bytes .last .1 .1 .0) (omega (arith, large)) (c .before .before .before .before .before .before .before .before .on-bytes .kept .1 .1 .0))
+    called (a .map .now) (a .reference .now) (a .lines .now) (omega (arith, large)) (c .before .before .before .before .before .before .before .before .on-area .ensures)
+    (c .before .before .clear .ensures ∙ cleared-same (a .work .now) (c .before .before .before .before .before .before .before .before .on-area .last .1 .1 .0) (omega (arith, large)) (c .before .before .before .before .before .before .before .before .on-area .kept .1 .1 .0))
 
 pub read-spec : {M : Type 1} → statement M
 read-spec =
     tie.close
     (tie.spec
     returns
-    slice-relend-prefix-on-bytes
-    slice-aggregate-on-bytes
-    on-bytes-requires
+    slice-relend-prefix-on-area
+    slice-aggregate-on-area
+    on-area-requires
     clear-requires
     same-length
     same-length-2

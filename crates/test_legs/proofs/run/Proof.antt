@@ -1,4 +1,5 @@
 -- `run` is safe and ends: each part lies inside the bytes and behind the one before it.
+use Rattle.model.specs.Work.{workLength}
 use native.Mathlib.Omega.{arith}
 use borrow.Author.Needs.{needs}
 use Prim.Native.Nat.{_-_, _≤_}
@@ -13,7 +14,7 @@ use Rattle.test_legs.proofs.run.Tie as tie
 
 abbrev Inv-loop : tie.InvT-loop
 Inv-loop bytes work₀ at₀ map-from₀ map-to₀ t10 work at map-from map-to =
-    (at ≤ length bytes) × (length work ≡ length work₀) × (12_288 ≤ length work₀) × (map-from ≤ map-to) × (map-to ≤ length bytes)
+    (at ≤ length bytes) × (length work ≡ length work₀) × (workLength ≤ length work₀) × (map-from ≤ map-to) × (map-to ≤ length bytes)
 
 abbrev μ-loop : tie.MeasureT-loop
 μ-loop bytes work₀ at₀ map-from₀ map-to₀ t10 work at map-from map-to = length bytes - at

@@ -1,11 +1,11 @@
 -- `show` is safe: a whole map stands in the work area.
 use borrow.Author.Needs.{needs}
-use Rattle.depot_map.proofs.Whole.{read-whole}
+use Rattle.opening.proofs.Told.{opened-ready}
 use Rattle.test_legs.proofs.show.Statement.{statement}
 use Rattle.test_legs.proofs.show.Tie as tie
 
-read-map-requires : tie.Need-read-map-requires
-read-map-requires c κs = search needs
+open-map-requires : tie.Need-open-map-requires
+open-map-requires c κs = search needs
 
 enum-known-nodes : tie.Need-enum-known-nodes
 enum-known-nodes c = search needs
@@ -15,8 +15,8 @@ leg-of-requires c κs = search needs
 
 show-leg-requires : tie.Need-show-leg-requires
 show-leg-requires c κs =
-    let w = read-whole (c .before .before .before .before .before .before .before .read-map .ensures) (c .before .before .before .nodes .given .1) in
-    (w .map, w .held)
+    let w = opened-ready (c .before .before .before .before .before .before .before .open-map .ensures) (c .before .before .before .nodes .given .1) in
+    (w .map, w .set, w .node-count)
 
 enum-known-why : tie.Need-enum-known-why
 enum-known-why c = search needs
@@ -49,7 +49,7 @@ pub show-spec : {M : Type 1} → statement M
 show-spec =
     tie.close
     (tie.spec
-    read-map-requires
+    open-map-requires
     enum-known-nodes
     leg-of-requires
     show-leg-requires

@@ -25,7 +25,7 @@ slice-aggregate-write-reading : tie.Need-slice-aggregate-write-reading
 slice-aggregate-write-reading c = search needs
 
 write-reading-requires : tie.Need-write-reading-requires
-write-reading-requires c κs = let p = c .before .before .before .before .before .before .before .before .before .before .before .pre in ((p .0, c .before .before .before .before .before .before .before .before .judge .ensures (p .0) (p .1)), omega arith)
+write-reading-requires c κs = let p = c .before .before .before .before .before .before .before .before .before .before .before .pre in ((p .0, c .before .before .before .before .before .before .before .before .judge .ensures (p .0) (p .1) (p .2)), omega arith)
 
 slice-aggregate-write-all : tie.Need-slice-aggregate-write-all
 slice-aggregate-write-all c = search needs

@@ -1,11 +1,11 @@
 -- `write_reading` is safe: the ways that `to_line` tells of are in the work area, and there is room for as many lines as a map has.
+use Rattle.model.specs.Map.{greatestLineCount, Map}
 use native.Mathlib.Omega.{arith}
 use borrow.Author.Needs.{needs}
 use mathlib.Core.Path.{sym, subst}
 use Prim.Native.Nat.{ℕ, _≤_}
 use lib.ListN.{length}
 use lib.Seq.{length-take-le}
-use Rattle.model.specs.Map.{Map}
 use Rattle.model.specs.Lines.{Connected}
 use Rattle.search.specs.Ways.{line}
 use Rattle.search.specs.Area.{linesTo, Set}
@@ -25,7 +25,7 @@ told c m set =
     rw (c .before .end .given .1) at (c .before .before .before .to-line .ensures m _ (c .before .before .before .before .before .before .before .search .ensures m (set .held) (set .chained) .searched))
 
 -- It has no more lines than a map.
-counted : (c : tie.After-known-told) → c .before .end .given .0 .1 .1 .0 ≤ 1_024
+counted : (c : tie.After-known-told) → c .before .end .given .0 .1 .1 .0 ≤ greatestLineCount
 counted c = let p = c .before .before .before .before .before .before .before .before .before .before .before .before .before .before .pre .0 in omega (arith, told c (p .0) (p .1) .3, few (p .1 .held))
 
 room : (c : tie.After-known-told) → c .before .end .given .0 .1 .1 .0 ≤ length (c .before .before .before .before .before .before .before .before .before .before .before .before .before .before .args .out .now)

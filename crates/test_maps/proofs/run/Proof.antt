@@ -1,4 +1,5 @@
 -- `run` is safe and ends: each part lies inside the bytes and behind the one before it.
+use Rattle.model.specs.Work.{workLength}
 use native.Mathlib.Omega.{arith}
 use borrow.Author.Needs.{needs}
 use Prim.Native.Nat.{_-_, _≤_}
@@ -11,7 +12,7 @@ use Rattle.test_maps.proofs.run.Statement.{statement}
 use Rattle.test_maps.proofs.run.Tie as tie
 
 abbrev Inv-loop : tie.InvT-loop
-Inv-loop bytes work₀ at₀ work at = (at ≤ length bytes) × (length work ≡ length work₀) × (12_288 ≤ length work₀)
+Inv-loop bytes work₀ at₀ work at = (at ≤ length bytes) × (length work ≡ length work₀) × (workLength ≤ length work₀)
 
 abbrev μ-loop : tie.MeasureT-loop
 μ-loop bytes work₀ at₀ work at = length bytes - at

@@ -1,17 +1,18 @@
 -- `show` is safe: the counts of a whole map are those of its nodes and lines, which lie inside the work area.
+use Rattle.work_area.specs.Area.{Holds}
+use Rattle.model.specs.Map.{greatestLineCount, greatestNodeCount, Map}
+use Rattle.model.specs.Work.{workLength}
 use native.Mathlib.Omega.{arith}
 use borrow.Author.Needs.{needs}
 use Prim.Native.Nat.{ℕ, _≤_}
 use mathlib.Core.List.{List}
 use lib.ListN.{length}
-use Rattle.model.specs.Map.{Map}
-use Rattle.work_area.specs.Area.{Holds}
 use Rattle.depot_map.proofs.Whole.{read-whole}
 use Rattle.test_maps.proofs.show.Statement.{statement}
 use Rattle.test_maps.proofs.show.Tie as tie
 
 -- What a work area that holds a map says of its counts.
-counts : {w : List ℕ} {nodes lines : ℕ} {m : Map} → Holds w nodes lines m → (12_288 ≤ length w) × (nodes ≤ 512) × (lines ≤ 1_024)
+counts : {w : List ℕ} {nodes lines : ℕ} {m : Map} → Holds w nodes lines m → (workLength ≤ length w) × (nodes ≤ greatestNodeCount) × (lines ≤ greatestLineCount)
 counts h = (h .full, omega (arith, h .node-count, h .formed .few-nodes), omega (arith, h .line-count, h .formed .few-lines))
 
 read-map-requires : tie.Need-read-map-requires

@@ -1,8 +1,8 @@
 -- `to_line` meets its contract: the walk back from the last line, by the line before each.
+use Rattle.model.specs.Map.{greatestLineCount, Map}
+use Rattle.search.specs.Area.{far, Searched, lengthTo}
 use Rattle.ways.proofs.Back.{Walked, walked-start, before-some, walked-less, walked-step, walked-two, walked-one, walked-few}
 use Rattle.work_area.proofs.Holding.{few}
-use Rattle.search.specs.Area.{Searched, lengthTo}
-use Rattle.model.specs.Map.{Map}
 use Prim.Native.Nat.{ℕ, _<_}
 use native.Mathlib.Omega.{arith}
 use borrow.Author.Needs.{needs}
@@ -17,7 +17,7 @@ abbrev μ-loop : tie.MeasureT-loop
 μ-loop work lines first last limit length at₀ count₀ at count = lengthTo work at
 
 -- The line of each turn is one.
-known : (c : tie.In-loop Inv-loop μ-loop) → c .before .loop .at < 1024
+known : (c : tie.In-loop Inv-loop μ-loop) → c .before .loop .at < greatestLineCount
 known c =
     let p = c .before .before .before .before .before .pre .1 in
     let i = c .before .loop .inv (p .0) (p .1) (p .2) .inside in

@@ -1,6 +1,7 @@
 -- `write_lines` meets its contract: what is still to be written, and then what is, make up the whole.
-use Rattle.ways.proofs.Written.{Numbers, numbers, numbers-last, write-start, write-step, write-end}
+use Rattle.model.specs.Map.{greatestLineCount}
 use Rattle.search.specs.Area.{linesTo}
+use Rattle.ways.proofs.Written.{Numbers, numbers, numbers-last, write-start, write-step, write-end}
 use mathlib.Core.List.{_++_}
 use lib.ListN.{length, drop, length-set}
 use Prim.Native.Nat.{_≤_, _<_}
@@ -18,7 +19,7 @@ abbrev μ-loop : tie.MeasureT-loop
 μ-loop work last out₀ left₀ at₀ out left at = left
 
 -- The line to be written is the number of a line.
-number : (c : tie.In-loop Inv-loop μ-loop) → c .before .loop .at < 1024
+number : (c : tie.In-loop Inv-loop μ-loop) → c .before .loop .at < greatestLineCount
 number c = numbers-last (c .before .before .before .before .args .work .now) (c .before .loop .at) (c .before .loop .left) (let t = c .loop-test .taken in omega arith) (c .before .loop .inv .2) .1
 
 loop-holds : tie.Need-loop-holds Inv-loop μ-loop

@@ -1,30 +1,55 @@
--- `on_map` meets its contract: bytes that are no map, or the answer on the map.
+-- `on_map` meets its contract: a stretch that is refused, or the answer for what remains of it.
 use native.Mathlib.Omega.{arith}
 use borrow.Author.Needs.{needs}
 use Rattle.model.proofs.Answering.{answered-by}
-use Rattle.depot_map.proofs.Whole.{read-whole, read-refused}
-use Rattle.work_area.proofs.Holding.{held, held-kept}
-use Rattle.writer.proofs.Answers.{map-refused}
+use Rattle.model.specs.Stretch.{stretchOf}
+use Rattle.stretches.proofs.Checks.{left-of, left-connected}
+use Rattle.writer.proofs.Writing.{left-inside}
+use Rattle.writer.proofs.Answers.{left-passes, check-refuses, stretch-refused}
 use Rattle.writer.proofs.on_map.Statement.{statement}
 use Rattle.writer.proofs.on_map.Tie as tie
 
-read-map-requires : tie.Need-read-map-requires
-read-map-requires c κs = search needs
+check-requires : tie.Need-check-requires
+check-requires c κs = search needs
 
-enum-known-count : tie.Need-enum-known-count
-enum-known-count c = search needs
+enum-known-left : tie.Need-enum-known-left
+enum-known-left c = search needs
 
-cast-lines : tie.Need-cast-lines
-cast-lines c = search needs
+mul-on-part : tie.Need-mul-on-part
+mul-on-part c =
+    let p = c .before .before .before .before .before .before .before .before .before .pre in
+    let a = c .before .before .before .before .before .before .before .before .before .args in
+    let l = left-passes (p .0) (stretchOf (a .stretch .now) (a .pos) (a .neg)) (c .before .before .before .before .check .result) (c .before .before .before .before .check .ensures (p .0) (p .1 .held)) (c .before .before .left .given .1) in
+    omega (arith, l .ordered, l .inside)
 
-link-requires : tie.Need-link-requires
-link-requires c κs = let w = read-whole (c .before .before .before .before .before .before .read-map .ensures) (c .before .before .count .given .1) in (w .map, held (w .held))
+sub-on-part : tie.Need-sub-on-part
+sub-on-part c =
+    let p = c .before .before .before .before .before .before .before .before .before .pre in
+    let a = c .before .before .before .before .before .before .before .before .before .args in
+    let l = left-passes (p .0) (stretchOf (a .stretch .now) (a .pos) (a .neg)) (c .before .before .before .before .check .result) (c .before .before .before .before .check .ensures (p .0) (p .1 .held)) (c .before .before .left .given .1) in
+    omega (arith, l .ordered)
 
-on-stretch-requires : tie.Need-on-stretch-requires
-on-stretch-requires c κs =
-    let w = read-whole (c .before .before .before .before .before .before .before .before .before .before .before .read-map .ensures) (c .before .before .before .before .before .before .before .count .given .1) in
-    let l = c .before .before .before .before .link .ensures (w .map) (held (w .held)) in
-    (w .map, record { held = held-kept (omega arith) (l .kept) (held (w .held)); chained = l .chained })
+part-on-part-start : tie.Need-part-on-part-start
+part-on-part-start c =
+    let p = c .before .before .before .before .before .before .before .before .before .pre in
+    let a = c .before .before .before .before .before .before .before .before .before .args in
+    let l = left-passes (p .0) (stretchOf (a .stretch .now) (a .pos) (a .neg)) (c .before .before .before .before .check .result) (c .before .before .before .before .check .ensures (p .0) (p .1 .held)) (c .before .before .left .given .1) in
+    omega (arith, l .ordered)
+
+part-on-part-end : tie.Need-part-on-part-end
+part-on-part-end c =
+    let p = c .before .before .before .before .before .before .before .before .before .pre in
+    let a = c .before .before .before .before .before .before .before .before .before .args in
+    let l = left-passes (p .0) (stretchOf (a .stretch .now) (a .pos) (a .neg)) (c .before .before .before .before .check .result) (c .before .before .before .before .check .ensures (p .0) (p .1 .held)) (c .before .before .left .given .1) in
+    omega (arith, l .inside)
+
+on-part-requires : tie.Need-on-part-requires
+on-part-requires c κs =
+    let p = c .before .before .before .before .before .before .before .before .before .before .before .pre in
+    let a = c .before .before .before .before .before .before .before .before .before .before .before .args in
+    let l = left-passes (p .0) (stretchOf (a .stretch .now) (a .pos) (a .neg)) (c .before .before .before .before .before .before .check .result) (c .before .before .before .before .before .before .check .ensures (p .0) (p .1 .held)) (c .before .before .before .before .left .given .1) in
+    let left = left-of l in
+    (left .few, (p .0, p .1, left-connected l, left-inside left))
 
 enum-known-why : tie.Need-enum-known-why
 enum-known-why c = search needs
@@ -36,27 +61,31 @@ same-length-2 : tie.Need-same-length-2
 same-length-2 c = search needs
 
 returns : tie.Need-returns
-returns c =
-    let w = read-whole (c .before .before .before .before .before .before .before .before .before .before .before .before .before .before .before .before .read-map .ensures) (c .before .before .before .before .before .before .before .before .before .before .before .before .count .given .1) in
-    let l = c .before .before .before .before .before .before .before .before .before .link .ensures (w .map) (held (w .held)) in
-    answered-by (λ o r. rw (w .decodes) r)
-    (c .before .before .before .before .on-stretch .ensures (w .map) (record { held = held-kept (omega arith) (l .kept) (held (w .held)); chained = l .chained }))
+returns c m set =
+    let a = c .before .before .before .before .before .before .before .before .before .before .before .before .before .before .before .before .args in
+    let l = left-passes m (stretchOf (a .stretch .now) (a .pos) (a .neg)) (c .before .before .before .before .before .before .before .before .before .before .before .check .result) (c .before .before .before .before .before .before .before .before .before .before .before .check .ensures m (set .held)) (c .before .before .before .before .before .before .before .before .before .left .given .1) in
+    answered-by (λ o r. rw (l .checked) r) (c .before .before .before .before .on-part .ensures m set (left-connected l) (left-inside (left-of l)))
 
 same-length-3 : tie.Need-same-length-3
 same-length-3 c = search needs
 
 returns-2 : tie.Need-returns-2
-returns-2 c = map-refused _ _ _ _ (read-refused (c .before .before .before .before .before .read-map .ensures) (c .before .why .given .1))
+returns-2 c m set =
+    let a = c .before .before .before .before .before .before .before .before .args in
+    let s = stretchOf (a .stretch .now) (a .pos) (a .neg) in
+    stretch-refused m s _ _ (check-refuses m s (c .before .before .before .check .result) (c .before .before .before .check .ensures m (set .held)) (c .before .why .given .1))
 
 pub on-map-spec : {M : Type 1} → statement M
 on-map-spec =
     tie.close
     (tie.spec
-    read-map-requires
-    enum-known-count
-    cast-lines
-    link-requires
-    on-stretch-requires
+    check-requires
+    enum-known-left
+    mul-on-part
+    sub-on-part
+    part-on-part-start
+    part-on-part-end
+    on-part-requires
     enum-known-why
     same-length
     same-length-2

@@ -13,14 +13,14 @@ use Rattle.writer.proofs.write.Tie as tie
 returns : tie.Need-returns
 returns c = let a = c .before .before .before .before .before .args in area-short (a .map .now) (stretchOf (a .stretch .now) (a .pos) (a .neg)) (a .bytes .now) (a .work .now) (c .if1 .taken)
 
-slice-relend-prefix-on-map : tie.Need-slice-relend-prefix-on-map
-slice-relend-prefix-on-map c = search needs
+slice-relend-prefix-on-area : tie.Need-slice-relend-prefix-on-area
+slice-relend-prefix-on-area c = search needs
 
-slice-aggregate-on-map : tie.Need-slice-aggregate-on-map
-slice-aggregate-on-map c = sym (length-take-le workLength (c .before .before .before .before .before .before .args .work .now) (omega (arith, c .before .if1 .left)))
+slice-aggregate-on-area : tie.Need-slice-aggregate-on-area
+slice-aggregate-on-area c = sym (length-take-le workLength (c .before .before .before .before .before .before .args .work .now) (omega (arith, c .before .if1 .left)))
 
-on-map-requires : tie.Need-on-map-requires
-on-map-requires c κs = omega (arith, length-take-le workLength (c .before .before .before .before .before .before .before .args .work .now) (omega (arith, c .before .before .if1 .left)))
+on-area-requires : tie.Need-on-area-requires
+on-area-requires c κs = omega (arith, length-take-le workLength (c .before .before .before .before .before .before .before .args .work .now) (omega (arith, c .before .before .if1 .left)))
 
 clear-requires : tie.Need-clear-requires
 clear-requires c κs = search needs
@@ -35,17 +35,17 @@ returns-2 : tie.Need-returns-2
 returns-2 c =
     let a = c .before .before .before .before .before .before .before .before .before .before .before .before .before .before .before .before .args in
     let large = c .before .before .before .before .before .before .before .before .before .before .before .if1 .left in
-    called (a .map .now) (stretchOf (a .stretch .now) (a .pos) (a .neg)) (a .bytes .now) (omega (arith, large)) (c .before .before .before .before .before .before .before .before .on-map .ensures)
-    (c .before .before .clear .ensures ∙ cleared-same (a .work .now) (c .before .before .before .before .before .before .before .before .on-map .last .1 .1 .1 .1 .0) (omega (arith, large)) (c .before .before .before .before .before .before .before .before .on-map .kept .1 .1 .1 .1 .0))
+    called (a .map .now) (stretchOf (a .stretch .now) (a .pos) (a .neg)) (a .bytes .now) (omega (arith, large)) (c .before .before .before .before .before .before .before .before .on-area .ensures)
+    (c .before .before .clear .ensures ∙ cleared-same (a .work .now) (c .before .before .before .before .before .before .before .before .on-area .last .1 .1 .1 .1 .0) (omega (arith, large)) (c .before .before .before .before .before .before .before .before .on-area .kept .1 .1 .1 .1 .0))
 
 pub write-spec : {M : Type 1} → statement M
 write-spec =
     tie.close
     (tie.spec
     returns
-    slice-relend-prefix-on-map
-    slice-aggregate-on-map
-    on-map-requires
+    slice-relend-prefix-on-area
+    slice-aggregate-on-area
+    on-area-requires
     clear-requires
     same-length
     same-length-2

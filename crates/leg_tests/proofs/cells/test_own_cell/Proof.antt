@@ -1,4 +1,5 @@
 -- `test_own_cell` meets its contract: the leg is tested, after a search where one is needed, and a leg that fails may end the row.
+use Rattle.leg_tests.proofs.Marks.{mark-sound, mark-complete, marks-yes, marks-no}
 use mathlib.Core.Path.{ap}
 use Prim.Native.Nat.{_≤_}
 use lib.ListN.{getD}
@@ -10,7 +11,6 @@ use Rattle.buffers.proofs.Kept.{kept-none}
 use Rattle.buffers.specs.Decides.{Decides}
 use Rattle.search.specs.Area.{Set}
 use Rattle.leg_tests.specs.LegTests.{legFrom, Usual, Sole, DoneFor, Trial, Measured, Prepared}
-use Rattle.leg_tests.proofs.Marks.{says-yes, says-no}
 use Rattle.leg_tests.proofs.Trials.{class-small, done-for}
 use native.Mathlib.Omega.{arith}
 use borrow.Author.Needs.{needs}
@@ -20,7 +20,7 @@ use Rattle.leg_tests.proofs.cells.test_own_cell.Tie as tie
 -- The leg that is tested is usual.
 module _ (c : tie.Else1) (m : Map) (set : Set m (c .before .before .before .before .before .args .lines) (c .before .before .before .before .before .args .work .now)) (x : Measured m (c .before .before .before .before .before .args .stretch .now) (c .before .before .before .before .before .args .i) (c .before .before .before .before .before .args .j) (c .before .before .before .before .before .args .class) (c .before .before .before .before .before .args .len)) where
   usual : Usual m (slice (c .before .before .before .before .before .args .i) (c .before .before .before .before .before .args .j) (c .before .before .before .before .before .args .stretch .now))
-  usual = c .before .first-mark .ensures m (set .held) (x .sum) .sound (c .if1 .left)
+  usual = mark-sound _ (c .before .first-mark .ensures m (set .held) (x .sum)) (c .if1 .left)
 
   short : c .before .before .before .before .before .args .len ≤ greatestLegLength
   short = omega (arith, usual .within, x .sum)
@@ -42,7 +42,7 @@ returns : tie.Need-returns
 returns c = (
   (c .before .before .before .before .before .pre .0, omega arith),
   λ m set t x done. record {
-    says = says-no (λ own. c .if1 .taken (c .before .first-mark .ensures m (set .held) (x .sum) .complete (own .usual)));
+    says = marks-no (λ own. c .if1 .taken (mark-complete _ (c .before .first-mark .ensures m (set .held) (x .sum)) (own .usual)));
     done = done;
     later = λ k a b. absurd (omega arith);
     worked = record { set = set; kept = kept-none };
@@ -96,7 +96,7 @@ returns-2 c = (
   λ m set t x done.
       let r = prepared (c .before .before .before .before .before) m set done in
       record {
-        says = says-yes (record { usual = usual (c .before .before .before .before .before .before .before .before .before) m set x; sole = rw (c .if2 .taken) at (tested (c .before) m set t x done) });
+        says = marks-yes (record { usual = usual (c .before .before .before .before .before .before .before .before .before) m set x; sole = rw (c .if2 .taken) at (tested (c .before) m set t x done) });
         done = done-for (r .done .done);
         later = λ k a b. absurd (omega arith);
         worked = r .worked;
@@ -117,7 +117,7 @@ returns-3 c = (
   λ m set t x done.
       let r = prepared (c .before .before .before .before .before .before .before) m set done in
       record {
-        says = says-no (λ own. (rw (c .before .before .if2 .left) at (tested (c .before .before .before) m set t x done)) (own .sole));
+        says = marks-no (λ own. (rw (c .before .before .if2 .left) at (tested (c .before .before .before) m set t x done)) (own .sole));
         done = done-for (r .done .done);
         later = c .end-after .ensures .1 m t x (short (c .before .before .before .before .before .before .before .before .before .before .before) m set x) (r .done);
         worked = r .worked;

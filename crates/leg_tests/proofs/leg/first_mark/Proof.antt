@@ -8,7 +8,7 @@ use Rattle.work_area.specs.Area.{Held}
 use Rattle.buffers.specs.Decides.{Decides}
 use lib.Seq.{slice}
 use Rattle.leg_tests.proofs.Slices.{from-of-slice, to-of-slice}
-use Rattle.leg_tests.proofs.Marks.{says-yes, says-no}
+use Rattle.leg_tests.proofs.Marks.{marks-yes, marks-no}
 use borrow.Author.Needs.{needs}
 use native.Mathlib.Omega.{arith}
 use Rattle.leg_tests.proofs.leg.first_mark.Statement.{statement}
@@ -29,7 +29,7 @@ wide-requires : tie.Need-wide-requires
 wide-requires c κs = search needs
 
 returns : tie.Need-returns
-returns c m h e = says-no (λ u. omega (arith, u .within, c .if1 .taken, c .before .wide .ensures .0))
+returns c m h e = marks-no (λ u. omega (arith, u .within, c .if1 .taken, c .before .wide .ensures .0))
 
 node-of-requires : tie.Need-node-of-requires
 node-of-requires c κs = let p = c .before .before .before .before .pre in ((p .0 .0, omega (arith, p .0 .1, p .0 .2), omega arith), p .1)
@@ -47,10 +47,10 @@ fits-requires c κs =
 
 returns-2 : tie.Need-returns-2
 returns-2 c m h e =
-    says-yes (record { fit = rw (c .if2 .taken) at (ends-fit (c .before) m h); within = omega (arith, e, c .before .before .before .before .if1 .left, c .before .before .before .before .before .wide .ensures .0) })
+    marks-yes (record { fit = rw (c .if2 .taken) at (ends-fit (c .before) m h); within = omega (arith, e, c .before .before .before .before .if1 .left, c .before .before .before .before .before .wide .ensures .0) })
 
 returns-3 : tie.Need-returns-3
-returns-3 c m h e = says-no (λ u. (rw (c .if2 .left) at (ends-fit (c .before) m h)) (u .fit))
+returns-3 c m h e = marks-no (λ u. (rw (c .if2 .left) at (ends-fit (c .before) m h)) (u .fit))
 
 pub first-mark-spec : {M : Type 1} → statement M
 first-mark-spec =

@@ -1,4 +1,5 @@
 -- `point_of` meets its contract: each number is that of the leg's lines.
+use Rattle.model.specs.Reading.{greatestLegLength}
 use Rattle.model.proofs.Joining.{filled, connected}
 use Rattle.reference_bytes.proofs.Points.{small, point-is}
 use Prim.Native.Nat.{_+_, _*_, _≤_, _<_}
@@ -10,7 +11,7 @@ use Rattle.reference_bytes.proofs.point.point_of.Tie as tie
 -- P and Q are bytes, and the length is that of a leg.
 bounds : (c : tie.After-total-length) →
     let a = c .before .before .attributes-of .result in
-    (a .frc * 8 + a .fow < 256) × (c .before .lowest-class .result * 32 + a .sector < 256) × (c .total-length .result ≤ 150000)
+    (a .frc * 8 + a .fow < 256) × (c .before .lowest-class .result * 32 + a .sector < 256) × (c .total-length .result ≤ greatestLegLength)
 bounds c =
     let p = c .before .before .before .before .before .pre .1 in
     small (p .2 .formed) (p .3) (c .before .before .attributes-of .result) _ _ (c .before .before .attributes-of .ensures (p .0) (p .2)) (c .before .lowest-class .ensures (p .0) (p .2))

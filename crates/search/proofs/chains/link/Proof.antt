@@ -1,11 +1,12 @@
 -- `link` meets its contract: after `i` turns the chains of the lines below `i` are made.
+use Rattle.work_area.specs.Area.{linePlace, startNode, Held}
+use Rattle.model.specs.Map.{greatestLineCount, greatestNodeCount, Map}
+use Rattle.model.specs.Work.{workLength}
 use Rattle.search.proofs.Leaving.{Linking, link-none, link-step, linked, start-small}
 use Rattle.buffers.proofs.Kept.{kept-then, kept-within}
 use Rattle.work_area.proofs.Holding.{held-kept, few}
-use Rattle.work_area.specs.Area.{Held}
-use Rattle.model.specs.Map.{Map}
 use lib.ListN.{length, getD, length-set}
-use Prim.Native.Nat.{ℕ, _+_, _*_, _≤_, _<_, _-_}
+use Prim.Native.Nat.{ℕ, _+_, _≤_, _<_, _-_}
 use mathlib.Core.Path.{_≡_, refl, _∙_}
 use native.Mathlib.Omega.{arith}
 use borrow.Author.Needs.{needs}
@@ -22,7 +23,7 @@ abbrev μ-loop : tie.MeasureT-loop
 -- What is known at the start of each turn, and once the node is read.
 known : (c : tie.In-loop Inv-loop μ-loop) →
     let k = c .before .loop in
-    (12288 ≤ length (k .work)) × (k .i < 1024) × (getD (k .work) (1024 + 7 * k .i + 0) 0 < 512)
+    (workLength ≤ length (k .work)) × (k .i < greatestLineCount) × (getD (k .work) (linePlace (k .i) + startNode) 0 < greatestNodeCount)
 known c =
     let p = c .before .before .before .before .before .before .before .pre in
     let h = held-kept (omega arith) (c .before .before .before .before .fill .ensures .kept) (p .1) in
@@ -32,7 +33,7 @@ known c =
 
 turn : (c : tie.After-wide Inv-loop μ-loop) →
     let k = c .before .before .before .before .loop in
-    (12288 ≤ length (k .work)) × (k .i < 1024) × (c .wide .result < 512)
+    (workLength ≤ length (k .work)) × (k .i < greatestLineCount) × (c .wide .result < greatestNodeCount)
 turn c =
     let k = known (c .before .before .before) in
     let e = c .wide .ensures in

@@ -1,6 +1,6 @@
 -- `first_waiting` meets its contract: none waits up to the place that is looked at.
+use Rattle.search.specs.Area.{pending, listed, lineBefore}
 use Prim.Native.Nat.{ℕ, _<_, _-_}
-use Rattle.search.specs.Area.{listed, lineBefore}
 use Rattle.search.proofs.Reached.{count-le}
 use borrow.Author.Count.{below-more}
 use native.Mathlib.Omega.{arith}
@@ -9,7 +9,7 @@ use Rattle.search.proofs.list.first_waiting.Statement.{statement}
 use Rattle.search.proofs.list.first_waiting.Tie as tie
 
 abbrev Inv-loop : tie.InvT-loop
-Inv-loop work lines count i₀ i = (k : ℕ) → k < i → lineBefore work (listed work k - 1) < 4096
+Inv-loop work lines count i₀ i = (k : ℕ) → k < i → lineBefore work (listed work k - 1) < pending
 
 abbrev μ-loop : tie.MeasureT-loop
 μ-loop work lines count i₀ i = count - i

@@ -1,10 +1,11 @@
 -- `forget` meets its contract: after `i` turns the first `i` places of the list are gone through.
+use Rattle.work_area.specs.Area.{Held}
+use Rattle.model.specs.Map.{greatestLineCount, Map}
+use Rattle.model.specs.Work.{workLength}
+use Rattle.search.specs.Area.{Listing}
 use lib.ListN.{length, length-set}
 use Prim.Native.Nat.{ℕ, _≤_, _<_, _-_}
 use mathlib.Core.Path.{_≡_, refl}
-use Rattle.model.specs.Map.{Map}
-use Rattle.work_area.specs.Area.{Held}
-use Rattle.search.specs.Area.{Listing}
 use Rattle.search.proofs.Reached.{count-le}
 use Rattle.work_area.proofs.Holding.{few}
 use Rattle.search.proofs.Forgetting.{Forgetting, forgetting-start, forgetting-step, listed-le, at-end, forgotten}
@@ -22,7 +23,7 @@ abbrev μ-loop : tie.MeasureT-loop
 μ-loop work₀ lines i₀ work i = lines - i
 
 -- What is known once the place is read.
-known : (c : tie.Else1 Inv-loop μ-loop) → (12288 ≤ length (c .before .before .before .before .loop .work)) × (c .before .before .before .before .loop .i < 1024) × (c .before .line-at .result ≤ 1024) × (0 < c .before .line-at .result)
+known : (c : tie.Else1 Inv-loop μ-loop) → (workLength ≤ length (c .before .before .before .before .loop .work)) × (c .before .before .before .before .loop .i < greatestLineCount) × (c .before .line-at .result ≤ greatestLineCount) × (0 < c .before .line-at .result)
 known c =
     let p = c .before .before .before .before .before .before .pre in
     let l = c .before .before .before .before .loop .inv in

@@ -1,4 +1,5 @@
 -- `note_tie` meets its contract: the note changes, and whether the line waits does not.
+use Rattle.work_area.specs.Area.{beforeFrom}
 use lib.Seq.{getD-set-same}
 use Prim.Native.Nat.{_+_, _<_}
 use lib.ListN.{length}
@@ -21,10 +22,10 @@ note-requires : tie.Need-note-requires
 note-requires c κs = search needs
 
 mul-work : tie.Need-mul-work
-mul-work c = omega (arith, c .before .before .slice-known .given (9216 + c .before .before .before .args .j))
+mul-work c = omega (arith, c .before .before .slice-known .given (beforeFrom + c .before .before .before .args .j))
 
 add-work : tie.Need-add-work
-add-work c = omega (arith, c .before .before .slice-known .given (9216 + c .before .before .before .args .j), c .note .ensures .low)
+add-work c = omega (arith, c .before .before .slice-known .given (beforeFrom + c .before .before .before .args .j), c .note .ensures .low)
 
 add-work-2 : tie.Need-add-work-2
 add-work-2 c = search needs
@@ -41,11 +42,11 @@ same-length c = search needs
 returns : tie.Need-returns
 returns c =
     let a = c .before .before .before .args in
-    let fits : 9216 + a .j < length (a .work .now) = omega arith in
+    let fits : beforeFrom + a .j < length (a .work .now) = omega arith in
     record {
       note = c .note .result;
       noted = c .note .ensures;
-      here = getD-set-same (a .work .now) (9216 + a .j) _ 0 fits;
+      here = getD-set-same (a .work .now) (beforeFrom + a .j) _ 0 fits;
       kept = kept-set _ _ (omega arith) (omega arith);
     }
 

@@ -1,8 +1,9 @@
 -- `relax_from` meets its contract: the places from `from` up to the one that is looked at are gone through.
+use Rattle.model.specs.Map.{greatestLineCount}
+use Rattle.search.specs.Area.{listed}
 use Prim.Native.Nat.{_≤_, _<_, _-_}
 use mathlib.Core.Path.{_≡_, refl, _∙_}
 use lib.ListN.{length}
-use Rattle.search.specs.Area.{listed}
 use Rattle.search.specs.Steps.{Task, Underway}
 use Rattle.search.proofs.Reached.{count-le}
 use Rattle.work_area.proofs.Holding.{few}
@@ -30,7 +31,7 @@ state c = let p = c .before .before .before .pre .1 in (p .0, c .before .loop .i
 known : (c : tie.In-loop Inv-loop μ-loop) →
     let n = c .before .before .before .args .lines in
     let k = c .before .loop in
-    (k .i < n) × (n ≤ 1024) × (0 < listed (k .work) (k .i)) × (listed (k .work) (k .i) ≤ n)
+    (k .i < n) × (n ≤ greatestLineCount) × (0 < listed (k .work) (k .i)) × (listed (k .work) (k .i) ≤ n)
 known c =
     let g = state c .1 in
     let t = c .loop-test .taken in

@@ -1,6 +1,7 @@
 -- `field_of` meets its contract: the line is one of the map's, and its numbers are those of the work area.
+use Rattle.work_area.specs.Area.{linePlace}
 use mathlib.Core.Path.{_∙_, ap}
-use Prim.Native.Nat.{ℕ, _+_, _*_}
+use Prim.Native.Nat.{ℕ, _+_}
 use lib.ListN.{getD}
 use Rattle.work_area.proofs.Holding.{few}
 use borrow.Author.Needs.{needs}
@@ -26,7 +27,7 @@ returns : tie.Need-returns
 returns c m h =
     let p = c .before .before .before .before .before .pre in
     let a = c .before .before .before .before .before .args in
-    c .field .ensures ∙ ap (λ (l : ℕ). getD (a .work .now) (1024 + 7 * l + a .k) 0) (c .before .wide .ensures .0)
+    c .field .ensures ∙ ap (λ (l : ℕ). getD (a .work .now) (linePlace l + a .k) 0) (c .before .wide .ensures .0)
     ∙ h .line-held _ (a .k) (p .0 .0 (a .i) (p .0 .1)) (p .0 .2)
 
 pub field-of-spec : {M : Type 1} → statement M

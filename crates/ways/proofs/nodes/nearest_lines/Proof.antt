@@ -1,10 +1,11 @@
 -- `nearest_lines` meets its contract: after `i` turns the cells say which of the lines at the first `i` places is nearest.
+use Rattle.work_area.specs.Area.{Held}
+use Rattle.model.specs.Map.{greatestLineCount, greatestNodeCount, Map}
+use Rattle.model.specs.Work.{workLength}
+use Rattle.search.specs.Area.{Chained, listed}
 use Prim.Native.Nat.{_+_, _-_, _≤_, _<_}
 use mathlib.Core.Path.{_≡_, refl, _∙_}
 use lib.ListN.{length, length-set}
-use Rattle.model.specs.Map.{Map}
-use Rattle.work_area.specs.Area.{Held}
-use Rattle.search.specs.Area.{Chained, listed}
 use Rattle.buffers.proofs.Kept.{kept-then}
 use Rattle.work_area.proofs.Holding.{held-kept, few}
 use Rattle.search.proofs.Reached.{count-le}
@@ -38,7 +39,7 @@ standing c m h ch =
 known : (c : tie.Else1 Inv-loop μ-loop) →
     let k = c .before .before .before .before .loop in
     let l = c .before .line-at .result - 1 in
-    (12288 ≤ length (k .work)) × (listed (k .work) (k .i) ≡ l + 1) × (l < c .before .before .before .before .before .before .before .before .before .before .args .lines) × (c .before .before .before .before .before .before .before .before .before .before .args .lines ≤ 1024)
+    (workLength ≤ length (k .work)) × (listed (k .work) (k .i) ≡ l + 1) × (l < c .before .before .before .before .before .before .before .before .before .before .args .lines) × (c .before .before .before .before .before .before .before .before .before .before .args .lines ≤ greatestLineCount)
 known c =
     let p = c .before .before .before .before .before .before .before .before .before .before .pre in
     let s = standing (c .before .before .before) (p .0) (p .1) (p .2) in
@@ -47,7 +48,7 @@ known c =
     let at : listed (c .before .before .before .before .loop .work) (c .before .before .before .before .loop .i) ≡ c .before .line-at .result - 1 + 1 = omega arith in
     (s .0 .full, at, line-there (s .1 .listing .1) (c .before .before .before .loop-test .taken) _ at, few (s .0))
 
-node-in : (c : tie.After-wide Inv-loop μ-loop) → c .wide .result < 512
+node-in : (c : tie.After-wide Inv-loop μ-loop) → c .wide .result < greatestNodeCount
 node-in c =
     let p = c .before .before .before .before .before .before .before .before .before .before .before .before .before .pre in
     let k = known (c .before .before .before) in

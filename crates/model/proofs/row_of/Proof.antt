@@ -1,8 +1,8 @@
--- `place_of` meets its contract, case by case.
+-- `row_of` meets its contract, case by case.
 use borrow.Author.Needs.{needs}
-use Rattle.model.specs.Refusal.{placeOf, refusalOf}
-use Rattle.model.proofs.place_of.Statement.{statement}
-use Rattle.model.proofs.place_of.Tie as tie
+use Rattle.model.specs.Refusal.{numberOf, placeOf, refusalOf}
+use Rattle.model.proofs.row_of.Statement.{statement}
+use Rattle.model.proofs.row_of.Tie as tie
 
 enum-told : tie.Need-enum-told
 enum-told c = search needs
@@ -65,87 +65,87 @@ enum-told-17 : tie.Need-enum-told-17
 enum-told-17 c = search needs
 
 returns : tie.Need-returns
-unfolding placeOf refusalOf
-returns c = simp (c .enum-told .given .1)
+unfolding numberOf placeOf refusalOf
+returns c = (simp (c .enum-told .given .1), simp (c .enum-told .given .1))
 
 returns-2 : tie.Need-returns-2
-unfolding placeOf refusalOf
-returns-2 c = simp (c .enum-told2 .given .1)
+unfolding numberOf placeOf refusalOf
+returns-2 c = (simp (c .enum-told2 .given .1), simp (c .enum-told2 .given .1))
 
 returns-3 : tie.Need-returns-3
-unfolding placeOf refusalOf
-returns-3 c = simp (c .enum-told3 .given .1)
+unfolding numberOf placeOf refusalOf
+returns-3 c = (simp (c .enum-told3 .given .1), simp (c .enum-told3 .given .1))
 
 returns-4 : tie.Need-returns-4
-unfolding placeOf refusalOf
-returns-4 c = simp (c .enum-told4 .given .1)
+unfolding numberOf placeOf refusalOf
+returns-4 c = (simp (c .enum-told4 .given .1), simp (c .enum-told4 .given .1))
 
 returns-5 : tie.Need-returns-5
-unfolding placeOf refusalOf
-returns-5 c = simp (c .enum-told5 .given .1)
+unfolding numberOf placeOf refusalOf
+returns-5 c = (simp (c .enum-told5 .given .1), simp (c .enum-told5 .given .1))
 
 returns-6 : tie.Need-returns-6
-unfolding placeOf refusalOf
-returns-6 c = simp (c .enum-told6 .given .1)
+unfolding numberOf placeOf refusalOf
+returns-6 c = (simp (c .enum-told6 .given .1), simp (c .enum-told6 .given .1))
 
 returns-7 : tie.Need-returns-7
-unfolding placeOf refusalOf
-returns-7 c = simp (c .enum-told7 .given .1)
+unfolding numberOf placeOf refusalOf
+returns-7 c = (simp (c .enum-told7 .given .1), simp (c .enum-told7 .given .1))
 
 returns-8 : tie.Need-returns-8
-unfolding placeOf refusalOf
-returns-8 c = simp (c .enum-told8 .given .1)
+unfolding numberOf placeOf refusalOf
+returns-8 c = (simp (c .enum-told8 .given .1), simp (c .enum-told8 .given .1))
 
 returns-9 : tie.Need-returns-9
-unfolding placeOf refusalOf
-returns-9 c = simp (c .enum-told9 .given .1)
+unfolding numberOf placeOf refusalOf
+returns-9 c = (simp (c .enum-told9 .given .1), simp (c .enum-told9 .given .1))
 
 returns-10 : tie.Need-returns-10
-unfolding placeOf refusalOf
-returns-10 c = simp (c .enum-told10 .given .1)
+unfolding numberOf placeOf refusalOf
+returns-10 c = (simp (c .enum-told10 .given .1), simp (c .enum-told10 .given .1))
 
 returns-11 : tie.Need-returns-11
-unfolding placeOf refusalOf
-returns-11 c = simp (c .enum-told11 .given .1)
+unfolding numberOf placeOf refusalOf
+returns-11 c = (simp (c .enum-told11 .given .1), simp (c .enum-told11 .given .1))
 
 returns-12 : tie.Need-returns-12
-unfolding placeOf refusalOf
-returns-12 c = simp (c .enum-told12 .given .1)
+unfolding numberOf placeOf refusalOf
+returns-12 c = (simp (c .enum-told12 .given .1), simp (c .enum-told12 .given .1))
 
 returns-13 : tie.Need-returns-13
-unfolding placeOf refusalOf
-returns-13 c = simp (c .enum-told13 .given .1)
+unfolding numberOf placeOf refusalOf
+returns-13 c = (simp (c .enum-told13 .given .1), simp (c .enum-told13 .given .1))
 
 returns-14 : tie.Need-returns-14
-unfolding placeOf refusalOf
-returns-14 c = simp (c .enum-told14 .given .1)
+unfolding numberOf placeOf refusalOf
+returns-14 c = (simp (c .enum-told14 .given .1), simp (c .enum-told14 .given .1))
 
 returns-15 : tie.Need-returns-15
-unfolding placeOf refusalOf
-returns-15 c = simp (c .enum-told15 .given .1)
+unfolding numberOf placeOf refusalOf
+returns-15 c = (simp (c .enum-told15 .given .1), simp (c .enum-told15 .given .1))
 
 returns-16 : tie.Need-returns-16
-unfolding placeOf refusalOf
-returns-16 c = simp (c .before .why .given .1)
+unfolding numberOf placeOf refusalOf
+returns-16 c = (simp (c .before .why .given .1), simp (c .before .why .given .1))
 
 returns-17 : tie.Need-returns-17
-unfolding placeOf refusalOf
-returns-17 c = simp (c .before .why2 .given .1)
+unfolding numberOf placeOf refusalOf
+returns-17 c = (simp (c .before .why2 .given .1), simp (c .before .why2 .given .1))
 
 returns-18 : tie.Need-returns-18
-unfolding placeOf refusalOf
-returns-18 c = simp (c .before .why3 .given .1)
+unfolding numberOf placeOf refusalOf
+returns-18 c = (simp (c .before .why3 .given .1), simp (c .before .why3 .given .1))
 
 returns-19 : tie.Need-returns-19
-unfolding placeOf refusalOf
-returns-19 c = simp (c .enum-told16 .given .1)
+unfolding numberOf placeOf refusalOf
+returns-19 c = (simp (c .enum-told16 .given .1), simp (c .enum-told16 .given .1))
 
 returns-20 : tie.Need-returns-20
-unfolding placeOf refusalOf
-returns-20 c = simp (c .enum-told17 .given .1)
+unfolding numberOf placeOf refusalOf
+returns-20 c = (simp (c .enum-told17 .given .1), simp (c .enum-told17 .given .1))
 
-pub place-of-spec : {M : Type 1} → statement M
-place-of-spec =
+pub row-of-spec : {M : Type 1} → statement M
+row-of-spec =
     tie.close
     (tie.spec
     enum-told

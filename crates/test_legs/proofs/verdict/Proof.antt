@@ -7,11 +7,11 @@ use lib.ListN.{length}
 use Rattle.model.specs.Map.{Map}
 use Rattle.model.specs.Lines.{lineAt}
 use Rattle.search.proofs.Leaving.{latest-le}
 use Rattle.legs.specs.Verdict.{Anywhere}
 use Rattle.search.specs.Area.{Set}
 use Rattle.legs.proofs.FirstLines.{Walked, walk-start, walk-on, walk-end}
-use Rattle.legs.proofs.verdict.Statement.{statement}
-use Rattle.legs.proofs.verdict.Tie as tie
+use Rattle.test_legs.proofs.verdict.Statement.{statement}
+use Rattle.test_legs.proofs.verdict.Tie as tie
 
 abbrev Inv-loop : tie.InvT-loop
 Inv-loop work₀ lines leg from found₀ at₀ work found at =

@@ -1,0 +1,23 @@
+// The papers' numbers that the code needs. Each stands in specs/ once, under the same name.
+
+// How many numbers of the work area a call uses (specs/Work.antt).
+pub const WORK_LENGTH: usize = 12_288;
+
+// The greatest count of nodes and of lines, and the greatest length of a line in decimetres (specs/Map.antt).
+pub const GREATEST_NODE_COUNT: u32 = 512;
+
+pub const GREATEST_LINE_COUNT: u32 = 1_024;
+
+pub const GREATEST_LINE_LENGTH: u32 = 150_000;
+
+// The greatest length of a leg in decimetres (specs/Reading.antt).
+pub const GREATEST_LEG_LENGTH: u32 = 150_000;
+
+// Decimetres to a step of byte D: 58.6 m (specs/Field.antt).
+pub const DISTANCE_STEP: u32 = 586;
+
+// The most lines of a stretch (specs/Stretch.antt).
+pub const GREATEST_STRETCH: usize = 64;
+
+// The most lines that a C host is given (specs/Host.antt).
+pub const GREATEST_HOST_LINES: usize = 1_024;

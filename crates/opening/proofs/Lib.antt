@@ -1,0 +1,2 @@
+-- Laws of an opened map.
+pub mod Told

@@ -1,0 +1,2 @@
+-- What it is to open a map.
+pub mod Opened
