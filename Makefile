@@ -1,8 +1,8 @@
 # `make` reads the ridge example, `make test` runs the gate, `make bench` measures against plain Rust (`make bench ROWS=read`: of one kind),
 # `make count` counts the proved writer's searches and leg tests,
-# `make compare` compares plain Rust with the oracle, `make host` runs a C host on the ridge, `make test-host` tests the C functions,
+# `make host` runs a C host on the ridge, `make test-host` tests the C functions,
 # `make differential` holds plain Rust to the stored cases and the C functions to plain Rust (`make differential CALLS=1000000 SEED=2`).
-.PHONY: ridge test bench count compare archive host test-host differential
+.PHONY: ridge test bench count archive host test-host differential
 
 CALLS = 400000
 SEED = 1
@@ -30,10 +30,6 @@ bench:
 
 count:
 	bash bench/count_calls.sh
-
-compare:
-	$(BUILD) --bin answer
-	python3 oracle/compare.py $(PROGRAMS)/answer 2000
 
 differential: archive
 	$(BUILD) --bin answer --bin differential
