@@ -1,59 +1,65 @@
 # `make` reads the ridge example, `make test` runs the gate, `make bench` measures against plain Rust (`make bench ROWS=read`: of one kind),
-# `make count` counts the proved writer's searches and leg tests,
-# `make compare` compares plain Rust with the oracle, `make host` runs a C host on the ridge, `make test-host` tests the C functions,
-# `make differential` holds plain Rust to the stored cases and the C functions to plain Rust (`make differential CALLS=1000000 SEED=2`).
-.PHONY: ridge test bench count compare archive host test-host differential
+# `make count` counts the proved writer's searches and leg tests, `make host` runs a C host on the ridge, `make test-host` tests the C functions,
+# `make test-plain` tests plain Rust and holds it to the stored cases,
+# `make differential` holds the C functions to plain Rust (`make differential CALLS=1000000 SEED=2`).
+.PHONY: ridge test bench count archive host test-host test-plain differential
+.DELETE_ON_ERROR:
 
 CALLS = 400000
 SEED = 1
 # Where it is not on the path, cargo is sought where rustup puts it.
 CARGO := $(shell command -v cargo || echo "$$HOME/.cargo/bin/cargo")
-BUILD = $(CARGO) build --release --offline --quiet --manifest-path bench/Cargo.toml
-PROGRAMS = bench/target/release
+PLAIN = --offline --quiet --manifest-path bench/Cargo.toml
 
 C_FLAGS = -std=c11 -pedantic -Wall -Wextra -Werror -Iinclude
 SANITIZED = -g -fsanitize=address,undefined -fno-sanitize-recover=all
 ARCHIVE = target/staticlib/libopenlr.a
+SOURCES := crates.txt $(shell find crates -name '*.rt' -o -name '*.antt')
 
 ridge: target/bin/openlr_show
 	cd examples/ridge && ../../target/bin/openlr_show
 
-target/bin/openlr_show:
+target/bin/openlr_show: $(SOURCES)
 	rt check openlr_show >&2
 
 test:
 	bash .ci/run
 
-bench:
-	rt staticlib measured
-	$(CARGO) run --release --offline --quiet --manifest-path bench/Cargo.toml -- $(ROWS)
+bench: target/staticlib/libmeasured.a
+	$(CARGO) run --release $(PLAIN) --features measured --bin bench -- $(ROWS)
 
 count:
 	bash bench/count_calls.sh
 
-compare:
-	$(BUILD) --bin answer
-	python3 oracle/compare.py $(PROGRAMS)/answer 2000
+archive: $(ARCHIVE)
 
-differential: archive
-	$(BUILD) --bin answer --bin differential
-	python3 oracle/check_plain.py $(PROGRAMS)/answer
-	$(PROGRAMS)/differential $(CALLS) $(SEED)
+# What the library is built on is proved by `rt check`, several crates at a time; `rt staticlib` alone would take one after another.
+target/staticlib/lib%.a: $(SOURCES)
+	rt check $$(sed -n 's/^$*://p' crates.txt) >&2
+	rt staticlib $* >&2
 
-archive:
-	rt staticlib openlr >&2
+host: $(ARCHIVE)
 	mkdir -p target/host
-
-host: archive
 	$(CC) $(C_FLAGS) -O2 -o target/host/host examples/host.c $(ARCHIVE)
 	target/host/host examples/ridge/map.bin 500 0 0 1
 
-test-host: archive
+test-host: $(ARCHIVE)
+	mkdir -p target/host
 	$(CC) $(C_FLAGS) $(SANITIZED) -o target/host/read tests/host_read.c $(ARCHIVE)
 	$(CC) $(C_FLAGS) $(SANITIZED) -o target/host/write tests/host_write.c $(ARCHIVE)
 	$(CC) $(C_FLAGS) $(SANITIZED) -o target/host/answer tests/answer.c $(ARCHIVE)
 	$(CC) $(C_FLAGS) $(SANITIZED) -o target/host/host examples/host.c $(ARCHIVE)
 	target/host/read
 	target/host/write
-	target/host/host examples/ridge/map.bin 500 0 0 1 | diff - tests/host_ridge.txt
+	target/host/host examples/ridge/map.bin 500 0 0 1 >target/host/printed
+	diff target/host/printed tests/host_ridge.txt
 	python3 oracle/check_host.py target/host/answer 500
+
+test-plain:
+	$(CARGO) test $(PLAIN)
+	$(CARGO) build $(PLAIN) --bin answer
+	python3 oracle/check_plain.py bench/target/debug/answer
+
+differential: $(ARCHIVE)
+	$(CARGO) build --release $(PLAIN) --features openlr --bin differential
+	bench/target/release/differential $(CALLS) $(SEED)

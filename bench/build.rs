@@ -1,16 +1,23 @@
-//! Says where the proved functions are: `rt staticlib measured` makes target/staticlib/libmeasured.a
-//! for the benchmark, `rt staticlib openlr` libopenlr.a for the comparison. Each program needs its
-//! own alone.
+//! Says where the archives are that the features ask for: `rt staticlib NAME` makes
+//! target/staticlib/libNAME.a.
 
 use std::env;
 use std::path::Path;
 
 fn main() {
+    println!("cargo:rerun-if-changed=build.rs");
     let folder = env::var("CARGO_MANIFEST_DIR").expect("cargo names the folder");
-    let libraries = Path::new(&folder).join("../target/staticlib");
-    println!("cargo:rustc-link-search=native={}", libraries.display());
-    for name in ["libmeasured.a", "libopenlr.a"] {
-        let library = libraries.join(name);
-        println!("cargo:rerun-if-changed={}", library.display());
+    let archives = Path::new(&folder).join("../target/staticlib");
+    for (feature, archive) in [
+        ("CARGO_FEATURE_MEASURED", "libmeasured.a"),
+        ("CARGO_FEATURE_OPENLR", "libopenlr.a"),
+    ] {
+        if env::var_os(feature).is_some() {
+            println!("cargo:rustc-link-search=native={}", archives.display());
+            println!(
+                "cargo:rerun-if-changed={}",
+                archives.join(archive).display()
+            );
+        }
     }
 }

@@ -17,7 +17,7 @@ printf '#!/bin/sh\nexec "%s" "$@" -O0\n' "$toolchain/$clang" >"$copy/$clang"
 chmod +x "$copy/$clang"
 
 RATTLE_HOME=$copy rt staticlib measured >/dev/null
-cargo build --release --offline --quiet --manifest-path bench/Cargo.toml --target-dir target/count --bin bench
+cargo build --release --offline --quiet --manifest-path bench/Cargo.toml --target-dir target/count --features measured --bin bench
 cat >"$copy/count.py" <<'END'
 import os
 

@@ -1,9 +1,5 @@
-"""Cases with their expected outcomes, from a fixed seed.
+"""Cases with their expected outcomes, from a fixed seed."""
 
-Usage: python3 oracle/cases.py KIND COUNT [--seed N], where KIND is map, leg, read or write.
-"""
-
-import argparse
 import random
 from dataclasses import dataclass, replace
 
@@ -11,7 +7,7 @@ from damages import map_damage
 from depot_map import DepotMap, map_to_bytes, read_map
 from fields import LONGEST_LEG
 from legs import Leg, LegSearch, Readings, describe_leg, list_length
-from outcome import Refused, RefusedCall, outcome_text
+from outcome import RefusedCall
 from read_recipes import READ_RECIPES, read_outcome
 from recipes import any_sample
 from sample_maps import full_size_sample, random_walk
@@ -25,13 +21,6 @@ class MapCase:
     map_bytes: bytes
     expected: object
 
-    def row(self):
-        if isinstance(self.expected, Refused):
-            text = outcome_text(self.expected)
-        else:
-            text = f"map of {len(self.expected.nodes)} nodes and {len(self.expected.lines)} lines"
-        return [self.map_bytes.hex(), self.label, text]
-
 
 @dataclass(frozen=True)
 class LegCase:
@@ -42,10 +31,6 @@ class LegCase:
     leg: Leg
     expected: Readings
 
-    def row(self):
-        lines = "" if self.expected.lines is None else " " + " ".join(map(str, self.expected.lines))
-        return [self.map_bytes.hex(), str(self.leg), self.label, self.expected.how_many + lines]
-
 
 @dataclass(frozen=True)
 class CallCase:
@@ -53,25 +38,6 @@ class CallCase:
     label: str
     given: object
     expected: object
-
-
-class ReadCase(CallCase):
-    def row(self):
-        given = self.given
-        numbers = f"work {given.work_length} lines {given.line_room}"
-        return [given.map_bytes.hex(), given.reference.hex(), numbers, self.label, one_row(self.expected)]
-
-
-class WriteCase(CallCase):
-    def row(self):
-        given = self.given
-        numbers = (f"stretch {' '.join(map(str, given.lines))} pos {given.pos} neg {given.neg}"
-                   f" work {given.work_length} bytes {given.byte_room}")
-        return [given.map_bytes.hex(), numbers, self.label, one_row(self.expected)]
-
-
-def one_row(outcome):
-    return outcome_text(outcome).replace("\n", " ")
 
 
 def map_outcome(map_bytes):
@@ -183,14 +149,15 @@ LEG_RECIPES = {
 }
 
 
-def make_cases(kind, recipes, seed, count, make_case):
-    """Recipes in turn. The turn tells a recipe how often it has been used, so that it can vary its edges."""
+def make_cases(kind, recipes, seed, count, make_case, left_out=None):
+    """Recipes in turn, but for the one left out. The turn tells a recipe how often it has been used, so that it can vary its edges."""
     names = list(recipes)
     cases = []
     for index in range(count):
         turn, which = divmod(index, len(names))
         name = names[which]
-        cases.append(make_case(name, *recipes[name](random_source(kind, seed, index), turn)))
+        if name != left_out:
+            cases.append(make_case(name, *recipes[name](random_source(kind, seed, index), turn)))
     return cases
 
 
@@ -200,36 +167,21 @@ def map_cases(seed, count):
     return make_cases("map", MAP_RECIPES, seed, count, make_case)
 
 
-def leg_cases(seed, count):
+def leg_cases(seed, count, left_out=None):
     def make_case(name, sample, leg):
         readings = LegSearch(sample.depot_map).readings(leg)
         label = f"{name}: {sample.label}"
         return LegCase(label, sample.depot_map, map_to_bytes(sample.depot_map), leg, readings)
-    return make_cases("leg", LEG_RECIPES, seed, count, make_case)
+    return make_cases("leg", LEG_RECIPES, seed, count, make_case, left_out)
 
 
-def call_cases(kind, case_type, recipes, outcome):
-    def make_cases_of_kind(seed, count):
+def call_cases(kind, recipes, outcome):
+    def make_cases_of_kind(seed, count, left_out=None):
         def make_case(name, detail, given):
-            return case_type(f"{name}: {detail}", given, outcome(given))
-        return make_cases(kind, recipes, seed, count, make_case)
+            return CallCase(f"{name}: {detail}", given, outcome(given))
+        return make_cases(kind, recipes, seed, count, make_case, left_out)
     return make_cases_of_kind
 
 
-read_cases = call_cases("read", ReadCase, READ_RECIPES, read_outcome)
-write_cases = call_cases("write", WriteCase, WRITE_RECIPES, write_outcome)
-KINDS = {"map": map_cases, "leg": leg_cases, "read": read_cases, "write": write_cases}
-
-
-def main():
-    parser = argparse.ArgumentParser(description="Print cases, one a line, with their expected outcomes.")
-    parser.add_argument("kind", choices=KINDS)
-    parser.add_argument("count", type=int)
-    parser.add_argument("--seed", type=int, default=1)
-    arguments = parser.parse_args()
-    for case in KINDS[arguments.kind](arguments.seed, arguments.count):
-        print(" | ".join(case.row()))
-
-
-if __name__ == "__main__":
-    main()
+read_cases = call_cases("read", READ_RECIPES, read_outcome)
+write_cases = call_cases("write", WRITE_RECIPES, write_outcome)

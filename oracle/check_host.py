@@ -6,14 +6,19 @@ Usage: python3 oracle/check_host.py PROGRAM COUNT [--seed N]. PROGRAM is that of
 import argparse
 from dataclasses import replace
 
-from cases import one_row, read_cases, write_cases
-from compare import answers, hexadecimal, report
+from answers import answers, hexadecimal, report
+from cases import read_cases, write_cases
+from outcome import outcome_text
 from read_recipes import read_outcome
 from reader import LEAST_WORK_LENGTH
 from write_recipes import write_outcome
 
 # "A list of over 1,024 lines is refusal 20."
 MOST_LINES = 1_024
+
+
+def one_row(outcome):
+    return outcome_text(outcome).replace("\n", " ")
 
 
 def line_bytes(lines):

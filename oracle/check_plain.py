@@ -7,7 +7,7 @@ it answers must be what crates/NAME/stdout says. Cases with different answers ar
 import argparse
 import re
 
-from compare import answers, hexadecimal, report
+from answers import answers, hexadecimal, report
 from pack import CRATES, WRITES_LINE_ROOM, number_sum
 from reader import LEAST_WORK_LENGTH
 

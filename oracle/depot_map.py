@@ -1,6 +1,7 @@
 """The depot map: its bytes and refusals 2 to 6 (scope paper, "The depot map", "Refused, by place")."""
 
 from dataclasses import dataclass
+from functools import lru_cache
 
 from fields import LONGEST_LEG, code_pair
 from outcome import RefusedCall
@@ -39,6 +40,7 @@ class DepotMap:
     lines: tuple
 
 
+@lru_cache(maxsize=None)
 def write_number(number):
     """The shortest form: groups of seven bits, lowest first, top bit set when another byte follows."""
     written = bytearray()
@@ -53,7 +55,8 @@ def read_number(data, position):
     """The number at a position and the position after it. Any fault in its form is refusal 2."""
     number, scale, first_position = 0, 1, position
     while True:
-        if position >= len(data):
+        # With a sixth byte a number is too large, not in its shortest form or without an end.
+        if position >= len(data) or position == first_position + 5:
             raise RefusedCall(2)
         byte = data[position]
         number += byte % 128 * scale
@@ -125,8 +128,9 @@ def _take_line(numbers, node_count):
     return Line(start_node, end_node, length, frc, fow, bearing_out, bearing_back)
 
 
+@lru_cache(maxsize=64)
 def read_map(data):
-    """The map, or RefusedCall with 2 to 6."""
+    """The map, or RefusedCall with 2 to 6. Maps read last are kept, since many calls are on the same map."""
     numbers = _NumbersInOrder(data)
     node_count = numbers.take(FEWEST_NODES, MOST_NODES, 3)
     nodes = tuple(_take_node(numbers) for _ in range(node_count))

@@ -2,7 +2,7 @@
 
 import heapq
 from dataclasses import dataclass
-from typing import Optional
+from typing import NamedTuple, Optional
 
 from fields import LONGEST_LEG, distance_byte, sector
 
@@ -33,8 +33,7 @@ class Readings:
     lines: Optional[tuple] = None
 
 
-@dataclass(frozen=True)
-class LeastWay:
+class LeastWay(NamedTuple):
     """The least length of the line lists to a node, how many have it, and the last line of one of them."""
     length: int
     count: int
@@ -148,9 +147,9 @@ class LegSearch:
     def _list_to(self, ways, node, first_line):
         """The line list that the least way to a node stands for, traced back to the first line."""
         lines = [ways[node].last_line]
-        while lines[0] != first_line:
-            lines.insert(0, ways[self.depot_map.lines[lines[0]].start_node].last_line)
-        return lines
+        while lines[-1] != first_line:
+            lines.append(ways[self.depot_map.lines[lines[-1]].start_node].last_line)
+        return lines[::-1]
 
 
 def connected_lists(depot_map, leg, may_repeat=False, most_lines=None):

@@ -87,9 +87,8 @@ def full_map_legs(maps, legs):
 
 
 def test_legs():
-    small = [case for case in leg_cases(seed=1, count=1_200) if not case.label.startswith("full size")]
     parts, rows = full_map_legs(maps=12, legs=40)
-    for case in small:
+    for case in leg_cases(seed=1, count=1_200, left_out="full size"):
         parts += [case.map_bytes, leg_words(case.leg)]
         rows.append(leg_row(case.depot_map, case.expected))
     return packed(parts), rows
@@ -125,10 +124,9 @@ def full_map_reads(maps, references):
             yield given, read_outcome(given)
 
 
-def on_small_maps(cases):
-    for case in cases:
-        if not case.label.startswith("full size"):
-            yield case.given, case.expected
+def on_small_maps(make_cases, count):
+    for case in make_cases(seed=1, count=count, left_out="full size"):
+        yield case.given, case.expected
 
 
 def by_map(calls):
@@ -153,7 +151,7 @@ def packed_calls(calls, subject, numbers, row):
 
 def test_reads():
     """The subject is a reference; the numbers are the lengths of the work area and of the line buffer."""
-    calls = [*on_small_maps(read_cases(seed=1, count=2_960)), *full_map_reads(maps=10, references=40)]
+    calls = [*on_small_maps(read_cases, 2_960), *full_map_reads(maps=10, references=40)]
     return packed_calls(calls, lambda given: given.reference,
                         lambda given: [given.work_length, given.line_room], read_row)
 
@@ -177,7 +175,7 @@ def full_map_writes(maps, stretches):
 def test_writes():
     """The subject is a stretch, four bytes a line; the numbers are the offsets, and the lengths of the work area and of
     the byte buffer."""
-    calls = [*on_small_maps(write_cases(seed=1, count=2_400)), *full_map_writes(maps=10, stretches=20)]
+    calls = [*on_small_maps(write_cases, 2_400), *full_map_writes(maps=10, stretches=20)]
     if any(len(given.lines) > WRITES_LINE_ROOM or given.byte_room > WRITES_BYTE_ROOM for given, _ in calls):
         raise RuntimeError("the program's buffers are too short for a case")
     return packed_calls(calls, lambda given: words(given.lines),

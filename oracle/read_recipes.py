@@ -1,6 +1,7 @@
 """Inputs for read cases (recipes.py says what a recipe is)."""
 
 from dataclasses import dataclass, replace
+from functools import lru_cache
 
 from damages import map_damage, reference_damages, replaced
 from depot_map import map_to_bytes, read_map
@@ -24,7 +25,9 @@ class ReadInput:
     line_room: int = AMPLE_LINES
 
 
+@lru_cache(maxsize=16)
 def read_outcome(given):
+    """The last outcomes are kept, as those of write_outcome are."""
     return read(given.map_bytes, given.reference, given.work_length, given.line_room)
 
 

@@ -1,6 +1,4 @@
-"""Reads map.bin and ref.bin in the folder it is run in and prints the outcome ("The tie at the ridge")."""
-
-from pathlib import Path
+"""What the printing program prints for map.bin and ref.bin in a folder ("The tie at the ridge")."""
 
 from outcome import outcome_text
 from reader import LEAST_WORK_LENGTH, read
@@ -16,7 +14,3 @@ def contents(path):
 def shown(folder):
     map_bytes, reference = contents(folder / "map.bin"), contents(folder / "ref.bin")
     return outcome_text(read(map_bytes, reference, LEAST_WORK_LENGTH, LINE_ROOM))
-
-
-if __name__ == "__main__":
-    print(shown(Path(".")))

@@ -1,10 +1,6 @@
 """The case generator: the same for the same seed, and every aim and every edge occurs."""
 
-import os
-import subprocess
-import sys
 import unittest
-from pathlib import Path
 
 import cases
 from damages import LINE_FIELDS
@@ -15,6 +11,7 @@ from reference import take_apart
 
 # Enough for each recipe to go through its edges at least once.
 MAP_CASES, LEG_CASES, READ_CASES, WRITE_CASES = 420, 420, 740, 640
+KINDS = (cases.map_cases, cases.leg_cases, cases.read_cases, cases.write_cases)
 
 
 def refusal_in_label(label):
@@ -25,23 +22,13 @@ def refusal_in_label(label):
 
 class Determinism(unittest.TestCase):
     def test_same_seed_same_cases(self):
-        for make in cases.KINDS.values():
+        for make in KINDS:
             self.assertEqual(make(5, 40), make(5, 40))
             self.assertNotEqual(make(5, 40), make(6, 40))
 
     def test_cases_do_not_depend_on_how_many_are_asked_for(self):
-        for make in cases.KINDS.values():
+        for make in KINDS:
             self.assertEqual(make(7, 12), make(7, 30)[:12])
-
-    def test_printed_lines_are_the_same_in_every_process(self):
-        for kind in cases.KINDS:
-            printed = [subprocess.run(
-                [sys.executable, "-B", str(Path(cases.__file__)), kind, "30", "--seed", "3"], check=True,
-                capture_output=True, text=True, env={**os.environ, "PYTHONHASHSEED": hash_seed}).stdout
-                for hash_seed in ("1", "2")]
-            self.assertEqual(printed[0], printed[1])
-            self.assertEqual(len(printed[0].splitlines()), 30)
-            self.assertEqual(printed[0].splitlines()[3], " | ".join(cases.KINDS[kind](3, 30)[3].row()))
 
 
 class Coverage(unittest.TestCase):

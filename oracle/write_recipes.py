@@ -1,6 +1,7 @@
 """Inputs for write cases (recipes.py says what a recipe is)."""
 
 from dataclasses import dataclass, replace
+from functools import lru_cache
 
 from damages import map_damage
 from depot_map import LARGEST_NUMBER, map_to_bytes
@@ -24,7 +25,9 @@ class WriteInput:
     byte_room: int = AMPLE_BYTES
 
 
+@lru_cache(maxsize=16)
 def write_outcome(given):
+    """Recipes ask again for what they were told before, so that the last outcomes are kept."""
     return write(given.map_bytes, given.lines, given.pos, given.neg, given.work_length, given.byte_room)
 
 

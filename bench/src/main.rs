@@ -15,7 +15,6 @@ use plain::outcome::WORK_AREA;
 use plain::reader::read;
 use plain::search::{Bounds, Method, Search};
 use plain::writer::{effort, write, write_on_map};
-use proved::{functions, ProvedFunctions};
 
 /// The best of many short rounds: a round that something else disturbs does not count.
 const ROUNDS: usize = 400;
@@ -38,19 +37,13 @@ type Call<'a> = Box<dyn FnMut(usize) + 'a>;
 struct Row<'a> {
     what: String,
     inputs: usize,
-    ours: Option<Call<'a>>,
+    ours: Call<'a>,
     plain: Call<'a>,
 }
 
 impl Row<'_> {
     fn print(mut self) {
-        let plain = &mut *self.plain;
-        let Some(ours) = self.ours.as_deref_mut() else {
-            let [plain] = time_in_turn([plain], self.inputs);
-            println!("{} | - | {plain:.2} | -", self.what);
-            return;
-        };
-        let [ours, plain] = time_in_turn([ours, plain], self.inputs);
+        let [ours, plain] = time_in_turn([&mut *self.ours, &mut *self.plain], self.inputs);
         let ratio = ours / plain;
         println!("{} | {ours:.2} | {plain:.2} | {ratio:.2}", self.what);
     }
@@ -112,7 +105,7 @@ fn samples() -> Vec<Sample> {
     let plans = [
         ("grid, equal lengths", grid(1, Lengths::Equal)),
         ("grid", grid(2, Lengths::SlightlyDifferent)),
-        ("random", random_graph(3, Lengths::SlightlyDifferent)),
+        ("random", random_graph(3)),
         ("chain", chain(4, Lengths::SlightlyDifferent)),
     ];
     plans
@@ -134,52 +127,47 @@ fn sample(name: &'static str, plan: MapPlan) -> Sample {
 /// Prints the rows of every kind, or of the kind that the argument names: decode, search, read or write.
 /// `once ROW` times nothing, for counting calls.
 fn main() {
-    let proved = functions();
     let kind = std::env::args().nth(1);
     if kind.as_deref() == Some("once") {
-        return write_once(&proved);
+        return write_once();
     }
     let wanted = |name: &str| kind.as_deref().is_none_or(|kind| kind == name);
     println!("what | ours µs | plain Rust µs | ratio");
     for sample in &samples() {
         if wanted("decode") {
-            decode_row(&proved, sample).print();
+            decode_row(sample).print();
         }
         if wanted("search") {
-            search_rows(&proved, sample);
+            search_rows(sample);
         }
         if wanted("read") {
-            reading_rows(&proved, sample);
+            reading_rows(sample);
         }
         if wanted("write") {
-            writing_rows(&proved, sample);
+            writing_rows(sample);
         }
     }
     if wanted("search") {
         for sample in &hostile_samples() {
-            search_rows(&proved, sample);
+            search_rows(sample);
         }
     }
 }
 
-fn decode_row<'a>(proved: &ProvedFunctions, sample: &'a Sample) -> Row<'a> {
+fn decode_row(sample: &Sample) -> Row<'_> {
+    let mut work_area = vec![0; WORK_AREA];
+    let ours = move |_| {
+        black_box(proved::decode(black_box(&sample.bytes), &mut work_area));
+    };
     let plain = |_| {
         let _ = black_box(DepotMap::decode(black_box(&sample.bytes)));
     };
     Row {
         what: format!("decode, {}, {} bytes", sample.name, sample.bytes.len()),
         inputs: 1,
-        ours: proved_decoding(proved, sample),
+        ours: Box::new(ours),
         plain: Box::new(plain),
     }
-}
-
-fn proved_decoding<'a>(proved: &ProvedFunctions, sample: &'a Sample) -> Option<Call<'a>> {
-    let decode = proved.decode?;
-    let mut work_area = vec![0; WORK_AREA];
-    Some(Box::new(move |_| {
-        black_box(decode(black_box(&sample.bytes), &mut work_area));
-    }))
 }
 
 const LIMITS: [u32; 3] = [5_000, 15_000, 150_000];
@@ -191,7 +179,7 @@ const METHODS: [(Method, &str); 4] = [
     (Method::LineHeap, "heap of lines"),
 ];
 
-fn search_rows(proved: &ProvedFunctions, sample: &Sample) {
+fn search_rows(sample: &Sample) {
     for (method, method_name) in METHODS {
         for limit in LIMITS {
             let bounds = first_lines(sample).map(|first| Bounds {
@@ -200,7 +188,7 @@ fn search_rows(proved: &ProvedFunctions, sample: &Sample) {
                 limit,
             });
             let what = format!("search, {}, limit {limit}, {method_name}", sample.name);
-            print_search_row(proved, sample, bounds, method, &what);
+            print_search_row(sample, bounds, method, &what);
         }
     }
 }
@@ -215,24 +203,13 @@ const SEARCHES: u32 = 100;
 
 /// The proved search is timed by the difference between `SEARCHES` searches and none, each with a
 /// decoding of the map before it.
-fn print_search_row(
-    proved: &ProvedFunctions,
-    sample: &Sample,
-    bounds: [Bounds; INPUTS],
-    method: Method,
-    what: &str,
-) {
+fn print_search_row(sample: &Sample, bounds: [Bounds; INPUTS], method: Method, what: &str) {
     let mut plain_search = Search::new(&sample.map, method);
     let mut plain = |input: usize| {
         for _ in 0..SEARCHES {
             plain_search.run(&sample.map, black_box(bounds[input]));
             black_box(&plain_search);
         }
-    };
-    let Some(search) = proved.search else {
-        let [plain] = time_in_turn([&mut plain], INPUTS);
-        println!("{what} | - | {:.2} | -", plain / f64::from(SEARCHES));
-        return;
     };
     let mut work_area = vec![0; WORK_AREA];
     let mut other_area = vec![0; WORK_AREA];
@@ -242,7 +219,7 @@ fn print_search_row(
             class,
             limit,
         } = black_box(bounds[input]);
-        search(&sample.bytes, area, first, class, limit, times);
+        proved::search(&sample.bytes, area, first, class, limit, times);
         black_box(area);
     };
     let mut none = |input: usize| run(&mut work_area, input, 0);
@@ -262,7 +239,7 @@ const REFERENCES: [(usize, u32); 5] = [
     (64, 50_000),
 ];
 
-fn reading_rows(proved: &ProvedFunctions, sample: &Sample) {
+fn reading_rows(sample: &Sample) {
     for (legs, leg_length) in REFERENCES {
         let mut rng = Xorshift::new(7);
         let mut next = || reference_with_legs(&mut rng, &sample.map, legs, leg_length);
@@ -271,71 +248,53 @@ fn reading_rows(proved: &ProvedFunctions, sample: &Sample) {
             continue;
         }
         for (reference, lines) in &references {
-            check_proved_reading(proved, sample, reference, lines);
+            check_proved_reading(sample, reference, lines);
         }
         let lines: usize = references.iter().map(|(_, lines)| lines.len()).sum();
         let lines = lines / references.len();
         let references = references.into_iter().map(|(bytes, _)| bytes).collect();
-        let mut row = reading_row(proved, sample, references);
-        row.what = format!("read, {}, legs {legs}, lines {lines}", sample.name);
-        row.print();
+        let what = format!("read, {}, legs {legs}, lines {lines}", sample.name);
+        reading_row(what, sample, references).print();
     }
 }
 
 /// What is timed is a reading of these lines.
-fn check_proved_reading(
-    proved: &ProvedFunctions,
-    sample: &Sample,
-    reference: &[u8],
-    lines: &[u32],
-) {
-    let Some(read) = proved.read else {
-        return;
-    };
+fn check_proved_reading(sample: &Sample, reference: &[u8], lines: &[u32]) {
     let mut work_area = vec![0; WORK_AREA];
     let mut line_buffer = vec![u32::MAX; LINE_ROOM];
-    let refusal = read(&sample.bytes, reference, &mut work_area, &mut line_buffer);
+    let refusal = proved::read(&sample.bytes, reference, &mut work_area, &mut line_buffer);
     assert_eq!(refusal, 0, "the plain reader accepts the reference");
     assert_eq!(&line_buffer[..lines.len()], lines);
 }
 
-fn reading_row<'a>(
-    proved: &ProvedFunctions,
-    sample: &'a Sample,
-    references: Vec<Vec<u8>>,
-) -> Row<'a> {
+fn reading_row(what: String, sample: &Sample, references: Vec<Vec<u8>>) -> Row<'_> {
     let inputs = references.len();
-    let ours = proved_reading(proved, sample, references.clone());
+    let ours = proved_reading(sample, references.clone());
     let plain = move |input: usize| {
         let (map_bytes, reference) = black_box((&sample.bytes, &references[input]));
         let _ = black_box(read(map_bytes, reference, WORK_AREA, LINE_ROOM));
     };
     Row {
-        what: String::new(),
+        what,
         inputs,
         ours,
         plain: Box::new(plain),
     }
 }
 
-fn proved_reading<'a>(
-    proved: &ProvedFunctions,
-    sample: &'a Sample,
-    references: Vec<Vec<u8>>,
-) -> Option<Call<'a>> {
-    let read = proved.read?;
+fn proved_reading(sample: &Sample, references: Vec<Vec<u8>>) -> Call<'_> {
     let mut work_area = vec![0; WORK_AREA];
     let mut line_buffer = vec![0; LINE_ROOM];
-    Some(Box::new(move |input| {
+    Box::new(move |input| {
         let (map_bytes, reference) = black_box((&sample.bytes, &references[input]));
-        let refusal = read(map_bytes, reference, &mut work_area, &mut line_buffer);
+        let refusal = proved::read(map_bytes, reference, &mut work_area, &mut line_buffer);
         black_box(refusal);
-    }))
+    })
 }
 
 const STRETCH_LINES: [usize; 3] = [4, 16, 64];
 
-fn writing_rows(proved: &ProvedFunctions, sample: &Sample) {
+fn writing_rows(sample: &Sample) {
     for count in STRETCH_LINES {
         let stretches = accepted_stretches(sample, count);
         if stretches.is_empty() {
@@ -343,9 +302,7 @@ fn writing_rows(proved: &ProvedFunctions, sample: &Sample) {
         }
         let what = format!("write, {}, lines {count}", sample.name);
         let effort = mean_effort(sample, &stretches);
-        let mut row = writing_row(proved, sample, stretches);
-        row.what.clone_from(&what);
-        row.print();
+        writing_row(what.clone(), sample, stretches).print();
         println!("{what}, plain Rust: {effort}");
     }
 }
@@ -365,7 +322,7 @@ fn mean_effort(sample: &Sample, stretches: &[Vec<u32>]) -> String {
 }
 
 /// Writes each stretch of one writing row with the proved function.
-fn write_once(proved: &ProvedFunctions) {
+fn write_once() {
     let row = std::env::args().nth(2).and_then(|row| row.parse().ok());
     let row: usize = row.expect("the number of a writing row");
     let samples = samples();
@@ -378,55 +335,37 @@ fn write_once(proved: &ProvedFunctions) {
         sample.name,
         stretches.len()
     );
-    let write = proved_writing(proved, sample, stretches);
-    inputs.for_each(write.expect("there is a proved writer"));
+    inputs.for_each(proved_writing(sample, stretches));
 }
 
 fn accepted_stretches(sample: &Sample, count: usize) -> Vec<Vec<u32>> {
     let mut rng = Xorshift::new(8);
     let walks = (0..10_000).filter_map(|_| random_walk(&mut rng, &sample.map, count));
-    let accepted =
-        |walk: &Vec<u32>| write_on_map(&sample.map, walk, 0, 0, BYTE_ROOM, Method::Heap).is_ok();
+    let accepted = |walk: &Vec<u32>| write_on_map(&sample.map, walk, 0, 0, BYTE_ROOM).is_ok();
     walks.filter(accepted).take(INPUTS).collect()
 }
 
-fn writing_row<'a>(
-    proved: &ProvedFunctions,
-    sample: &'a Sample,
-    stretches: Vec<Vec<u32>>,
-) -> Row<'a> {
+fn writing_row(what: String, sample: &Sample, stretches: Vec<Vec<u32>>) -> Row<'_> {
     let inputs = stretches.len();
-    let ours = proved_writing(proved, sample, stretches.clone());
+    let ours = proved_writing(sample, stretches.clone());
     let plain = move |input: usize| {
         let (map_bytes, stretch) = black_box((&sample.bytes, &stretches[input]));
         let _ = black_box(write(map_bytes, stretch, 0, 0, WORK_AREA, BYTE_ROOM));
     };
     Row {
-        what: String::new(),
+        what,
         inputs,
         ours,
         plain: Box::new(plain),
     }
 }
 
-fn proved_writing<'a>(
-    proved: &ProvedFunctions,
-    sample: &'a Sample,
-    stretches: Vec<Vec<u32>>,
-) -> Option<Call<'a>> {
-    let write = proved.write?;
+fn proved_writing(sample: &Sample, stretches: Vec<Vec<u32>>) -> Call<'_> {
     let mut work_area = vec![0; WORK_AREA];
     let mut byte_buffer = vec![0; BYTE_ROOM];
-    Some(Box::new(move |input| {
+    Box::new(move |input| {
         let (map_bytes, stretch) = black_box((&sample.bytes, &stretches[input]));
-        let offsets = (0, 0);
-        let written = write(
-            map_bytes,
-            stretch,
-            offsets,
-            &mut work_area,
-            &mut byte_buffer,
-        );
-        let _ = black_box(written);
-    }))
+        let written = proved::write(map_bytes, stretch, &mut work_area, &mut byte_buffer);
+        black_box(written);
+    })
 }

@@ -192,7 +192,7 @@ fn add_opposite_lines(rng: &mut Xorshift, plan: &mut MapPlan) {
 }
 
 /// Nodes anywhere in a square whose sides fit the differences, two lines out of each.
-pub fn random_graph(seed: u64, lengths: Lengths) -> MapPlan {
+pub fn random_graph(seed: u64) -> MapPlan {
     let rng = &mut Xorshift::new(seed);
     let mut plan = MapPlan {
         nodes: scattered_nodes(rng, FULL_NODES, 30_000),
@@ -201,10 +201,7 @@ pub fn random_graph(seed: u64, lengths: Lengths) -> MapPlan {
     for number in 0..FULL_LINES as u32 {
         let start = number % FULL_NODES;
         let end = (start + 1 + rng.below(FULL_NODES - 1)) % FULL_NODES;
-        let length = match lengths {
-            Lengths::Equal => 1000,
-            Lengths::SlightlyDifferent => rng.within(300, 2500),
-        };
+        let length = rng.within(300, 2500);
         let (frc, fow) = (mixed_frc(rng), rng.within(1, 4) as u8);
         plan.lines
             .push(line_between(&plan, (start, end), length, frc, fow));
@@ -358,7 +355,7 @@ pub fn reference_with_legs(
             negative: 0,
         };
         let reference = reference_bytes(map, &stretch, &places);
-        let read = read_on_map(map, &reference, usize::MAX, Method::Heap);
+        let read = read_on_map(map, &reference, usize::MAX);
         if read.is_ok_and(|reading| reading.lines == lines) {
             return Some((reference, lines));
         }

@@ -18,19 +18,14 @@ pub fn read(
 ) -> Outcome<Reading> {
     check_work_area(work_length)?;
     let map = DepotMap::decode(map_bytes)?;
-    read_on_map(&map, reference, line_room, Method::Heap)
+    read_on_map(&map, reference, line_room)
 }
 
 /// Reads a reference on a map that is read already: refusals 12 to 20.
-pub fn read_on_map(
-    map: &DepotMap,
-    reference: &[u8],
-    line_room: usize,
-    method: Method,
-) -> Outcome<Reading> {
+pub fn read_on_map(map: &DepotMap, reference: &[u8], line_room: usize) -> Outcome<Reading> {
     let reference = Reference::new(reference)?;
     let nodes = reference.nodes(map)?;
-    let mut search = Search::new(map, method);
+    let mut search = Search::new(map, Method::Heap);
     let mut lines = Vec::new();
     let mut lengths = LegLengths::default();
     for (number, ends) in nodes.windows(2).enumerate() {

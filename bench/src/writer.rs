@@ -22,7 +22,7 @@ pub fn write(
 ) -> Outcome<Vec<u8>> {
     check_work_area(work_length)?;
     let map = DepotMap::decode(map_bytes)?;
-    write_on_map(&map, stretch, pos, neg, byte_room, Method::Heap)
+    write_on_map(&map, stretch, pos, neg, byte_room)
 }
 
 /// Writes a stretch of a map that is read already: refusals 7 to 11.
@@ -32,10 +32,9 @@ pub fn write_on_map(
     pos: u32,
     neg: u32,
     byte_room: usize,
-    method: Method,
 ) -> Outcome<Vec<u8>> {
     let stretch = Stretch::new(map, stretch, pos, neg)?;
-    let mut tester = LegTester::new(map, &stretch, method);
+    let mut tester = LegTester::new(map, &stretch);
     let points = choose_points(&mut tester).ok_or(Refusal::NoUsablePoints)?;
     let reference = reference_bytes(map, &stretch, &points);
     if reference.len() > byte_room {
@@ -55,7 +54,7 @@ pub struct Effort {
 /// What writing a stretch takes.
 pub fn effort(map: &DepotMap, stretch: &[u32], pos: u32, neg: u32) -> Outcome<Effort> {
     let stretch = Stretch::new(map, stretch, pos, neg)?;
-    let mut tester = LegTester::new(map, &stretch, Method::Heap);
+    let mut tester = LegTester::new(map, &stretch);
     choose_points(&mut tester).ok_or(Refusal::NoUsablePoints)?;
     Ok(tester.effort)
 }
@@ -203,7 +202,7 @@ struct LegTester<'a> {
 }
 
 impl<'a> LegTester<'a> {
-    fn new(map: &'a DepotMap, stretch: &Stretch<'a>, method: Method) -> LegTester<'a> {
+    fn new(map: &'a DepotMap, stretch: &Stretch<'a>) -> LegTester<'a> {
         let mut length_to = [0; MOST_LINES + 1];
         for (place, &line) in stretch.lines.iter().enumerate() {
             length_to[place + 1] = length_to[place] + map.line(line).length;
@@ -211,7 +210,7 @@ impl<'a> LegTester<'a> {
         LegTester {
             map,
             lines: stretch.lines,
-            search: Search::new(map, method),
+            search: Search::new(map, Method::Heap),
             length_to,
             effort: Effort::default(),
         }

@@ -1,8 +1,16 @@
-//! Both searches against going through every way, on small maps.
+//! The searches against going through every way, on small maps, and against each other, on the
+//! maps of the benchmark.
 
 use plain::depot_map::DepotMap;
-use plain::maps::{small_map, Xorshift};
+use plain::maps::{chain, grid, hub, random_graph, small_map, steep, Lengths, Xorshift};
 use plain::search::{Before, Bounds, Method, Search};
+
+const METHODS: [Method; 4] = [
+    Method::Queue,
+    Method::LineQueue,
+    Method::Heap,
+    Method::LineHeap,
+];
 
 /// For each line the least length of the ways that end with it, and all ways of that length.
 type LeastWays = Vec<Option<(u32, Vec<Vec<u32>>)>>;
@@ -56,12 +64,7 @@ fn searches_find_the_least_ways() {
         let map = DepotMap::decode(&small_map(seed).encode()).unwrap();
         let shortest = map.lines.iter().map(|line| line.length).min().unwrap();
         let rng = &mut Xorshift::new(seed);
-        for method in [
-            Method::Queue,
-            Method::LineQueue,
-            Method::Heap,
-            Method::LineHeap,
-        ] {
+        for method in METHODS {
             let mut search = Search::new(&map, method);
             for _ in 0..4 {
                 let bounds = Bounds {
@@ -70,6 +73,44 @@ fn searches_find_the_least_ways() {
                     limit: 7 * shortest,
                 };
                 compare(&map, bounds, &mut search);
+            }
+        }
+    }
+}
+
+/// What a search answers for each line.
+fn answers(map: &DepotMap, bounds: Bounds, search: &mut Search) -> Vec<Option<(u32, Before)>> {
+    search.run(map, bounds);
+    let lines = 0..map.lines.len() as u32;
+    let answer = |line| Some((search.least(line)?, search.before(line)));
+    lines.map(answer).collect()
+}
+
+#[test]
+fn searches_agree_on_full_size_maps() {
+    let plans = [
+        grid(1, Lengths::Equal),
+        grid(2, Lengths::SlightlyDifferent),
+        random_graph(3),
+        chain(4, Lengths::SlightlyDifferent),
+        hub(),
+        steep(),
+    ];
+    let rng = &mut Xorshift::new(5);
+    for plan in plans {
+        let map = DepotMap::decode(&plan.shuffled(5).encode()).unwrap();
+        let mut searches = METHODS.map(|method| Search::new(&map, method));
+        for limit in [5_000, 15_000, 150_000, 150_000] {
+            let bounds = Bounds {
+                first: rng.below(map.lines.len() as u32),
+                class: rng.within(5, 7) as u8,
+                limit,
+            };
+            let [first, others @ ..] = searches
+                .each_mut()
+                .map(|search| answers(&map, bounds, search));
+            for (method, other) in METHODS[1..].iter().zip(others) {
+                assert_eq!(first, other, "{method:?} {bounds:?}");
             }
         }
     }

@@ -55,7 +55,7 @@ pub fn full_size_plan(rng: &mut Xorshift, turn: u64) -> MapPlan {
     let seed = rng.draw();
     let plan = match turn % 5 {
         0 => grid(seed, Lengths::Equal),
-        1 => random_graph(seed, Lengths::SlightlyDifferent),
+        1 => random_graph(seed),
         2 => chain(seed, Lengths::SlightlyDifferent),
         3 => grid(seed, Lengths::SlightlyDifferent),
         _ => chain(seed, Lengths::Equal),

@@ -1,8 +1,8 @@
 //! Compares the C functions with the plain writer and reader on random calls.
 //!
-//! `differential [COUNT [SEED]]` makes that many calls or a few more. It stops at the first
-//! difference and shows the call. `differential replay` makes the calls in the rows of the
-//! standard input, which have the form in which a call is shown.
+//! `differential COUNT SEED` makes that many calls or a few more. It stops at the first difference
+//! and shows the call. `differential replay` makes the calls in the rows of the standard input,
+//! which have the form in which a call is shown.
 
 mod c_functions;
 mod calls;
@@ -19,14 +19,13 @@ use plain::maps::Xorshift;
 use calls::{ReadCall, WriteCall};
 use run::Run;
 
-const DEFAULT_COUNT: u64 = 400_000;
-const DEFAULT_SEED: u64 = 1;
-
 fn main() -> ExitCode {
     let arguments: Vec<String> = std::env::args().skip(1).collect();
-    let done = match arguments.first().map(String::as_str) {
-        Some("replay") => replay(),
-        _ => compare(&arguments),
+    let words: Vec<&str> = arguments.iter().map(String::as_str).collect();
+    let done = match words[..] {
+        ["replay"] => replay(),
+        [count, seed] => compare(count, seed),
+        _ => Err("usage: differential COUNT SEED, or differential replay".to_string()),
     };
     if let Err(message) = done {
         println!("{message}");
@@ -45,12 +44,9 @@ fn replay() -> Result<(), String> {
     Ok(())
 }
 
-fn compare(arguments: &[String]) -> Result<(), String> {
-    let number = |place: usize, default: u64| match arguments.get(place) {
-        Some(word) => word.parse().map_err(|_| format!("not a number: {word}")),
-        None => Ok(default),
-    };
-    let (count, seed) = (number(0, DEFAULT_COUNT)?, number(1, DEFAULT_SEED)?);
+fn compare(count: &str, seed: &str) -> Result<(), String> {
+    let number = |word: &str| word.parse().map_err(|_| format!("not a number: {word}"));
+    let (count, seed): (u64, u64) = (number(count)?, number(seed)?);
     let mut run = Run::default();
     let mut turn = 0;
     while run.calls < count {
