@@ -8,7 +8,7 @@ use Rattle.model.specs.declared.Span.{Span}
 use Rattle.model.specs.declared.ReadAnswer.the-variants.{Read}
 use Rattle.model.specs.Outcome.{ReadOutcome}
 use Rattle.model.specs.Work.{placed}
-use Rattle.model.specs.Call.{linesAfter, ReadAnswers, Called}
+use Rattle.model.specs.Call.{linesAfter, ReadAnswers, ReadCall}
 
 fits : {n : ℕ} {pos neg : Span} {o : ReadOutcome} {lines′ : List ℕ} (lines : List ℕ) → ReadAnswers (Read n pos neg) o → lines′ ≡ linesAfter o lines →
     n ≤ length lines′
@@ -16,6 +16,6 @@ unfolding linesAfter placed
 fits lines (ReadAnswers.lines {ls = ls}) e = omega (arith, ap length e ∙ length-append ls (drop (length ls) lines))
 
 -- The lines that an accepted call counts are in the line buffer.
-pub read-fits : {Asks : ReadOutcome → Type 0} {work work′ before after : List ℕ} {n : ℕ} {pos neg : Span} →
-    Called ReadAnswers linesAfter Asks work work′ before after (Read n pos neg) → n ≤ length after
-read-fits {before = before} c = fits before (c .answered .answers) (c .answered .buffer-after)
+pub read-fits : {mb ref work before work′ after : List ℕ} {n : ℕ} {pos neg : Span} → ReadCall mb ref work before (Read n pos neg) work′ after →
+    n ≤ length after
+read-fits {before = before} c = fits before (c .called .answered .answers) (c .called .answered .buffer-after)

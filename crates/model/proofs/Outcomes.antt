@@ -27,7 +27,7 @@ pub record Written (m : Map) (mb : List ℕ) (s : Stretch) (bytes : List ℕ) : 
 not-refused : {bytes : List ℕ} {r : Refused} → written bytes ≡ WriteOutcome.refused r → ⊥
 not-refused e = let z : _≡_ {A = ℕ} 0 1 = cc in omega arith
 
-written-on : {m : Map} {room : ℕ} {bytes : List ℕ} {r : Stretch} → WriteOn m r room (written bytes) →
+pub written-on : {m : Map} {room : ℕ} {bytes : List ℕ} {r : Stretch} → WriteOn m r room (written bytes) →
     (legs : List (List ℕ)) × Chosen (good m) (r .lines) legs × (bytes ≡ stretchBytes m legs r)
 written-on (WriteOn.accepted {lss = lss} c fits) = (lss, c, refl)
 

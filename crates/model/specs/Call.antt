@@ -56,11 +56,9 @@ pub record Called {Outcome Answer : Type 0} (Tells : Answer → Outcome → Type
   pub work-after : work′ ≡ cleared work
 
 -- A call of the reader: its answer, and the work area and the line buffer before and after it.
-abbrev pub ReadCall : (mb ref work lines : List ℕ) → ReadAnswer → (work′ lines′ : List ℕ) → Type 0
-ReadCall mb ref work before a work′ after =
-    Called ReadAnswers linesAfter (Reads mb ref (length work) (length before)) work work′ before after a
+pub record ReadCall (mb ref work before : List ℕ) (a : ReadAnswer) (work′ after : List ℕ) : Type 0 where
+  pub called : Called ReadAnswers linesAfter (Reads mb ref (length work) (length before)) work work′ before after a
 
 -- A call of the writer: its answer, and the work area and the byte buffer before and after it.
-abbrev pub WriteCall : (mb : List ℕ) → Stretch → (work bytes : List ℕ) → WriteAnswer → (work′ bytes′ : List ℕ) → Type 0
-WriteCall mb s work before a work′ after =
-    Called WriteAnswers bytesAfter (Writes mb s (length work) (length before)) work work′ before after a
+pub record WriteCall (mb : List ℕ) (s : Stretch) (work before : List ℕ) (a : WriteAnswer) (work′ after : List ℕ) : Type 0 where
+  pub called : Called WriteAnswers bytesAfter (Writes mb s (length work) (length before)) work work′ before after a

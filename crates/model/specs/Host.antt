@@ -78,11 +78,9 @@ hostBytesAfter (written bs) bytes = placed bs bytes
 hostBytesAfter (WriteOutcome.refused r) bytes = bytes
 
 -- A host's call of the reader, with the line buffer before and after it. "The entry points hold the work area themselves."
-abbrev pub HostReadCall : (mb ref lines : List ℕ) → HostRead → (lines′ : List ℕ) → Type 0
-HostReadCall mb ref lines a lines′ =
-    Answered (λ given o. given ≡ hostRead o) hostLinesAfter (Reads mb ref workLength (hostRoom (length lines))) lines lines′ a
+pub record HostReadCall (mb ref before : List ℕ) (a : HostRead) (after : List ℕ) : Type 0 where
+  pub answered : Answered (λ given o. given ≡ hostRead o) hostLinesAfter (Reads mb ref workLength (hostRoom (length before))) before after a
 
 -- A host's call of the writer, with the byte buffer before and after it.
-abbrev pub HostWriteCall : (mb stretch : List ℕ) → (pos neg : ℕ) → (bytes : List ℕ) → HostWritten → (bytes′ : List ℕ) → Type 0
-HostWriteCall mb stretch pos neg bytes a bytes′ =
-    Answered (λ given o. given ≡ hostWritten o) hostBytesAfter (Writes mb (hostStretch stretch pos neg) workLength (length bytes)) bytes bytes′ a
+pub record HostWriteCall (mb stretch : List ℕ) (pos neg : ℕ) (before : List ℕ) (a : HostWritten) (after : List ℕ) : Type 0 where
+  pub answered : Answered (λ given o. given ≡ hostWritten o) hostBytesAfter (Writes mb (hostStretch stretch pos neg) workLength (length before)) before after a

@@ -77,10 +77,12 @@ module _ (mb ref : List ℕ) {front front′ : List ℕ} {a : ReadAnswer} (d : R
   host-read {pos = pos} {neg = neg} {room = room} e kept rest size put =
       let same = outcome-is d e kept in
       record {
-        outcome = d .outcome;
-        asked = subst (λ (n : ℕ). Reads mb ref workLength n (d .outcome)) size (d .asked);
-        answers = ap (λ (n : ℕ). accepted n pos neg) (count-is d e kept) ∙ ap hostRead (sym same);
-        buffer-after = put ∙ ap (λ (l : List ℕ). placed (wordBytes l) room) (first d e kept rest) ∙ ap (λ (o : ReadOutcome). hostLinesAfter o room) (sym same);
+        answered = record {
+          outcome = d .outcome;
+          asked = subst (λ (n : ℕ). Reads mb ref workLength n (d .outcome)) size (d .asked);
+          answers = ap (λ (n : ℕ). accepted n pos neg) (count-is d e kept) ∙ ap hostRead (sym same);
+          buffer-after = put ∙ ap (λ (l : List ℕ). placed (wordBytes l) room) (first d e kept rest) ∙ ap (λ (o : ReadOutcome). hostLinesAfter o room) (sym same);
+        };
       }
 
   pub host-not-read : {why : Refusal} {room : List ℕ} {r : HostRead} → a ≡ Refused why → length front ≡ hostRoom (length room) →
@@ -89,8 +91,10 @@ module _ (mb ref : List ℕ) {front front′ : List ℕ} {a : ReadAnswer} (d : R
   host-not-read {room = room} e size given =
       let outcome-is = told-refused (d .answers) e in
       record {
-        outcome = d .outcome;
-        asked = subst (λ (n : ℕ). Reads mb ref workLength n (d .outcome)) size (d .asked);
-        answers = given ∙ ap hostRead (sym outcome-is);
-        buffer-after = ap (λ (o : ReadOutcome). hostLinesAfter o room) (sym outcome-is);
+        answered = record {
+          outcome = d .outcome;
+          asked = subst (λ (n : ℕ). Reads mb ref workLength n (d .outcome)) size (d .asked);
+          answers = given ∙ ap hostRead (sym outcome-is);
+          buffer-after = ap (λ (o : ReadOutcome). hostLinesAfter o room) (sym outcome-is);
+        };
       }

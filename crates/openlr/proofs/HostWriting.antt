@@ -77,10 +77,12 @@ module _ (mb ns : List ℕ) (pos neg : ℕ) {room room′ : List ℕ} {a : Write
   host-call : {r : HostWritten} → r ≡ hostWritten (d .outcome) → HostWriteCall mb stretch pos neg room r room′
   host-call given =
       record {
-        outcome = d .outcome;
-        asked = stretch-stands mb stretch ns pos neg workLength (length room) (d .outcome) taken (d .asked);
-        answers = given;
-        buffer-after = d .buffer-after ∙ same-bytes room (d .outcome);
+        answered = record {
+          outcome = d .outcome;
+          asked = stretch-stands mb stretch ns pos neg workLength (length room) (d .outcome) taken (d .asked);
+          answers = given;
+          buffer-after = d .buffer-after ∙ same-bytes room (d .outcome);
+        };
       }
 
   pub host-written : {count : ℕ} → a ≡ Written count → HostWriteCall mb stretch pos neg room (record { refusal = 0; bytes = count }) room′

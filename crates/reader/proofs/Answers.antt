@@ -145,8 +145,8 @@ module _ (mb ref lines : List ℕ) where
   pub area-short : (work : List ℕ) → length work < workLength → ReadCall mb ref work lines (Refused why.WorkAreaShort) work lines
   unfolding refusalOf
   area-short work h =
-      Answering.area-short ReadOutcome.refused (λ m. ReadParsed m (parse ref) (length lines)) mb h (refused-read why.WorkAreaShort refl)
+      record { called = Answering.area-short ReadOutcome.refused (λ m. ReadParsed m (parse ref) (length lines)) mb h (refused-read why.WorkAreaShort refl) }
 
   pub called : {after work work′ : List ℕ} {a : ReadAnswer} → workLength ≤ length work → ReadAnswered (ReadMap (decode mb) ref (length lines)) lines after a →
       work′ ≡ cleared work → ReadCall mb ref work lines a work′ after
-  called h d e = Answering.called ReadOutcome.refused (λ m. ReadParsed m (parse ref) (length lines)) mb h d e
+  called h d e = record { called = Answering.called ReadOutcome.refused (λ m. ReadParsed m (parse ref) (length lines)) mb h d e }

@@ -32,12 +32,12 @@ written-list WriteAnswers.refusal e = absurd (let z : _≡_ {A = ℕ} 0 1 = cc i
 pub wrote : {mb : List ℕ} {s : Stretch} {w b w′ b′ : List ℕ} {count : ℕ} → WriteCall mb s w b (Written count) w′ b′ → WroteBytes mb s w b b′ count
 unfolding bytesAfter
 wrote {mb} {s} {w} {b} call =
-    let k = written-list (call .answered .answers) refl in
+    let k = written-list (call .called .answered .answers) refl in
     record {
       list = k .0;
-      writes = subst (λ (o : WriteOutcome). Writes mb s (length w) (length b) o) (k .1) (call .answered .asked);
+      writes = subst (λ (o : WriteOutcome). Writes mb s (length w) (length b) o) (k .1) (call .called .answered .asked);
       size = k .2;
-      placed-so = call .answered .buffer-after ∙ ap (λ (o : WriteOutcome). bytesAfter o b) (k .1);
+      placed-so = call .called .answered .buffer-after ∙ ap (λ (o : WriteOutcome). bytesAfter o b) (k .1);
     }
 
 module _ {mb : List ℕ} {s : Stretch} {w b b′ : List ℕ} {count : ℕ} (k : WroteBytes mb s w b b′ count) where
@@ -73,8 +73,8 @@ module _ {mb : List ℕ} {s : Stretch} {w b b′ : List ℕ} {count : ℕ} (k : 
         back = back;
         call = call;
         accepts = λ full room.
-            let same = back .reads .nothing-else (length v) (length l) (call .answered .outcome) full room (call .answered .asked) in
-            (answer-is (call .answered .answers) same, call .answered .buffer-after ∙ ap (λ (o : ReadOutcome). linesAfter o l) same);
+            let same = back .reads .nothing-else (length v) (length l) (call .called .answered .outcome) full room (call .called .answered .asked) in
+            (answer-is (call .called .answered .answers) same, call .called .answered .buffer-after ∙ ap (λ (o : ReadOutcome). linesAfter o l) same);
       }
 
 -- Two stretches with the same bytes.

@@ -55,8 +55,10 @@ module _ (mb : List ℕ) (s : Stretch) (bytes : List ℕ) where
   pub area-short : (work : List ℕ) → length work < workLength → WriteCall mb s work bytes (Refused why.WorkAreaShort) work bytes
   unfolding refusalOf
   area-short work h =
-      Answering.area-short WriteOutcome.refused (λ m. WriteStretch m (checkStretch m s) (length bytes)) mb h (refused-write why.WorkAreaShort refl)
+      record {
+        called = Answering.area-short WriteOutcome.refused (λ m. WriteStretch m (checkStretch m s) (length bytes)) mb h (refused-write why.WorkAreaShort refl);
+      }
 
   pub called : {after work work′ : List ℕ} {a : WriteAnswer} → workLength ≤ length work → WriteAnswered (WriteMap (decode mb) s (length bytes)) bytes after a →
       work′ ≡ cleared work → WriteCall mb s work bytes a work′ after
-  called h d e = Answering.called WriteOutcome.refused (λ m. WriteStretch m (checkStretch m s) (length bytes)) mb h d e
+  called h d e = record { called = Answering.called WriteOutcome.refused (λ m. WriteStretch m (checkStretch m s) (length bytes)) mb h d e }

@@ -33,8 +33,7 @@ wide-requires-2 c κs = search needs
 
 search-requires : tie.Need-search-requires Inv-loop μ-loop
 search-requires c κs =
-    let v = c .before .before .before .loop .inv in
-    (
+    let v = c .before .before .before .loop .inv in (
       v .0,
       v .1 .held,
       v .1 .chained,

@@ -110,7 +110,7 @@ also-usable = before first-line (final last-lines)
 -- The bytes of the first cut. Codes 46,603 and -46,603; P 2 × 8 + 5, Q 4 × 32 + 8, D 2000 ÷ 586; 2000 east and 500 south.
 -- P 3 × 8 + 6, Q 3 × 32 + 12, D 0; 500 east and 500 south. P as before, R 64 + 32 + 26.
 -- Positive offset 500 is a quarter of the first leg, negative offset 250 is half of the last.
-abbrev bypassBytes : List ℕ
+abbrev pub bypassBytes : List ℕ
 bypassBytes =
     0x0B ∷ 0x00 ∷ 0xB6 ∷ 0x0B ∷ 0xFF ∷ 0x49 ∷ 0xF5 ∷ 0x15 ∷ 0x88 ∷ 0x03 ∷ 0x07 ∷ 0xD0 ∷ 0xFE ∷ 0x0C ∷ 0x1E ∷ 0x6C ∷ 0x00 ∷ 0x01 ∷ 0xF4 ∷ 0xFE ∷ 0x0C ∷ 0x1E
     ∷ 0x7A ∷ 0x40 ∷ 0x80 ∷ []

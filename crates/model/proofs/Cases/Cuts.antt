@@ -63,20 +63,17 @@ in-cuts m (final g) = leg-cut {lss = []} [] (connected g) (List·Memᴰ·head re
 in-cuts m (before {ks = ks} {lss = lss} g u) = leg-cut (joined (ks ∷ lss)) (connected g) (in-cuts m u)
 
 module _ (m : Map) (lines : List ℕ) where
+  -- What holds of each cut holds of each choice.
+  pub each-choice : (P : List (List ℕ) → Type 0) → Every P (cuts lines) → (lss : List (List ℕ)) → Choice (good m) lines lss → P lss
+  each-choice P each lss d = every P each (subst (λ (l : List ℕ). List·Memᴰ lss (cuts l)) (d .whole) (in-cuts m (d .usable)))
+
   pub chosen : (lss : List (List ℕ)) → Choice (good m) lines lss →
       Every (λ others. Choice (good m) lines others → Preferred lss others) (cuts lines) → Chosen (good m) lines lss
   chosen lss c each =
-      record {
-        choice = c;
-        preferred = λ others d.
-            every (λ others. Choice (good m) lines others → Preferred lss others) each
-            (subst (λ (l : List ℕ). List·Memᴰ others (cuts l)) (d .whole) (in-cuts m (d .usable))) d;
-      }
+      record { choice = c; preferred = λ others d. each-choice (λ others. Choice (good m) lines others → Preferred lss others) each others d d }
 
   pub no-choice : Every (λ lss. Choice (good m) lines lss → ⊥) (cuts lines) → (lss : List (List ℕ)) → Choice (good m) lines lss → ⊥
-  no-choice each lss d =
-      every (λ lss. Choice (good m) lines lss → ⊥) each
-      (subst (λ (l : List ℕ). List·Memᴰ lss (cuts l)) (d .whole) (in-cuts m (d .usable))) d
+  no-choice each lss d = each-choice (λ lss. Choice (good m) lines lss → ⊥) each lss d d
 
 -- The test that a choice's last leg has passed, of one leg and of two.
 pub passed : {test : LegTest} {at : ℕ} {ls : List ℕ} → Usable test at (ls ∷ []) → test at true ls

@@ -13,18 +13,18 @@ abbrev Refuses : ℕ → List (List ℕ) → Type 0
 Refuses n bss = map decode bss ≡ map (λ bs. MapAnswer.refused (row n)) bss
 
 -- Nodes stored as 0, 0 and 100, 0, and what follows them.
-abbrev twoNodes : List ℕ → List ℕ
+abbrev pub twoNodes : List ℕ → List ℕ
 twoNodes rest = 2 ∷ 0 ∷ 0 ∷ 100 ∷ 0 ∷ rest
 
 -- One line, of which these numbers are given.
-abbrev oneLine : List ℕ → List ℕ
+abbrev pub oneLine : List ℕ → List ℕ
 oneLine numbers = twoNodes (1 ∷ numbers)
 
 -- Longitudes stored as 0 and 1 have the same code.
 abbrev close : List ℕ → List ℕ
 close rest = 2 ∷ 0 ∷ 0 ∷ 1 ∷ 0 ∷ rest
 
-abbrev someLine : List ℕ
+abbrev pub someLine : List ℕ
 someLine = 1 ∷ 0 ∷ 1 ∷ 10 ∷ 3 ∷ 3 ∷ 90 ∷ 90 ∷ []
 
 pub record MapCases : Type 0 where

@@ -1,7 +1,7 @@
 -- Readings on small maps (paper 01, "What counts as a reading" and "Ways to go wrong"; refusals 17 and 18).
 use Prim.Native.Nat.{ℕ}
 use mathlib.Core.Path.{_≡_, refl}
-use mathlib.Core.List.{[], _∷_}
+use mathlib.Core.List.{List, [], _∷_}
 use native.Mathlib.Omega.{arith}
 use Rattle.model.specs.Map.{Map}
 use Rattle.model.specs.Reference.{absent, Reference, parse}
@@ -81,9 +81,10 @@ middle-only =
     (λ r. absurd (omega (arith, r .least (0 ∷ 1 ∷ []) fork-short refl)), (λ r. refl, tt))
 
 -- Two points over both legs of the fork: refusal 18 at leg 0.
-pub fork-refused : (room : ℕ) →
-    ReadParsed fork (parse (0x0B ∷ 0 ∷ 0 ∷ 0 ∷ 0 ∷ 0 ∷ 0 ∷ 0x1B ∷ 0x68 ∷ 0x01 ∷ 0x07 ∷ 0xD0 ∷ 0 ∷ 0 ∷ 0x1B ∷ 0x18 ∷ [])) room
-    (ReadOutcome.refused (rowAt 18 0))
+abbrev pub overTheFork : List ℕ
+overTheFork = 0x0B ∷ 0 ∷ 0 ∷ 0 ∷ 0 ∷ 0 ∷ 0 ∷ 0x1B ∷ 0x68 ∷ 0x01 ∷ 0x07 ∷ 0xD0 ∷ 0 ∷ 0 ∷ 0x1B ∷ 0x18 ∷ []
+
+pub fork-refused : (room : ℕ) → ReadParsed fork (parse overTheFork) room (ReadOutcome.refused (rowAt 18 0))
 unfolding computing
 fork-refused room = ReadOn.no-leg {legs = leg 0 2 1 (matching (road 24)) ∷ []} refl (LegsRead.several last-several)
 
@@ -117,7 +118,7 @@ fork-not-last =
     unread fork (leg 1 2 1 (matching (road 24))) refl (λ r. omega (arith, r .distanced), (λ r. omega (arith, r .distanced), tt))
 
 -- Two lines side by side, and then a point back at node 0, to which no line leads.
-abbrev back : Reference
+abbrev pub back : Reference
 back = record { lon = 0; lat = 0; points = point 1 1_000 ∷ point 1 0xFC18 ∷ []; arrives = road 24; pos = absent; neg = absent }
 
 pub record FirstLegs : Type 0 where

@@ -34,7 +34,7 @@ abbrev middle : ℕ → List ℕ
 middle p = bytes 0x0B 0x1D p (0 ∷ 0 ∷ 0 ∷ 0 ∷ 0 ∷ 0 ∷ 0x2A ∷ 0x1F ∷ [])
 
 -- On the ridge, a first point with this longitude code, then these differences of longitude.
-abbrev eastward : ℕ → ℕ → ℕ → Reference
+abbrev pub eastward : ℕ → ℕ → ℕ → Reference
 eastward lon first second =
     record {
       lon = lon;

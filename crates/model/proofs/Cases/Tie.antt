@@ -32,7 +32,7 @@ last-only =
     (λ r. absurd (omega (arith, sectors (r .allowed .leaves))), (λ r. refl, tt))
 
 -- "From node 0 with two points both 0,1 and 0,2,3 fit."
-tie-several : Several ridge tie
+pub tie-several : Several ridge tie
 unfolding computing finding
 tie-several =
     record {
@@ -52,7 +52,7 @@ last-good : Good ridge true (1 ∷ [])
 unfolding computing
 last-good = record { fit = omega arith; only = last-only }
 
-cut-in-two : Chosen (good ridge) (0 ∷ 1 ∷ []) cuts
+pub cut-in-two : Chosen (good ridge) (0 ∷ 1 ∷ []) cuts
 unfolding computing cutting
 cut-in-two =
     chosen ridge (0 ∷ 1 ∷ []) cuts (record { usable = before first-good (final last-good); whole = refl })
@@ -72,16 +72,16 @@ unfolding computing
 too-few-bytes = WriteOn.no-room cut-in-two (omega arith)
 
 -- And it is read so, with a line buffer of 1,024 numbers or of 2; one of 1 is refusal 20.
-abbrev none : Span
+abbrev pub none : Span
 none = record { least = 0; greatest = 0 }
 
-abbrev from-500 : Span
+abbrev pub from-500 : Span
 from-500 = record { least = 500; greatest = 503 }
 
-legs-read : LegsRead ridge 0 threeLegs (every cuts)
+pub legs-read : LegsRead ridge 0 threeLegs (every cuts)
 legs-read = LegsRead.only first-only (LegsRead.only last-only LegsRead.none)
 
-spans-from-500 : SpansRead ridge (three (byte 0x80)) cuts from-500 none
+pub spans-from-500 : SpansRead ridge (three (byte 0x80)) cuts from-500 none
 unfolding computing
 spans-from-500 = record { pos-read = byte-80; neg-read = unflagged }
 

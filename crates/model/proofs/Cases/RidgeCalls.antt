@@ -1,0 +1,119 @@
+-- What every call on the ridge answers, whatever its work area and its buffers hold (paper 01, "The tie at the ridge").
+use Prim.Native.Nat.{ℕ, _≤_}
+use mathlib.Core.Path.{_≡_, refl}
+use mathlib.Core.List.{List, [], _∷_}
+use native.Mathlib.Omega.{arith}
+use lib.ListN.{length}
+use borrow.Author.Tests.{le-ltb}
+use Rattle.model.specs.declared.Span.{Span}
+use Rattle.model.specs.declared.ReadAnswer.{ReadAnswer}
+use Rattle.model.specs.declared.WriteAnswer.{WriteAnswer}
+use Rattle.model.specs.Reference.{absent, byte, Reference}
+use Rattle.model.specs.Reading.{matching, Leg, Only}
+use Rattle.model.specs.Stretch.{Stretch}
+use Rattle.model.specs.Refusal.{rowAt}
+use Rattle.model.specs.Outcome.{LegsRead, ReadOutcome, read, ReadEnd, ReadOn, Reads, written, WriteOutcome, WriteOn, Writes}
+use Rattle.model.specs.Span.{unflagged}
+use Rattle.model.specs.Work.{workLength}
+use Rattle.model.specs.Call.{linesAfter, bytesAfter, ReadAnswers, WriteAnswers, ReadCall, WriteCall}
+use Rattle.model.proofs.Once.{reads-once, writes-once}
+use Rattle.model.proofs.Outcomes.{on-reads}
+use Rattle.model.proofs.Cases.Computing.{computing}
+use Rattle.model.proofs.Cases.Edges.{byte-80}
+use Rattle.model.proofs.Cases.Ways.{finding, connects}
+use Rattle.model.proofs.Cases.Legs.{reading, only, sectors}
+use Rattle.model.proofs.Cases.Ridge.{mapBytes, ridge, threePoints, threeFrom500, twoPoints, road, point, stretch, threeLegs, on-the-ridge}
+use Rattle.model.proofs.Cases.Tie.{tie-several, cut-in-two, none, from-500, legs-read, spans-from-500}
+use Rattle.model.specs.declared.ReadAnswer.the-variants as Reader
+use Rattle.model.specs.declared.WriteAnswer.the-variants as Writer
+
+-- A call has one outcome, which says its answer and what it leaves in its buffer.
+pub read-as : {mb ref work lines work′ lines′ : List ℕ} {a : ReadAnswer} {o : ReadOutcome} → Reads mb ref (length work) (length lines) o →
+    ReadCall mb ref work lines a work′ lines′ → ReadAnswers a o × (lines′ ≡ linesAfter o lines)
+read-as {mb} {ref} {work} {lines} h c =
+    let same = reads-once mb ref (length lines) (length work) (c .called .answered .asked) h in (rw same at (c .called .answered .answers), rw same at (c .called .answered .buffer-after))
+
+pub write-as : {mb work bytes work′ bytes′ : List ℕ} {s : Stretch} {a : WriteAnswer} {o : WriteOutcome} → Writes mb s (length work) (length bytes) o →
+    WriteCall mb s work bytes a work′ bytes′ → WriteAnswers a o × (bytes′ ≡ bytesAfter o bytes)
+write-as {mb} {work} {bytes} {s = s} h c =
+    let same = writes-once mb s (length bytes) (length work) (c .called .answered .asked) h in (rw same at (c .called .answered .answers), rw same at (c .called .answered .buffer-after))
+
+pub read-answer : {a : ReadAnswer} {ls : List ℕ} {pos neg : Span} → ReadAnswers a (read ls pos neg) → a ≡ Reader.Read (length ls) pos neg
+read-answer ReadAnswers.lines = refl
+
+pub write-answer : {a : WriteAnswer} {bs : List ℕ} → WriteAnswers a (written bs) → a ≡ Writer.Written (length bs)
+write-answer WriteAnswers.bytes = refl
+
+-- Over the top: from node 1 to node 3 by lines 2 and 3, which leave in sector 0. Longitude 1000 has code 466.
+abbrev pub overTheTop : List ℕ
+overTheTop = 0x0B ∷ 0 ∷ 0x01 ∷ 0xD2 ∷ 0 ∷ 0 ∷ 0 ∷ 0x1B ∷ 0x60 ∷ 0x01 ∷ 0x03 ∷ 0xE8 ∷ 0 ∷ 0 ∷ 0x1B ∷ 0x18 ∷ []
+
+abbrev top : Leg
+top = record { from = 1; to = 3; leaves = road 0; lowest = 3; distance = 1; arrival = matching (road 24) }
+
+top-only : Only ridge top (2 ∷ 3 ∷ [])
+unfolding computing finding
+top-only =
+    only ridge top refl (2 ∷ 3 ∷ []) (reading ridge top refl (2 ∷ 3 ∷ []) (search (connects, arith)) refl (omega arith))
+    (λ r. refl, (λ r. absurd (omega (arith, sectors (r .allowed .leaves))), tt))
+
+-- The three points with negative offset 500.
+abbrev pub threeTo500 : List ℕ
+threeTo500 =
+    0x0B ∷ 0 ∷ 0 ∷ 0 ∷ 0 ∷ 0 ∷ 0 ∷ 0x1B ∷ 0x68 ∷ 0x01 ∷ 0x03 ∷ 0xE8 ∷ 0 ∷ 0 ∷ 0x1B ∷ 0x68 ∷ 0x01 ∷ 0x03 ∷ 0xE8 ∷ 0 ∷ 0 ∷ 0x1B ∷ 0x38 ∷ 0x80 ∷ []
+
+abbrev threeTo : Reference
+threeTo =
+    record { lon = 0; lat = 0; points = point 1 1_000 ∷ point 1 1_000 ∷ []; arrives = road 24; pos = absent; neg = byte 0x80 }
+
+-- The outcomes with a full work area and buffers that are long enough.
+module _ (work room : ℕ) (full : workLength ≤ work) where
+  pub two-points : Reads mapBytes twoPoints work room (ReadOutcome.refused (rowAt 18 0))
+  two-points =
+      on-reads mapBytes twoPoints work room _ full (on-the-ridge .map) (on-the-ridge .two-parsed)
+      (ReadOn.no-leg (on-the-ridge .two-located) (LegsRead.several tie-several))
+
+  pub three-points : 2 ≤ room → Reads mapBytes threePoints work room (read (0 ∷ 1 ∷ []) none none)
+  unfolding computing
+  three-points fits =
+      on-reads mapBytes threePoints work room _ full (on-the-ridge .map) (on-the-ridge .three-parsed)
+      (ReadOn.every-leg (on-the-ridge .three-located) legs-read
+      (ReadEnd.accepted (record { pos-read = unflagged; neg-read = unflagged }) (omega arith) (omega arith)))
+
+  pub three-from-500 : 2 ≤ room → Reads mapBytes threeFrom500 work room (read (0 ∷ 1 ∷ []) from-500 none)
+  unfolding computing
+  three-from-500 fits =
+      on-reads mapBytes threeFrom500 work room _ full (on-the-ridge .map) (on-the-ridge .three-from-500-parsed)
+      (ReadOn.every-leg (on-the-ridge .three-from-500-located) legs-read (ReadEnd.accepted spans-from-500 (omega arith) (omega arith)))
+
+  pub three-to-500 : 2 ≤ room → Reads mapBytes threeTo500 work room (read (0 ∷ 1 ∷ []) none from-500)
+  unfolding computing
+  three-to-500 fits =
+      on-reads mapBytes threeTo500 {r = threeTo} work room _ full (on-the-ridge .map) refl
+      (ReadOn.every-leg {legs = threeLegs} refl legs-read
+      (ReadEnd.accepted (record { pos-read = unflagged; neg-read = byte-80 }) (omega arith) (omega arith)))
+
+  pub over-the-top : 2 ≤ room → Reads mapBytes overTheTop work room (read (2 ∷ 3 ∷ []) none none)
+  unfolding computing
+  over-the-top fits =
+      on-reads mapBytes overTheTop
+      {r =
+      record {
+        lon = 466;
+        lat = 0;
+        points = record { leaves = road 0; lowest = 3; distance = 1; next = record { lon = 1_000; lat = 0 } } ∷ [];
+        arrives = road 24;
+        pos = absent;
+        neg = absent;
+      }}
+      work room _ full (on-the-ridge .map) refl
+      (ReadOn.every-leg {legs = top ∷ []} refl (LegsRead.only top-only LegsRead.none)
+      (ReadEnd.accepted (record { pos-read = unflagged; neg-read = unflagged }) (omega arith) (omega arith)))
+
+  pub stretch-written : 23 ≤ room → Writes mapBytes (stretch 0) work room (written threePoints)
+  unfolding computing
+  stretch-written fits = rw (le-ltb work workLength full) (WriteOn.accepted cut-in-two (omega arith))
+
+  pub stretch-written-from-500 : 24 ≤ room → Writes mapBytes (stretch 500) work room (written threeFrom500)
+  unfolding computing
+  stretch-written-from-500 fits = rw (le-ltb work workLength full) (WriteOn.accepted cut-in-two (omega arith))

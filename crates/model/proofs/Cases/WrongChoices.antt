@@ -1,0 +1,199 @@
+-- Wrong choices of points and wrong bytes that the writer's promise shuts out: no call on these small maps, whatever its buffers hold, can be answered so.
+use Prim.Native.Nat.{ℕ, _≤_}
+use mathlib.Core.Path.{_≡_, refl, sym, ap, _∙_}
+use mathlib.Core.Bool.{true}
+use mathlib.Core.List.{List, [], _∷_, _++_}
+use native.Mathlib.Omega.{arith}
+use lib.ListN.{length, drop}
+use borrow.Author.Tests.{le-ltb}
+use Rattle.model.specs.Map.{Node, Map, whole, decode}
+use Rattle.model.specs.Stretch.{Stretch, remains, checkStretch}
+use Rattle.model.specs.Reading.{Allowed}
+use Rattle.model.specs.Choice.{legOf, Good, good, final, Choice, Preferred, Chosen, stretchBytes}
+use Rattle.model.specs.Work.{workLength, placed}
+use Rattle.model.specs.Outcome.{WriteOutcome, written, WriteOn}
+use Rattle.model.specs.Call.{bytesAfter, WriteAnswers, WriteCall}
+use Rattle.model.proofs.Once.{chosen-same}
+use Rattle.model.proofs.Outcomes.{written-on}
+use Rattle.model.proofs.Cases.Computing.{computing}
+use Rattle.model.proofs.Cases.Ways.{Every, finding, connects}
+use Rattle.model.proofs.Cases.Legs.{sole}
+use Rattle.model.proofs.Cases.Cuts.{cuts, cutting, each-choice, chosen, passed}
+use Rattle.model.proofs.Cases.Ridge.{node, line}
+use Rattle.model.proofs.Cases.Encoded.{encoded, encoding}
+use Rattle.model.proofs.Cases.Choices.{bypass, most-lines-first, bypassBytes}
+use Rattle.model.proofs.Cases.Conditions.{detour}
+use Rattle.model.specs.declared.WriteAnswer.the-variants as Writer
+
+counted : {n : ℕ} {o : WriteOutcome} → WriteAnswers (Writer.Written n) o → (bs : List ℕ) × (o ≡ written bs) × (length bs ≡ n)
+counted (WriteAnswers.bytes {bs = bs}) = (bs, refl, refl)
+
+-- A call that answers a count, on a map and for a stretch that are not refused.
+module _ {m : Map} {mb work bytes work′ bytes′ : List ℕ} {s : Stretch} {n : ℕ} (full : workLength ≤ length work) (d : decode mb ≡ whole m)
+    (k : checkStretch m s ≡ remains s) (c : WriteCall mb s work bytes (Writer.Written n) work′ bytes′) where
+  -- The count is of the bytes of legs that are chosen, which stand first in the buffer.
+  written-legs : (legs : List (List ℕ)) × Chosen (good m) (s .lines) legs × (n ≡ length (stretchBytes m legs s))
+      × (bytes′ ≡ stretchBytes m legs s ++ drop (length (stretchBytes m legs s)) bytes)
+  unfolding bytesAfter placed
+  written-legs =
+      let given = counted (c .called .answered .answers) in
+      let on : WriteOn m s (length bytes) (written (given .0)) = rw (given .1, le-ltb (length work) workLength full, d, k) at (c .called .answered .asked) in
+      let legs = written-on on in
+      let after : bytes′ ≡ given .0 ++ drop (length (given .0)) bytes = rw (given .1) at (c .called .answered .buffer-after) in
+      (legs .0, legs .1, sym (given .2) ∙ ap length (legs .2), rw (legs .2) at after)
+
+  -- Where the choice is known, it is that one.
+  only-legs : (legs : List (List ℕ)) → Chosen (good m) (s .lines) legs → (n ≡ length (stretchBytes m legs s))
+      × (bytes′ ≡ stretchBytes m legs s ++ drop (length (stretchBytes m legs s)) bytes)
+  only-legs legs h = let same = chosen-same (written-legs .1) h in (rw same at (written-legs .2), rw same at (written-legs .3))
+
+  -- No count that no usable cut has.
+  no-count : Every (λ lss. Choice (good m) (s .lines) lss → n ≡ length (stretchBytes m lss s) → ⊥) (cuts (s .lines)) → ⊥
+  no-count each =
+      each-choice m (s .lines) (λ lss. Choice (good m) (s .lines) lss → n ≡ length (stretchBytes m lss s) → ⊥) each (written-legs .0)
+      (written-legs .1 .choice) (written-legs .1 .choice) (written-legs .2)
+
+abbrev pub all-of : List ℕ → Stretch
+all-of lines = record { lines = lines; pos = 0; neg = 0 }
+
+abbrev bypassed : Stretch
+bypassed = record { lines = 0 ∷ 1 ∷ 2 ∷ []; pos = 500; neg = 250 }
+
+-- Two lines in a row, to nodes 32,768 apart: "differences fit 16 bits", and this one does not.
+abbrev pub apart : Node → Node → Map
+apart middle end = record { nodes = node 0 0 ∷ middle ∷ end ∷ []; lines = line 0 1 1_000 90 270 ∷ line 1 2 1_000 90 270 ∷ [] }
+
+abbrev pub eastwards : Map
+eastwards = apart (node 1_000 0) (node 32_768 0)
+
+abbrev pub northwards : Map
+northwards = apart (node 0 1_000) (node 0 32_768)
+
+not-eastwards : Good eastwards true (0 ∷ 1 ∷ []) → ⊥
+unfolding computing
+not-eastwards g = omega (arith, g .fit .lon .on)
+
+not-northwards : Good northwards true (0 ∷ 1 ∷ []) → ⊥
+unfolding computing
+not-northwards g = omega (arith, g .fit .lat .on)
+
+-- Lines 0 and 2 of the detour are one leg, of the second line's class.
+detour-good : Good detour true (0 ∷ 2 ∷ [])
+unfolding computing finding
+detour-good =
+    record { fit = omega arith; only = sole detour (legOf detour true (0 ∷ 2 ∷ [])) refl (0 ∷ 2 ∷ []) (search (connects, arith)) refl refl }
+
+detour-uncut : Chosen (good detour) (0 ∷ 2 ∷ []) ((0 ∷ 2 ∷ []) ∷ [])
+unfolding computing cutting
+detour-uncut =
+    chosen detour (0 ∷ 2 ∷ []) ((0 ∷ 2 ∷ []) ∷ []) (record { usable = final detour-good; whole = refl })
+    (λ c. Preferred.fewer (omega arith), (λ c. Preferred.same, tt))
+
+-- Lines of 9000, 5000 and 5000 in a row are one leg.
+abbrev pub straight : Map
+straight =
+    record {
+      nodes = node 0 0 ∷ node 1_000 0 ∷ node 2_000 0 ∷ node 3_000 0 ∷ [];
+      lines = line 0 1 9_000 90 270 ∷ line 1 2 5_000 90 270 ∷ line 2 3 5_000 90 270 ∷ [];
+    }
+
+straight-good : Good straight true (0 ∷ 1 ∷ 2 ∷ [])
+unfolding computing finding
+straight-good =
+    record {
+      fit = omega arith;
+      only = sole straight (legOf straight true (0 ∷ 1 ∷ 2 ∷ [])) refl (0 ∷ 1 ∷ 2 ∷ []) (search (connects, arith)) refl refl;
+    }
+
+straight-uncut : Chosen (good straight) (0 ∷ 1 ∷ 2 ∷ []) ((0 ∷ 1 ∷ 2 ∷ []) ∷ [])
+unfolding computing cutting
+straight-uncut =
+    chosen straight (0 ∷ 1 ∷ 2 ∷ []) ((0 ∷ 1 ∷ 2 ∷ []) ∷ []) (record { usable = final straight-good; whole = refl })
+    (λ c. Preferred.fewer (omega arith), (λ c. Preferred.fewer (omega arith), (λ c. Preferred.fewer (omega arith), (λ c. Preferred.same, tt))))
+
+-- Lines 0, 1, 2 are 2000 long, but 3 is shorter than 1; and 0, 4 is 2000 long, ends at the same node, and arrives as line 2 does.
+abbrev pub sideways : Map
+sideways =
+    record {
+      nodes = node 0 0 ∷ node 1_000 0 ∷ node 2_000 0 ∷ node 3_000 0 ∷ [];
+      lines =
+          line 0 1 100 90 270 ∷ line 1 2 1_800 90 270 ∷ line 2 3 100 90 270 ∷ line 1 2 100 90 270 ∷ line 1 3 1_900 90 270 ∷ [];
+    }
+
+by-3 : Allowed sideways (legOf sideways true (0 ∷ 1 ∷ 2 ∷ [])) (0 ∷ 3 ∷ 2 ∷ [])
+unfolding computing finding
+by-3 = search (connects, arith)
+
+not-sideways : Good sideways true (0 ∷ 1 ∷ 2 ∷ []) → ⊥
+unfolding computing
+not-sideways g = omega (arith, g .only .reading .least (0 ∷ 3 ∷ 2 ∷ []) by-3 (refl, refl))
+
+-- Lines 0, 1, 2 are 400 long and give D 0, as do 0, 3, 2, which are 300 long.
+abbrev pub shortcut : Map
+shortcut =
+    record {
+      nodes = node 0 0 ∷ node 1_000 0 ∷ node 2_000 0 ∷ node 3_000 0 ∷ [];
+      lines = line 0 1 100 90 270 ∷ line 1 2 200 90 270 ∷ line 2 3 100 90 270 ∷ line 1 2 100 90 270 ∷ [];
+    }
+
+by-shortcut : Allowed shortcut (legOf shortcut true (0 ∷ 1 ∷ 2 ∷ [])) (0 ∷ 3 ∷ 2 ∷ [])
+unfolding computing finding
+by-shortcut = search (connects, arith)
+
+not-shortest : Good shortcut true (0 ∷ 1 ∷ 2 ∷ []) → ⊥
+unfolding computing
+not-shortest g = omega (arith, g .only .reading .least (0 ∷ 3 ∷ 2 ∷ []) by-shortcut (refl, refl))
+
+-- Calls with a full work area. With two points there are 16 bytes, with three 23.
+module _ (work bytes : List ℕ) (full : workLength ≤ length work) {n : ℕ} {work′ bytes′ : List ℕ} where
+  -- Two or three lines that are not good as one leg are not written with two points.
+  no-two-points-of-two : {m : Map} → decode (encoded m) ≡ whole m → checkStretch m (all-of (0 ∷ 1 ∷ [])) ≡ remains (all-of (0 ∷ 1 ∷ [])) →
+      (Good m true (0 ∷ 1 ∷ []) → ⊥) → WriteCall (encoded m) (all-of (0 ∷ 1 ∷ [])) work bytes (Writer.Written n) work′ bytes′ → n ≡ 16 → ⊥
+  unfolding computing cutting
+  no-two-points-of-two {m} d k not-good c e =
+      no-count {m = m} full d k c (λ h f. omega (arith, e, f), (λ h f. not-good (passed (h .usable)), tt))
+
+  no-two-points-of-three : {m : Map} → decode (encoded m) ≡ whole m → checkStretch m (all-of (0 ∷ 1 ∷ 2 ∷ [])) ≡ remains (all-of (0 ∷ 1 ∷ 2 ∷ [])) →
+      (Good m true (0 ∷ 1 ∷ 2 ∷ []) → ⊥) → WriteCall (encoded m) (all-of (0 ∷ 1 ∷ 2 ∷ [])) work bytes (Writer.Written n) work′ bytes′ → n ≡ 16 → ⊥
+  unfolding computing cutting
+  no-two-points-of-three {m} d k not-good c e =
+      no-count {m = m} full d k c (
+        λ h f. omega (arith, e, f),
+        (λ h f. omega (arith, e, f), (λ h f. omega (arith, e, f), (λ h f. not-good (passed (h .usable)), tt))),
+      )
+
+  -- On the bypass: a writer that takes the shortest first leg; one that gives the class of a leg's first line for the leg's (48 for 88);
+  -- "measuring the negative offset against the first leg" (20 for 80).
+  pub no-other-bytes : WriteCall (encoded bypass) bypassed work bytes (Writer.Written n) work′ bytes′ → (bytes′ ≡ bypassBytes ++ drop 25 bytes → ⊥) → ⊥
+  unfolding computing encoding
+  no-other-bytes c other = other (only-legs full refl refl c ((0 ∷ 1 ∷ []) ∷ (2 ∷ []) ∷ []) most-lines-first .1)
+
+  -- One that takes a difference of longitudes of 32,768.
+  pub no-far-longitude : WriteCall (encoded eastwards) (all-of (0 ∷ 1 ∷ [])) work bytes (Writer.Written n) work′ bytes′ → n ≡ 16 → ⊥
+  unfolding computing encoding
+  no-far-longitude c e = no-two-points-of-two {m = eastwards} refl refl not-eastwards c e
+
+  -- One that asks only the longitudes.
+  pub no-far-latitude : WriteCall (encoded northwards) (all-of (0 ∷ 1 ∷ [])) work bytes (Writer.Written n) work′ bytes′ → n ≡ 16 → ⊥
+  unfolding computing encoding
+  no-far-latitude c e = no-two-points-of-two {m = northwards} refl refl not-northwards c e
+
+  -- One that does not search again for the leg's lower class: it would cut the detour between its lines.
+  pub no-cut-for-a-class : WriteCall (encoded detour) (all-of (0 ∷ 2 ∷ [])) work bytes (Writer.Written n) work′ bytes′ → (n ≡ 16 → ⊥) → ⊥
+  unfolding computing encoding
+  no-cut-for-a-class c other = other (only-legs full refl refl c ((0 ∷ 2 ∷ []) ∷ []) detour-uncut .0)
+
+  -- One that keeps a search that went up to 14,063 for a leg of 19,000: it would cut before the third line.
+  pub no-cut-for-length : WriteCall (encoded straight) (all-of (0 ∷ 1 ∷ 2 ∷ [])) work bytes (Writer.Written n) work′ bytes′ → (n ≡ 16 → ⊥) → ⊥
+  unfolding computing encoding
+  no-cut-for-length c other = other (only-legs full refl refl c ((0 ∷ 1 ∷ 2 ∷ []) ∷ []) straight-uncut .0)
+
+  -- One that takes the leg's one reading, 0, 4, for the stretch's own lines since it is as long.
+  pub no-other-last-line : WriteCall (encoded sideways) (all-of (0 ∷ 1 ∷ 2 ∷ [])) work bytes (Writer.Written n) work′ bytes′ → n ≡ 16 → ⊥
+  unfolding computing encoding
+  no-other-last-line c e = no-two-points-of-three {m = sideways} refl refl not-sideways c e
+
+  -- One that takes the leg's one reading, 0, 3, 2, for the stretch's own lines since it ends with the same line.
+  pub no-shorter-reading : WriteCall (encoded shortcut) (all-of (0 ∷ 1 ∷ 2 ∷ [])) work bytes (Writer.Written n) work′ bytes′ → n ≡ 16 → ⊥
+  unfolding computing encoding
+  no-shorter-reading c e = no-two-points-of-three {m = shortcut} refl refl not-shortest c e
