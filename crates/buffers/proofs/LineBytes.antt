@@ -1,4 +1,4 @@
--- Laws of line numbers as bytes: how many, one more, and the number at a place.
+-- Laws of numbers as four bytes each: how many, one more, and the number at a place.
 use Prim.Native.Nat.{ℕ, zero, suc, _+_, _*_, _/_, _≤_, _<_, min}
 use mathlib.Core.Path.{_≡_, refl, sym, ap, subst, _∙_}
 use mathlib.Core.List.{List, [], _∷_, _++_, append-assoc}

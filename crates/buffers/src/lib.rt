@@ -1,7 +1,7 @@
 // Buffers and numbers, for every crate above: parts filled and copied, numbers of seven bits, and numbers of two, three and four bytes.
 ghost use Rattle.model.specs.Work.{placed};
 ghost use mathlib.Core.Path.{_≡_};
-ghost use Prim.Native.Nat.{_+_, _≤_, _<_};
+ghost use Prim.Native.Nat.{min, _+_, _≤_, _<_};
 ghost use lib.ListN.{length};
 ghost use Rattle.buffers.specs.Kept.{Filled};
 
@@ -14,6 +14,13 @@ pub fn wide(x: u32) -> usize
     ensures { λ r. ⌜ (r ≡ x) × (r < 4_294_967_296) ⌝ }
 {
     x as usize
+}
+
+// The lesser of two counts.
+pub fn lesser(a: usize, b: usize) -> usize
+    ensures { λ r. ⌜ r ≡ min a b ⌝ }
+{
+    if a < b { a } else { b }
 }
 
 // Puts `x` at the `count` numbers from `base` on.

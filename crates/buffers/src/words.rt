@@ -1,24 +1,18 @@
-// Line numbers as the host has them: four bytes each, low byte first.
+// Numbers of four bytes each, low byte first.
 use crate::bytes::wide;
+use crate::lesser;
 ghost use mathlib.Core.Path.{_≡_};
-ghost use Prim.Native.Nat.{_+_, _*_, _≤_, min};
+ghost use Prim.Native.Nat.{_+_, _*_, _≤_};
 ghost use mathlib.Core.List.{[], _∷_, _++_};
 ghost use lib.ListN.{length, take, drop};
 ghost use Rattle.model.specs.Work.{placed};
 ghost use Rattle.model.specs.Host.{words, wordBytes};
 
-// How many bytes a line number has.
+// How many bytes a number has.
 pub const WORD_BYTES: usize = 4;
 
-// The lesser of two counts.
-pub fn lesser(a: usize, b: usize) -> usize
-    ensures { λ r. ⌜ r ≡ min a b ⌝ }
-{
-    if a < b { a } else { b }
-}
-
-// The line number at byte `at`.
-fn word_at(bytes: &[u8], at: usize) -> u32
+// The number at byte `at`.
+pub fn word_at(bytes: &[u8], at: usize) -> u32
     requires { ⌜ at + 4 ≤ length (now bytes) ⌝ }
     ensures { λ r. ⌜ words (take 4 (drop at (now (bytes .entry)))) ≡ r ∷ [] ⌝ }
 {
@@ -26,7 +20,7 @@ fn word_at(bytes: &[u8], at: usize) -> u32
     low + 65_536 * wide(bytes[at + 2]) + 16_777_216 * wide(bytes[at + 3])
 }
 
-// Puts a line number at byte `at`.
+// Puts a number at byte `at`.
 fn put_word(bytes: &mut [u8], at: usize, number: u32)
     requires { ⌜ at + 4 ≤ length (now bytes) ⌝ }
     ensures { λ _. ⌜ now (bytes .exit) ≡ take at (now (bytes .entry)) ++ (wordBytes (number ∷ []) ++ drop (at + 4) (now (bytes .entry))) ⌝ }
@@ -37,7 +31,7 @@ fn put_word(bytes: &mut [u8], at: usize, number: u32)
     bytes[at + 3] = (number / 16_777_216 % 256) as u8;
 }
 
-// Puts line numbers at the start of `bytes`.
+// Puts numbers at the start of `bytes`.
 pub fn put_words(numbers: &[u32], bytes: &mut [u8])
     requires { ⌜ length (now numbers) * 4 ≤ length (now bytes) ⌝ }
     ensures { λ _. ⌜ now (bytes .exit) ≡ placed (wordBytes (now (numbers .entry))) (now (bytes .entry)) ⌝ }
@@ -50,7 +44,7 @@ pub fn put_words(numbers: &[u32], bytes: &mut [u8])
     }
 }
 
-// Takes line numbers from `bytes`, as many as both have.
+// Takes numbers from `bytes`, as many as both have.
 pub fn take_words(bytes: &[u8], numbers: &mut [u32]) -> usize
     ensures { λ r. ⌜ (r ≤ length (now (numbers .entry))) × (take r (now (numbers .exit)) ≡ take (length (now (numbers .entry))) (words (now (bytes .entry)))) ⌝ }
 {

@@ -1,5 +1,7 @@
 // Test cases in a file: parts one after another, each behind its length in two bytes, low byte first.
 // What a part means is for the program that reads it.
+use buffers::bytes::wide;
+use buffers::words;
 ghost use mathlib.Core.Path.{_≡_};
 ghost use Prim.Native.Nat.{_+_, _*_, _≤_, _<_};
 ghost use lib.ListN.{length};
@@ -10,12 +12,6 @@ pub fn megabyte() -> [u8; 1048576]
     ensures { λ r. ⌜ 1048576 ≡ length r ⌝ }
 {
     [0; 1048576]
-}
-
-fn wide(byte: u8) -> usize
-    ensures { λ r. ⌜ (r ≡ byte) × (r < 256) ⌝ }
-{
-    byte as usize
 }
 
 // Where a part starts and ends, or that there is none.
@@ -34,7 +30,7 @@ pub fn part_at(bytes: &[u8], at: usize) -> Part
     if bytes.len() - at < 2 {
         return Part::Nothing;
     }
-    let size = wide(bytes[at]) + wide(bytes[at + 1]) * 256;
+    let size = (wide(bytes[at]) + wide(bytes[at + 1]) * 256) as usize;
     let from = at + 2;
     if bytes.len() - from < size {
         return Part::Nothing;
@@ -52,10 +48,7 @@ pub fn word_at(bytes: &[u8], at: usize) -> u32
     if bytes.len() - at < 4 {
         return 0;
     }
-    (wide(bytes[at])
-        + wide(bytes[at + 1]) * 256
-        + wide(bytes[at + 2]) * 65_536
-        + wide(bytes[at + 3]) * 16_777_216) as u32
+    words::word_at(bytes, at)
 }
 
 // A sum that tells the numbers and their order: each step takes 257 times the sum so far and adds the number, by the greatest prime below 2^32.
@@ -88,14 +81,8 @@ pub fn sum_of_bytes(bytes: &[u8], to: usize) -> u64
     let mut total: u64 = 0;
     let mut i: usize = 0;
     while i < to {
-        total = added(total, wide(bytes[i]) as u32);
+        total = added(total, wide(bytes[i]));
         i += 1;
     }
     total
-}
-
-pub fn lesser(a: usize, b: usize) -> usize
-    ensures { λ r. ⌜ (r ≤ a) × (r ≤ b) ⌝ }
-{
-    if a < b { a } else { b }
 }

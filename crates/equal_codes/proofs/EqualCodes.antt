@@ -1,4 +1,4 @@
--- Two nodes with the same pair of codes, looked for from the last node back, by the codes in the scratch.
+-- Two nodes with the same pair of codes, looked for from the last node back, by the codes in the work area.
 use Prim.Native.Nat.{ℕ, zero, suc, _+_, _≤_, _<_}
 use mathlib.Core.Path.{_≡_, refl, sym, ap, ap₂, subst, _∙_}
 use mathlib.Core.Bool.{Bool, true, false, _&&_, _||_, or-true, or-false, or-assoc}

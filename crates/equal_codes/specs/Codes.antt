@@ -1,4 +1,4 @@
--- The nodes' codes in the scratch, and chains of the nodes that are in one bucket.
+-- The nodes' codes in the work area, and chains of the nodes that are in one bucket.
 use Rattle.work_area.specs.Area.{nodePlace, codesFrom, chainsFrom, bucketsFrom, codesTo, buckets}
 use Rattle.model.specs.Map.{lonCode, latCode, clash}
 use Prim.Native.Nat.{ℕ, _+_, _*_, _/_, _%_, _≤_, _<_}

@@ -33,7 +33,7 @@ fn put_codes(work: &mut [u32], n: usize)
     }
 }
 
-// Whether nodes `i` and `j` have the same codes, which stand in the scratch.
+// Whether nodes `i` and `j` have the same codes, which stand in their cells.
 fn same_codes(work: &[u32], i: usize, j: usize) -> bool
     requires { ⌜ (workLength ≤ length (now work)) × (i < greatestNodeCount) × (j < greatestNodeCount) × CodedAt (now work) i × CodedAt (now work) j ⌝ }
     ensures { λ r. ⌜ r ≡ sameCodes (heldNode (now (work .entry)) i) (heldNode (now (work .entry)) j) ⌝ }
@@ -92,7 +92,7 @@ fn empty_buckets(work: &mut [u32])
     fill(work, BUCKET_HEADS, BUCKETS, 0);
 }
 
-// Whether two of the first `n` nodes have the same codes, which stand in the scratch.
+// Whether two of the first `n` nodes have the same codes, which stand in their cells.
 fn some_met(work: &mut [u32], n: usize) -> bool
     requires { ⌜ (workLength ≤ length (now work)) × (n ≤ greatestNodeCount) × Coded (now work) n × Chains (now work) 0 ⌝ }
     ensures { λ r. ⌜ EqualFound chainsFrom n (now (work .entry)) (now (work .exit)) r ⌝ }

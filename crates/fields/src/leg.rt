@@ -1,4 +1,4 @@
-// The sector of a line's bearing, and byte D of a leg.
+// A leg as a reference describes it, and the readings found of it; the sector of a line's bearing, and byte D of a leg.
 use model::limits::DISTANCE_STEP;
 use model::limits::GREATEST_LEG_LENGTH;
 ghost use mathlib.Core.Path.{_≡_};

@@ -43,10 +43,3 @@ module _ {Outcome : Type 0} (refused : Refused → Outcome) where
 
     pub area-full : (o : Outcome) → workLength ≤ work → OnMap refused Asks (decode mb) o → Opens refused Asks mb work o
     area-full o h p = rw (le-ltb work workLength h) p
-
-  module _ (Asks : Map → Outcome → Type 0) (mb : List ℕ) where
-    pub map-refused : {r : Refused} → decode mb ≡ MapAnswer.refused r → OnMap refused Asks (decode mb) (refused r)
-    map-refused e = rw e refl
-
-    pub map-whole : {m : Map} (o : Outcome) → decode mb ≡ whole m → Asks m o → OnMap refused Asks (decode mb) o
-    map-whole o e h = rw e h

@@ -1,6 +1,6 @@
 // The functions that a C program calls (paper 01, "The product"). include/openlr.h has them for C.
+use buffers::lesser;
 use buffers::words::WORD_BYTES;
-use buffers::words::lesser;
 use buffers::words::put_words;
 use buffers::words::take_words;
 use model::ReadAnswer;

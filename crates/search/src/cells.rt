@@ -1,4 +1,4 @@
-// The regions of the work area that the search reads and writes, and how their numbers are read.
+// How the search packs what it knows into its cells of the work area, and how their numbers are read.
 use buffers::wide;
 use model::limits::GREATEST_LEG_LENGTH;
 use work_area::LENGTH;

@@ -1,6 +1,5 @@
 // The search for ways of least length, over a map that stands in the work area.
-// `chains::link` is called once a map, then `search` for a first line, a class and a limit. What it found is asked by
-// `ways::to_line` and, with what `nodes` says of a node, by `ways::to_node`; `ways::write_lines` gives the lines of a way.
+// `chains::link` is called once a map, then `search` for a first line, a class and a limit. The crate `ways` says what it found.
 use list::bring_down;
 use list::first_waiting;
 use list::forget;

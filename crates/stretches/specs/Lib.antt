@@ -1,3 +1,3 @@
--- What the writer's functions promise.
+-- What is said of a stretch and of its lines.
 pub mod Stretch
 pub mod Attributes

@@ -1,4 +1,3 @@
-// The writer of references, below its entry: a stretch's checks, the tests of its legs, the choice of its points, and its bytes.
-
+// A stretch as it is given: its lines on the map, whether it is refused (7 to 9), and what its offsets leave of it.
 pub mod lines;
 pub mod stretch;

@@ -1,8 +1,9 @@
 // Writes the stretches of cases.bin, each on its own map, and prints a row for each: the answer, a sum over the bytes handed back, what the call left of
 // the work area, and whether the rest of the byte buffer is as it was. Where bytes were written, the row goes on with what the reader answers to exactly
 // those. What it prints is held to what the unrelated implementation says (oracle/pack.py).
+use buffers::lesser;
+use buffers::words::take_words;
 use cases::Part;
-use cases::lesser;
 use cases::sum_of;
 use cases::sum_of_bytes;
 use cases::word_at;
@@ -19,10 +20,6 @@ use model::WriteAnswer;
 use model::number_of;
 use reader::read;
 use writer::write;
-ghost use mathlib.Core.Path.{_≡_};
-ghost use Prim.Native.Nat.{ℕ, _*_, _≤_, _<_};
-ghost use lib.ListN.{length, getD};
-ghost use Rattle.cases.specs.Part.{wordAt};
 
 // How many bytes an answer hands back.
 fn count_of(answer: WriteAnswer) -> usize {
@@ -88,19 +85,6 @@ fn call(
     io::write_all(STDOUT_FILENO, b"\n");
 }
 
-// Puts the line numbers of a case, four bytes each, first into a buffer. The answer is how many there are.
-fn take_stretch(part: &[u8], stretch: &mut [u32]) -> usize
-    ensures { λ r. ⌜ (r ≤ length (now (stretch .exit))) × ((k : ℕ) → k < r → getD (now (stretch .exit)) k 0 ≡ wordAt (now (part .entry)) (k * 4)) ⌝ }
-{
-    let count = lesser(part.len() / 4, stretch.len());
-    let mut i: usize = 0;
-    while i < count {
-        stretch[i] = word_at(part, i * 4);
-        i += 1;
-    }
-    count
-}
-
 // Makes the call with the offsets that the numbers of the case say, and with a work area and a byte buffer of the lengths that they say.
 fn run_case(
     map: &[u8],
@@ -128,7 +112,7 @@ fn run_parts(map: &[u8], part: &[u8], words: &[u8], work: &mut [u32]) {
     let mut stretch = [0; 80];
     let mut bytes = [0; 480];
     let mut lines = [0; 80];
-    let count = take_stretch(part, &mut stretch);
+    let count = take_words(part, &mut stretch);
     run_case(map, &stretch[..count], words, work, &mut bytes, &mut lines);
 }
 

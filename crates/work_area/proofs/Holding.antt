@@ -1,4 +1,4 @@
--- A work area that holds a map: it still does after a change from 8,192 on, and what its numbers are.
+-- A work area that holds a map: it still does after a change behind the map, and what its numbers are.
 use Rattle.work_area.specs.Area.{nodePlace, latitude, linePlace, searchFrom, codesFrom, Holds, Held}
 use Rattle.model.specs.Map.{greatestLineCount, Map}
 use Prim.Native.Nat.{ℕ, _+_, _≤_, _<_}
@@ -28,37 +28,14 @@ holds-kept h kept l =
       line-held = λ i k a b. kept .below (linePlace i + k) (omega arith) ∙ h .line-held i k a b;
     }
 
--- ---- the numbers of a node and of a line
+-- ---- the numbers of a node
 
-module _ {w : List ℕ} {nodes lines : ℕ} {m : Map} (h : Holds w nodes lines m) (i : ℕ) where
-  module _ (known : i < nodes) where
-    pub lon-at : getD w (nodePlace i) 0 ≡ nodeAt m i .lon
-    lon-at = rw add-zero at (h .node-held i 0 known (lit< tt))
+module _ {w : List ℕ} {nodes lines : ℕ} {m : Map} (h : Holds w nodes lines m) (i : ℕ) (known : i < nodes) where
+  pub lon-at : getD w (nodePlace i) 0 ≡ nodeAt m i .lon
+  lon-at = rw add-zero at (h .node-held i 0 known (lit< tt))
 
-    pub lat-at : getD w (nodePlace i + latitude) 0 ≡ nodeAt m i .lat
-    lat-at = h .node-held i 1 known (lit< tt)
-
-  module _ (known : i < lines) where
-    pub start-at : getD w (linePlace i) 0 ≡ lineAt m i .start
-    start-at = rw add-zero at (h .line-held i 0 known (lit< tt))
-
-    pub end-at : getD w (linePlace i + 1) 0 ≡ lineAt m i .end
-    end-at = h .line-held i 1 known (lit< tt)
-
-    pub length-at : getD w (linePlace i + 2) 0 ≡ lineAt m i .length
-    length-at = h .line-held i 2 known (lit< tt)
-
-    pub frc-at : getD w (linePlace i + 3) 0 ≡ lineAt m i .frc
-    frc-at = h .line-held i 3 known (lit< tt)
-
-    pub fow-at : getD w (linePlace i + 4) 0 ≡ lineAt m i .fow
-    fow-at = h .line-held i 4 known (lit< tt)
-
-    pub out-at : getD w (linePlace i + 5) 0 ≡ lineAt m i .out
-    out-at = h .line-held i 5 known (lit< tt)
-
-    pub back-at : getD w (linePlace i + 6) 0 ≡ lineAt m i .back
-    back-at = h .line-held i 6 known (lit< tt)
+  pub lat-at : getD w (nodePlace i + latitude) 0 ≡ nodeAt m i .lat
+  lat-at = h .node-held i 1 known (lit< tt)
 
 -- ---- with the map's own count of nodes
 

@@ -35,6 +35,9 @@ mul-size c = search needs
 add-size : tie.Need-add-size
 add-size c = search needs
 
+cast-size : tie.Need-cast-size
+cast-size c = search needs
+
 add-from : tie.Need-add-from
 add-from c = search needs
 
@@ -45,8 +48,8 @@ returns-3 : tie.Need-returns-3
 unfolding sizeAt
 returns-3 c = omega arith
 
-add-t10 : tie.Need-add-t10
-add-t10 c = search needs
+add-t7 : tie.Need-add-t7
+add-t7 c = search needs
 
 returns-4 : tie.Need-returns-4
 unfolding sizeAt
@@ -66,8 +69,9 @@ part-at-spec =
     wide-requires-2
     mul-size
     add-size
+    cast-size
     add-from
     sub-if3
     returns-3
-    add-t10
+    add-t7
     returns-4)

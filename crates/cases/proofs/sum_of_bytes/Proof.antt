@@ -19,9 +19,6 @@ shared-slice-read-wide c = search needs
 wide-requires : tie.Need-wide-requires Inv-loop μ-loop
 wide-requires c κs = search needs
 
-cast-added : tie.Need-cast-added Inv-loop μ-loop
-cast-added c = search needs
-
 added-requires : tie.Need-added-requires Inv-loop μ-loop
 added-requires c κs = search needs
 
@@ -46,7 +43,6 @@ sum-of-bytes-spec =
     loop-holds
     shared-slice-read-wide
     wide-requires
-    cast-added
     added-requires
     add-i
     loop-less

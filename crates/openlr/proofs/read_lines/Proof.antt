@@ -14,7 +14,7 @@ use Rattle.openlr.proofs.read_lines.Reads as reads
 use Rattle.openlr.proofs.read_lines.Lts as lts
 use Rattle.openlr.proofs.no_lines.Reads as no-lines-reads
 use Rattle.openlr.proofs.read_into.Reads as read-into-reads
-use Rattle.buffers.proofs.words.lesser.Reads as lesser-reads
+use Rattle.buffers.proofs.lesser.Reads as lesser-reads
 use Rattle.buffers.proofs.words.put_words.Reads as put-words-reads
 
 abbrev Told : Type 0

@@ -1,4 +1,5 @@
 -- `read_back` is safe: the bytes that it lends are no more than there are.
+use native.Mathlib.Omega.{arith}
 use borrow.Author.Needs.{needs}
 use mathlib.Core.Path.{sym}
 use lib.Seq.{length-take-le}
@@ -18,7 +19,7 @@ lesser-requires : tie.Need-lesser-requires
 lesser-requires c κs = search needs
 
 slice-aggregate-show-read : tie.Need-slice-aggregate-show-read
-slice-aggregate-show-read c = sym (length-take-le _ _ (c .before .lesser .ensures .1))
+slice-aggregate-show-read c = sym (length-take-le _ _ (omega (arith, c .before .lesser .ensures)))
 
 show-read-requires : tie.Need-show-read-requires
 show-read-requires c κs = search needs

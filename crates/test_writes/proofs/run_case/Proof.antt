@@ -1,4 +1,5 @@
 -- `run_case` is safe: the parts that it lends are no longer than the buffers.
+use native.Mathlib.Omega.{arith}
 use borrow.Author.Needs.{needs}
 use mathlib.Core.Path.{sym}
 use lib.Seq.{length-take-le}
@@ -33,13 +34,13 @@ slice-relend-prefix-call : tie.Need-slice-relend-prefix-call
 slice-relend-prefix-call c = search needs
 
 slice-aggregate-call : tie.Need-slice-aggregate-call
-slice-aggregate-call c = sym (length-take-le _ _ (c .before .before .before .before .before .lesser .ensures .1))
+slice-aggregate-call c = sym (length-take-le _ _ (omega (arith, c .before .before .before .before .before .lesser .ensures)))
 
 slice-relend-prefix-call-2 : tie.Need-slice-relend-prefix-call-2
 slice-relend-prefix-call-2 c = search needs
 
 slice-aggregate-call-2 : tie.Need-slice-aggregate-call-2
-slice-aggregate-call-2 c = sym (length-take-le _ _ (c .before .before .before .before .lesser2 .ensures .1))
+slice-aggregate-call-2 c = sym (length-take-le _ _ (omega (arith, c .before .before .before .before .lesser2 .ensures)))
 
 call-requires : tie.Need-call-requires
 call-requires c κs = search needs
