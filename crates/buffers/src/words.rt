@@ -46,7 +46,8 @@ pub fn put_words(numbers: &[u32], bytes: &mut [u8])
 
 // Takes numbers from `bytes`, as many as both have.
 pub fn take_words(bytes: &[u8], numbers: &mut [u32]) -> usize
-    ensures { λ r. ⌜ (r ≤ length (now (numbers .entry))) × (take r (now (numbers .exit)) ≡ take (length (now (numbers .entry))) (words (now (bytes .entry)))) ⌝ }
+    ensures { λ r. ⌜ (r ≤ length (now (numbers .entry)))
+        × (take r (now (numbers .exit)) ≡ take (length (now (numbers .entry))) (words (now (bytes .entry)))) ⌝ }
 {
     let n = lesser(bytes.len() / WORD_BYTES, numbers.len());
     let mut i: usize = 0;

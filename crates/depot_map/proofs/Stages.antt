@@ -11,7 +11,7 @@ use lib.ListN.{length, drop}
 use Rattle.model.specs.declared.Refusal.{Refusal}
 use Rattle.model.specs.Refusal.{refusalOf}
 use Rattle.buffers.specs.Kept.{Kept}
-use Rattle.work_area.specs.Held.{listed, heldNode, heldNodes, heldLines}
+use Rattle.work_area.specs.Held.{numbered, heldNode, heldNodes, heldLines}
 use Rattle.depot_map.specs.Step.{goOn, NodeRead, LineRead}
 use Rattle.depot_map.specs.Stage.{answered, Stage}
 use Rattle.depot_map.specs.Answer.{MapIsRead}
@@ -61,7 +61,7 @@ pub record LinesRead (S : MapAnswer) (bytes : List ℕ) (at nodes count i : ℕ)
 
 pub lines-none : (bytes : List ℕ) (at nodes count : ℕ) (w : List ℕ) →
     LinesRead (decodeLines count (drop at bytes) (heldNodes w nodes) []) bytes at nodes count 0 w w
-unfolding listed
+unfolding numbered
 lines-none bytes at nodes count w =
     let all : count - 0 ≡ count = omega arith in
     record { within = omega arith; kept = kept-none; left = rw all }
@@ -105,7 +105,7 @@ pub record NodesRead (S : MapAnswer) (bytes : List ℕ) (at count i : ℕ) (w v 
   pub left : S ≡ decodeNodes (count - i) (drop at bytes) (heldNodes v i)
 
 pub nodes-none : (bytes : List ℕ) (at count : ℕ) (w : List ℕ) → NodesRead (decodeNodes count (drop at bytes) []) bytes at count 0 w w
-unfolding listed
+unfolding numbered
 nodes-none bytes at count w =
     let all : count - 0 ≡ count = omega arith in
     record { within = omega arith; kept = kept-none; left = rw all }

@@ -14,7 +14,7 @@ use Rattle.model.specs.Lines.{nodeAt, lineAt}
 use Rattle.model.proofs.Decoded.{well-formed}
 use Rattle.work_area.specs.Held.{heldNode, lineFrom, heldLine, heldNodes, heldLines}
 use Rattle.depot_map.specs.Stage.{answered}
-use Rattle.depot_map.specs.Answer.{WholeMap, Answers, MapIsRead}
+use Rattle.depot_map.specs.Answer.{WholeMap, MapAnswers, MapIsRead}
 use Rattle.depot_map.specs.declared.MapRead.{MapRead}
 use Rattle.depot_map.specs.declared.MapRead.the-variants.{Whole, Refused}
 use Rattle.work_area.proofs.Held.{listed-length, listed-at}
@@ -60,17 +60,17 @@ module _ (w : List ℕ) (nodes lines : ℕ) where
       }
 
 -- What `read_map` answers, from what its stages answer.
-pub answers : (bytes w : List ℕ) (r : MapRead) → workLength ≤ length w → decode bytes ≡ answered w r → Answers bytes w r
-unfolding answered Answers
+pub answers : (bytes w : List ℕ) (r : MapRead) → workLength ≤ length w → decode bytes ≡ answered w r → MapAnswers bytes w r
+unfolding answered MapAnswers
 answers bytes w (Whole nodes lines) full e = record { map = held w nodes lines; decodes = e; held = holds w nodes lines bytes full e }
 answers bytes w (Refused why) full e = e
 
 -- The answer, once it is known which it is.
 module _ {bytes w v : List ℕ} {r : MapRead} (a : MapIsRead bytes w v r) where
   pub read-whole : {nodes lines : ℕ} → r ≡ Whole nodes lines → WholeMap bytes v nodes lines
-  unfolding Answers
-  read-whole e = subst (λ (q : MapRead). Answers bytes v q) e (a .answers)
+  unfolding MapAnswers
+  read-whole e = subst (λ (q : MapRead). MapAnswers bytes v q) e (a .answers)
 
   pub read-refused : {why : Refusal} → r ≡ Refused why → decode bytes ≡ refused (refusalOf why)
-  unfolding Answers
-  read-refused e = subst (λ (q : MapRead). Answers bytes v q) e (a .answers)
+  unfolding MapAnswers
+  read-refused e = subst (λ (q : MapRead). MapAnswers bytes v q) e (a .answers)

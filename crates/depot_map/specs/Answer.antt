@@ -15,11 +15,11 @@ pub record WholeMap (bytes v : List ℕ) (nodes lines : ℕ) : Type 0 where
   pub decodes : decode bytes ≡ whole map
   pub held : Holds v nodes lines map
 
-unfoldable pub Answers : List ℕ → List ℕ → MapRead → Type 0
-Answers bytes v (Whole nodes lines) = WholeMap bytes v nodes lines
-Answers bytes v (Refused why) = decode bytes ≡ refused (refusalOf why)
+unfoldable pub MapAnswers : List ℕ → List ℕ → MapRead → Type 0
+MapAnswers bytes v (Whole nodes lines) = WholeMap bytes v nodes lines
+MapAnswers bytes v (Refused why) = decode bytes ≡ refused (refusalOf why)
 
 -- The work area was `w` and is `v`: after a refusal too, only its first 10,240 numbers are changed.
 pub record MapIsRead (bytes w v : List ℕ) (r : MapRead) : Type 0 where
-  pub answers : Answers bytes v r
+  pub answers : MapAnswers bytes v r
   pub kept : Kept 0 codesTo w v

@@ -17,17 +17,18 @@ unfoldable pub goOn : List ℕ → (ℕ → List ℕ → MapAnswer) → Read →
 goOn bytes rest (Read.Got x next) = rest x (drop next bytes)
 goOn bytes rest (Read.Refused why) = refused (refusalOf why)
 
-abbrev pub Within : ℕ → ℕ → Read → Type 0
-Within low high (Read.Got x next) = (low ≤ x) × (x ≤ high)
-Within low high (Read.Refused why) = Unit {0}
+abbrev pub InRange : ℕ → ℕ → Read → Type 0
+InRange low high (Read.Got x next) = (low ≤ x) × (x ≤ high)
+InRange low high (Read.Refused why) = Unit {0}
 
 pub record FieldRead (bytes : List ℕ) (from low high : ℕ) (why : Refusal) (r : Read) : Type 0 where
   pub goes : (rest : ℕ → List ℕ → MapAnswer) → field (drop from bytes) low high (refusalOf why) rest ≡ goOn bytes rest r
-  pub within : Within low high r
+  pub within : InRange low high r
 
 -- A node, a line or a part of one, put into the work area, which was `w` and is `v`: what `step` reads is `held` there, and only the
 -- numbers from `low` up to `high` are changed. Of an answer `Got` only the position counts.
-pub record StepRead {A : Type 0} (step : (A → List ℕ → MapAnswer) → MapAnswer) (bytes : List ℕ) (held : A) (low high : ℕ) (w v : List ℕ) (r : Read) : Type 0 where
+pub record StepRead {A : Type 0} (step : (A → List ℕ → MapAnswer) → MapAnswer) (bytes : List ℕ) (held : A) (low high : ℕ)
+    (w v : List ℕ) (r : Read) : Type 0 where
   pub goes : (rest : A → List ℕ → MapAnswer) → step rest ≡ goOn bytes (λ x. rest held) r
   pub kept : Kept low high w v
 

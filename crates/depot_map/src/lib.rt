@@ -31,7 +31,8 @@ pub enum MapRead {
 // The end of the bytes: left-over bytes come last, and then equal codes.
 fn finish(map: &[u8], at: usize, work: &mut [u32], nodes: u32, lines: u32) -> MapRead
     requires { ⌜ (workLength ≤ length (now work)) × (nodes ≤ greatestNodeCount) × (lines ≤ greatestLineCount) ⌝ }
-    ensures { λ r. ⌜ Stage (ended (drop at (now (map .entry))) (heldNodes (now (work .entry)) nodes) (heldLines (now (work .entry)) lines)) codesFrom (now (work .entry)) (now (work .exit)) r ⌝ }
+    ensures { λ r. ⌜ Stage (ended (drop at (now (map .entry))) (heldNodes (now (work .entry)) nodes) (heldLines (now (work .entry)) lines))
+        codesFrom (now (work .entry)) (now (work .exit)) r ⌝ }
 {
     if at < map.len() {
         return MapRead::Refused(Refusal::MapNumber);
@@ -45,7 +46,8 @@ fn finish(map: &[u8], at: usize, work: &mut [u32], nodes: u32, lines: u32) -> Ma
 // `count` lines, and what follows them.
 fn read_lines(map: &[u8], from: usize, work: &mut [u32], nodes: u32, count: u32) -> MapRead
     requires { ⌜ (workLength ≤ length (now work)) × (1 ≤ nodes) × (nodes ≤ greatestNodeCount) × (count ≤ greatestLineCount) ⌝ }
-    ensures { λ r. ⌜ Stage (decodeLines count (drop from (now (map .entry))) (heldNodes (now (work .entry)) nodes) []) linesFrom (now (work .entry)) (now (work .exit)) r ⌝ }
+    ensures { λ r. ⌜ Stage (decodeLines count (drop from (now (map .entry))) (heldNodes (now (work .entry)) nodes) [])
+        linesFrom (now (work .entry)) (now (work .exit)) r ⌝ }
 {
     let n = count as usize;
     let mut at = from;
@@ -63,7 +65,8 @@ fn read_lines(map: &[u8], from: usize, work: &mut [u32], nodes: u32, count: u32)
 // The count of lines, after the nodes, and what follows it.
 fn count_lines(map: &[u8], from: usize, work: &mut [u32], nodes: u32) -> MapRead
     requires { ⌜ (workLength ≤ length (now work)) × (1 ≤ nodes) × (nodes ≤ greatestNodeCount) ⌝ }
-    ensures { λ r. ⌜ Stage (decodeNodes 0 (drop from (now (map .entry))) (heldNodes (now (work .entry)) nodes)) linesFrom (now (work .entry)) (now (work .exit)) r ⌝ }
+    ensures { λ r. ⌜ Stage (decodeNodes 0 (drop from (now (map .entry))) (heldNodes (now (work .entry)) nodes))
+        linesFrom (now (work .entry)) (now (work .exit)) r ⌝ }
 {
     match field(map, from, 1, GREATEST_LINE_COUNT, Refusal::MapCount) {
         Read::Got(lines, next) => read_lines(map, next, work, nodes, lines),

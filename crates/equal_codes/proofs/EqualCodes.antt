@@ -12,7 +12,7 @@ use lib.Dec.{eqb}
 use borrow.Author.Tests.{eqb-true, eqb-false, eq-eqb, ne-eqb}
 use Rattle.model.specs.Map.{Node, lonCode, latCode, sameCodes, among, clash, greatestNodeCount}
 use Rattle.buffers.specs.Kept.{Kept}
-use Rattle.work_area.specs.Held.{heldNode, listed, heldNodes}
+use Rattle.work_area.specs.Held.{heldNode, numbered, heldNodes}
 use Rattle.work_area.specs.Area.{codesFrom, chainsFrom, codesTo}
 use Rattle.equal_codes.specs.Codes.{codesAt, CodedAt, Coded, CodesPut, NoChains, EqualFound}
 use Rattle.work_area.proofs.Held.{node-same, nodes-same}
@@ -72,11 +72,11 @@ clash-last a (x ∷ l) =
 module _ (w : List ℕ) where
   module _ (a : Node) where
     among-none : among a (heldNodes w zero) ≡ false
-    unfolding among listed
+    unfolding among numbered
     among-none = refl
 
     among-grows : (n : ℕ) → among a (heldNodes w (suc n)) ≡ (among a (heldNodes w n) || sameCodes a (heldNode w n))
-    unfolding listed
+    unfolding numbered
     among-grows n = among-last a (heldNode w n) (heldNodes w n)
 
     pub among-false : (n : ℕ) → ((k : ℕ) → k < n → sameCodes a (heldNode w k) ≡ false) → among a (heldNodes w n) ≡ false
@@ -86,11 +86,11 @@ module _ (w : List ℕ) where
     among-true = any-true (λ n. among a (heldNodes w n)) (λ n. sameCodes a (heldNode w n)) among-none among-grows
 
   clash-none : clash (heldNodes w zero) ≡ false
-  unfolding clash listed
+  unfolding clash numbered
   clash-none = refl
 
   clash-grows : (n : ℕ) → clash (heldNodes w (suc n)) ≡ (clash (heldNodes w n) || among (heldNode w n) (heldNodes w n))
-  unfolding listed
+  unfolding numbered
   clash-grows n = clash-last (heldNode w n) (heldNodes w n)
 
   pub clash-false : (n : ℕ) → ((k : ℕ) → k < n → among (heldNode w k) (heldNodes w k) ≡ false) → clash (heldNodes w n) ≡ false

@@ -50,7 +50,7 @@ pub record Chains (w : List ℕ) (j : ℕ) : Type 0 where
   pub nexts : (i : ℕ) → i < j → Last w (bucketAt w i) i (getD w (nextAt i) 0)
 
 -- One node more in the chains.
-pub record Linked (j : ℕ) (w v : List ℕ) : Type 0 where
+pub record InBucket (j : ℕ) (w v : List ℕ) : Type 0 where
   pub chains : Chains v (j + 1)
   pub kept : Kept chainsFrom codesTo w v
 

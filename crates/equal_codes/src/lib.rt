@@ -14,7 +14,7 @@ ghost use Rattle.model.specs.Map.{sameCodes, among, greatestNodeCount};
 ghost use Rattle.model.specs.Work.{workLength};
 ghost use Rattle.work_area.specs.Held.{heldNode, heldNodes};
 ghost use Rattle.work_area.specs.Area.{codesFrom, chainsFrom, buckets};
-ghost use Rattle.equal_codes.specs.Codes.{CodedAt, Coded, CodesPut, bucketAt, Chains, Linked, NoChains, EqualFound};
+ghost use Rattle.equal_codes.specs.Codes.{CodedAt, Coded, CodesPut, bucketAt, Chains, InBucket, NoChains, EqualFound};
 
 // The codes of the first `n` nodes, those of node i at CODES + 2 * i.
 fn put_codes(work: &mut [u32], n: usize)
@@ -75,9 +75,9 @@ fn met_before(work: &[u32], j: usize) -> bool
 }
 
 // Node `j` becomes the last one of its bucket.
-fn link(work: &mut [u32], j: usize)
+fn add_to_bucket(work: &mut [u32], j: usize)
     requires { ⌜ (workLength ≤ length (now work)) × (j < greatestNodeCount) × Chains (now work) j ⌝ }
-    ensures { λ _. ⌜ Linked j (now (work .entry)) (now (work .exit)) ⌝ }
+    ensures { λ _. ⌜ InBucket j (now (work .entry)) (now (work .exit)) ⌝ }
 {
     let h = bucket(work, j);
     work[BUCKET_CHAINS + j] = work[BUCKET_HEADS + h];
@@ -102,7 +102,7 @@ fn some_met(work: &mut [u32], n: usize) -> bool
         if met_before(work, j) {
             return true;
         }
-        link(work, j);
+        add_to_bucket(work, j);
         j += 1;
     }
     false

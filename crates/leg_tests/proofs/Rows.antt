@@ -20,7 +20,7 @@ use Rattle.leg_tests.specs.declared.cells.Cell.{Cell}
 use Rattle.leg_tests.specs.declared.Row.{Row}
 use Rattle.stretches.specs.Stretch.{Known}
 use Rattle.point_choice.specs.Cuts.{Tested}
-use Rattle.leg_tests.specs.LegTests.{mark, Marks, Open, Sifted, DoneFor, Trial, Within, Owned, Measured, Worked, CellTested, RowSifted, RowOwned, RowTested}
+use Rattle.leg_tests.specs.LegTests.{mark, Marks, Open, Sifted, DoneFor, Trial, ShortLegs, Owned, Measured, Worked, CellTested, RowSifted, RowOwned, RowTested}
 use Rattle.leg_tests.proofs.Slices.{total-slice-on, total-slice-none, lowest-slice-on, lowest-slice-none, row-set}
 use Rattle.leg_tests.proofs.Opening.{open-start, open-on, open-end, not-tested}
 
@@ -74,7 +74,7 @@ module _ {m : Map} {lines : ℕ} {s : List ℕ} {i first : ℕ} {w : List ℕ} w
 
   -- Past the end of the row no leg is tested, and none needs to be.
   pub sifting-end : {a b v : List ℕ} {class len searched limit end j : ℕ} → end ≤ j → Kept (65 * i) (65 * i + 65) a b →
-      ((k : ℕ) → j < k → mark b i k ≡ mark a i k) → Within m s i end a → Sifting m lines s i first a b w v class len searched limit j →
+      ((k : ℕ) → j < k → mark b i k ≡ mark a i k) → ShortLegs m s i end a → Sifting m lines s i first a b w v class len searched limit j →
       RowSifted m lines s i first a b w v
   sifting-end {a} {b} {end = end} {j = j} e kept later within k =
       record { sifted = λ q h l. go q h l (decLt j q); kept = kept; worked = k .worked }
@@ -108,7 +108,7 @@ pub later-set : (a b : List ℕ) (i j x : ℕ) → ((k : ℕ) → j < k → mark
     mark (set b (65 * i + (j + 1)) x) i k ≡ mark a i k
 later-set a b i j x later k h = getD-set-other b (65 * i + (j + 1)) (65 * i + k) x 0 (λ e. omega arith) ∙ later k (omega arith)
 
--- The first lines from `at` on are tested, and the legs' own; `at - 1` is the next of the chain.
+-- The first lines from `at` on are tested, and the legs' own; `at - 1` is the next of the adjacency list.
 pub record Testing (m : Map) (lines : ℕ) (s : List ℕ) (i end : ℕ) (a b w v : List ℕ) (at : ℕ) : Type 0 where
   pub inside : at ≤ lines
   pub next : 0 < at → lineAt m (at - 1) .start ≡ lineAt m (getD s i 0) .start

@@ -16,14 +16,14 @@ use Rattle.model.specs.Choice.{arrivalOf, fromNode, toNode, legOf}
 use Rattle.model.proofs.Joining.{to-known, lowest-small}
 use Rattle.buffers.proofs.Kept.{kept-none, kept-then, kept-within}
 use Rattle.search.specs.Area.{Searched, Set}
-use Rattle.search.specs.Promises.{Found}
-use Rattle.ways.specs.Told.{Ended}
+use Rattle.search.specs.Promises.{Finished}
+use Rattle.ways.specs.Told.{NearestPut}
 use Rattle.work_area.proofs.Holding.{held-kept}
 use Rattle.ways.proofs.Carried.{searched-kept, chained-above}
 use Rattle.fields.specs.Leg.{LongestLeg, legIn}
 use Rattle.fields.specs.declared.leg.Leg.{Leg}
 use Rattle.legs.specs.Verdict.{LimitFor, Ready}
-use Rattle.leg_tests.specs.LegTests.{legFrom, OwnLines, Done, DoneFor, DoneUpTo, Trial, Alike, Measured, Prepared}
+use Rattle.leg_tests.specs.LegTests.{legFrom, OwnLines, Done, DoneFor, DoneUpTo, Trial, SameAttributes, Measured, Prepared}
 use Rattle.leg_tests.proofs.Slices.{first-of-slice, last-of-slice, connected-front, connected-back}
 use Rattle.model.specs.Reading as definitions
 
@@ -75,7 +75,7 @@ module _ {m : Map} {lines : ℕ} {s : List ℕ} {i first : ℕ} (t : Trial m lin
         sum = sym (x .sum);
       }
 
-  module _ {limit : ℕ} {w : List ℕ} (alike : Alike m s i first) (up : DoneUpTo m lines class first len limit w) (leg : Leg) (e : legIn leg ≡ legFrom m s i j) where
+  module _ {limit : ℕ} {w : List ℕ} (alike : SameAttributes m s i first) (up : DoneUpTo m lines class first len limit w) (leg : Leg) (e : legIn leg ≡ legFrom m s i j) where
     pub ready : Ready m lines leg first limit w
     unfolding legIn legOf fromNode
     ready =
@@ -123,7 +123,7 @@ module _ {m : Map} {lines class first len : ℕ} {w : List ℕ} (set : Set m lin
         worked = record { set = set; kept = kept-none };
       }
 
-  pub anew : {limit : ℕ} {v u : List ℕ} → LimitFor (distance len) limit → Found m lines class first limit w v → Ended m lines limit v u →
+  pub anew : {limit : ℕ} {v u : List ℕ} → LimitFor (distance len) limit → Finished m lines class first limit w v → NearestPut m lines limit v u →
       Prepared m lines class first len w u limit
   anew l f e =
       let held = held-kept (omega arith) (f .kept) (set .held) in

@@ -100,12 +100,12 @@ pub record Trial (m : Map) (lines : ℕ) (s : List ℕ) (i first : ℕ) : Type 0
   pub from : lineAt m first .start ≡ lineAt m (getD s i 0) .start
 
 -- It has the attributes of line `i` too.
-abbrev pub Alike : Map → List ℕ → ℕ → ℕ → Type 0
-Alike m s i first = leaving m first ≡ leaving m (getD s i 0)
+abbrev pub SameAttributes : Map → List ℕ → ℕ → ℕ → Type 0
+SameAttributes m s i first = leaving m first ≡ leaving m (getD s i 0)
 
 -- Legs whose number is 1 go no further than to position `end`, and are no longer than a leg can be.
-abbrev pub Within : Map → List ℕ → ℕ → ℕ → List ℕ → Type 0
-Within m s i end table = (j : ℕ) → i < j → j ≤ length s → mark table i j ≡ 1 → (j ≤ end) × (total m (slice i j s) ≤ greatestLegLength)
+abbrev pub ShortLegs : Map → List ℕ → ℕ → ℕ → List ℕ → Type 0
+ShortLegs m s i end table = (j : ℕ) → i < j → j ≤ length s → mark table i j ≡ 1 → (j ≤ end) × (total m (slice i j s) ≤ greatestLegLength)
 
 -- The leg from `i` to `j` is usual, and its own lines are its only reading from their first line.
 pub record OwnRead (m : Map) (s : List ℕ) (i j : ℕ) : Type 0 where

@@ -10,7 +10,7 @@ ghost use lib.ListN.{getD};
 ghost use Rattle.model.specs.Map.{Map};
 ghost use Rattle.model.specs.Reading.{greatestLegLength};
 ghost use Rattle.search.specs.Area.{Set};
-ghost use Rattle.leg_tests.specs.LegTests.{DoneFor, Trial, Alike, Measured, CellTested, OwnTested};
+ghost use Rattle.leg_tests.specs.LegTests.{DoneFor, Trial, SameAttributes, Measured, CellTested, OwnTested};
 
 // A leg's number in the table, and what the work area is searched for: 1 + the class, or 0, and the limit.
 pub struct Cell {
@@ -40,11 +40,11 @@ pub fn test_cell(
     reach: usize,
     before: Cell,
 ) -> Cell
-    requires { ⌜ ((m : Map) × Set m lines (now work) × Trial m lines (now stretch) i first × Alike m (now stretch) i first
+    requires { ⌜ ((m : Map) × Set m lines (now work) × Trial m lines (now stretch) i first × SameAttributes m (now stretch) i first
         × Measured m (now stretch) i j class len × (before .mark ≡ 1 → len ≤ greatestLegLength)
         × DoneFor m lines (before .searched) first (before .limit) (now work)) ⌝ }
     ensures { λ r. ⌜ ((m : Map) → Set m lines (now (work .entry)) → Trial m lines (now (stretch .entry)) i first
-        → Alike m (now (stretch .entry)) i first → Measured m (now (stretch .entry)) i j class len
+        → SameAttributes m (now (stretch .entry)) i first → Measured m (now (stretch .entry)) i j class len
         → (before .mark ≡ 1 → len ≤ greatestLegLength) → DoneFor m lines (before .searched) first (before .limit) (now (work .entry))
         → CellTested m lines (now (stretch .entry)) i j first (before .mark) (now (work .entry)) (now (work .exit)) r) ⌝ }
 {

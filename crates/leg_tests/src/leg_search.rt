@@ -30,7 +30,7 @@ ghost use Rattle.buffers.specs.Decides.{Decides};
 ghost use Rattle.legs.specs.Verdict.{LimitFor, Says, Anywhere, FromLine, Ready};
 ghost use Rattle.fields.specs.Leg.{legIn};
 ghost use Rattle.stretches.specs.Stretch.{Known};
-ghost use Rattle.leg_tests.specs.LegTests.{legFrom, Sole, SoleWay, OwnLines, DoneFor, DoneUpTo, Trial, Alike, Measured, Prepared, NoneLater};
+ghost use Rattle.leg_tests.specs.LegTests.{legFrom, Sole, SoleWay, OwnLines, DoneFor, DoneUpTo, Trial, SameAttributes, Measured, Prepared, NoneLater};
 ghost use Rattle.model.specs.Reading as definitions;
 
 // A length for a search to look ahead to from the leg to position `j`, so that it serves longer legs too: `goal`, or how long the legs of
@@ -178,9 +178,9 @@ pub fn test_leg(
     len: u32,
     limit: u32,
 ) -> bool
-    requires { ⌜ ((m : Map) × Trial m lines (now stretch) i first × Alike m (now stretch) i first
+    requires { ⌜ ((m : Map) × Trial m lines (now stretch) i first × SameAttributes m (now stretch) i first
         × Measured m (now stretch) i j class len × (len ≤ greatestLegLength) × DoneUpTo m lines class first len limit (now work)) ⌝ }
-    ensures { λ r. ⌜ ((m : Map) → Trial m lines (now (stretch .entry)) i first → Alike m (now (stretch .entry)) i first
+    ensures { λ r. ⌜ ((m : Map) → Trial m lines (now (stretch .entry)) i first → SameAttributes m (now (stretch .entry)) i first
         → Measured m (now (stretch .entry)) i j class len → len ≤ greatestLegLength → DoneUpTo m lines class first len limit (now (work .entry))
         → Decides (Sole m (legFrom m (now (stretch .entry)) i j) (slice i j (now (stretch .entry))) first) r) ⌝ }
 {

@@ -7,8 +7,8 @@ use cells::test_cell;
 use cells::test_own_cell;
 use fields::leg::Attributes;
 use legs::attributes::leaves_as;
-use search::chains::first_leaving;
-use search::chains::next_leaving;
+use search::adjacency::first_leaving;
+use search::adjacency::next_leaving;
 use stretches::lines::attributes_of;
 use stretches::lines::field_of;
 use stretches::lines::greater;
@@ -24,7 +24,7 @@ ghost use Rattle.model.specs.Map.{Map};
 ghost use Rattle.model.specs.Lines.{Connected, leaving};
 ghost use Rattle.fields.specs.Leg.{attributesIn};
 ghost use Rattle.search.specs.Area.{Set};
-ghost use Rattle.leg_tests.specs.LegTests.{Trial, Alike, Within, RowCleared, Owned, RowOwned, RowSifted, RowTested, AllTested};
+ghost use Rattle.leg_tests.specs.LegTests.{Trial, SameAttributes, ShortLegs, RowCleared, Owned, RowOwned, RowSifted, RowTested, AllTested};
 
 mod cells;
 mod leg;
@@ -104,10 +104,10 @@ fn test_first_line(
     table: &mut [u8],
 )
     requires { ⌜ (65 * length (now stretch) ≤ length (now table)) × (i ≤ row .end) × (row .end ≤ length (now stretch)) ⌝ }
-    requires { ⌜ ((m : Map) × Set m lines (now work) × Trial m lines (now stretch) i first × Alike m (now stretch) i first
-        × Within m (now stretch) i (row .end) (now table)) ⌝ }
+    requires { ⌜ ((m : Map) × Set m lines (now work) × Trial m lines (now stretch) i first × SameAttributes m (now stretch) i first
+        × ShortLegs m (now stretch) i (row .end) (now table)) ⌝ }
     ensures { λ _. ⌜ ((m : Map) → Set m lines (now (work .entry)) → Trial m lines (now (stretch .entry)) i first
-        → Alike m (now (stretch .entry)) i first → Within m (now (stretch .entry)) i (row .end) (now (table .entry))
+        → SameAttributes m (now (stretch .entry)) i first → ShortLegs m (now (stretch .entry)) i (row .end) (now (table .entry))
         → RowSifted m lines (now (stretch .entry)) i first (now (table .entry)) (now (table .exit)) (now (work .entry)) (now (work .exit))) ⌝ }
 {
     let end = row.end;

@@ -9,7 +9,7 @@ use Rattle.model.specs.Lines.{lineAt, leaving}
 use Rattle.fields.specs.Leg.{LongestLeg, attributesIn, legIn}
 use Rattle.buffers.specs.Kept.{Kept}
 use Rattle.search.specs.Area.{latest, Set}
-use Rattle.search.specs.Promises.{Found}
+use Rattle.search.specs.Promises.{Finished}
 use Rattle.buffers.proofs.Kept.{kept-none, kept-then, kept-within}
 use Rattle.work_area.proofs.Holding.{held-kept}
 use Rattle.search.proofs.Leaving.{latest-le, latest-hit}
@@ -30,7 +30,7 @@ pub record Done (m : Map) (lines : ℕ) (leg : Leg) (first limit : ℕ) (w v : L
 
 module _ {m : Map} {lines : ℕ} {leg : Leg} {first limit : ℕ} {w : List ℕ} where
   pub searched : {v : List ℕ} → Set m lines w → LongestLeg (leg .distance) limit → lineAt m first .start ≡ leg .from →
-      leaving m first ≡ attributesIn (leg .leaves) → Found m lines (leg .lowest) first limit w v → Done m lines leg first limit w v
+      leaving m first ≡ attributesIn (leg .leaves) → Finished m lines (leg .lowest) first limit w v → Done m lines leg first limit w v
   unfolding legIn
   searched set longest from leaves f =
       record {
@@ -53,7 +53,7 @@ pub not-first : {m : Map} {lines : ℕ} (leg : Leg) (first : ℕ) {w : List ℕ}
 unfolding legIn
 not-first leg first set differs = record { says = unread (not-leaving first differs); set = set; kept = kept-none }
 
--- The first lines from `at` on have been judged, and `at - 1` is the next of the chain.
+-- The first lines from `at` on have been judged, and `at - 1` is the next of the adjacency list.
 pub record Walked (m : Map) (lines : ℕ) (leg : Leg) (N : Reading → List ℕ → Type 0) (w v : List ℕ) (at : ℕ) (found : Verdict) : Type 0 where
   pub judged : Judged m lines (FromLines m (legIn leg) at) N w v found
   pub inside : at ≤ lines

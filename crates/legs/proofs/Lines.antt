@@ -43,14 +43,14 @@ line-end m leg last e ends =
       first = λ a b s. (rw e at s) .0;
     }
 
--- No reading starts from a line past the chain of the leg's node.
+-- No reading starts from a line past the adjacency list of the leg's node.
 module _ {m : Map} {leg : Leg} where
   pub none-yet : (at : ℕ) → at ≡ latest m (leg .from) (length (m .lines)) → (ls : List ℕ) → FromLines m leg at ls → ⊥
   none-yet at e ls r =
       omega
       (arith, r .starts, latest-all m (leg .from) (length (m .lines)) (firstOf ls) (first-known (r .reading .allowed .connected)) (r .reading .allowed .starts))
 
-  -- The line `at - 1` of the chain, and then those from the next of the chain on.
+  -- The line `at - 1` of the adjacency list, and then those from its next on.
   module _ (at next : ℕ) (some : 0 < at) (from : lineAt m (at - 1) .start ≡ leg .from)
       (e : next ≡ latest m (lineAt m (at - 1) .start) (at - 1)) where
     pub one-more : (ls : List ℕ) → Either (FromLines m leg at) (FromLine m leg (at - 1)) ls → FromLines m leg next ls

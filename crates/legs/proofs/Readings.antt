@@ -12,9 +12,9 @@ use Rattle.model.specs.Map.{Map}
 use Rattle.model.specs.Field.{distance}
 use Rattle.model.specs.Lines.{lineAt, total, firstOf, lastOf, leaving}
 use Rattle.model.specs.Reading.{Leg, Arrives, Allowed, SameEnds, Reading, greatestLegLength}
-use Rattle.search.specs.Ways.{Target, Ends, Way, Least, Only, Two, Beyond}
+use Rattle.search.specs.Ways.{Target, Ends, Way, Least, OnlyWay, Two, Beyond}
 use Rattle.model.proofs.Skipping.{last-append}
-use Rattle.search.specs.Area.{lineBefore, linesTo}
+use Rattle.search.specs.Area.{predecessor, linesTo}
 use Rattle.ways.specs.Told.{Told}
 use Rattle.ways.specs.declared.Ways.{Ways}
 use Rattle.ways.specs.declared.Ways.the-variants.{Nothing, Several, One}
@@ -94,7 +94,7 @@ module _ {m : Map} {leg : Leg} {first limit : ℕ} {to : Target} (limited : Limi
           differ = t .differ;
         }
 
-    pub one-reading : {list : List ℕ} → distance d ≡ leg .distance → Only m (leg .lowest) first to d list →
+    pub one-reading : {list : List ℕ} → distance d ≡ leg .distance → OnlyWay m (leg .lowest) first to d list →
         ReadingTo m leg first to list × ((other : List ℕ) → ReadingTo m leg first to other → other ≡ list)
     one-reading {list} e o = (
       reading e (o .way) (o .sum),
@@ -105,12 +105,12 @@ module _ {m : Map} {leg : Leg} {first limit : ℕ} {to : Target} (limited : Limi
 last-is : (w : List ℕ) (last count : ℕ) → 0 < count → lastOf (linesTo w last count) ≡ last
 unfolding lastOf
 last-is w last zero some = absurd (omega arith)
-last-is w last (suc count) some = last-append (linesTo w (lineBefore w last - 1) count) (last ∷ []) (omega arith)
+last-is w last (suc count) some = last-append (linesTo w (predecessor w last - 1) count) (last ∷ []) (omega arith)
 
 count-is : (w : List ℕ) (last count : ℕ) → length (linesTo w last count) ≡ count
 count-is w last zero = refl
 count-is w last (suc count) =
-    length-append (linesTo w (lineBefore w last - 1) count) (last ∷ []) ∙ (let h = count-is w (lineBefore w last - 1) count in omega arith)
+    length-append (linesTo w (predecessor w last - 1) count) (last ∷ []) ∙ (let h = count-is w (predecessor w last - 1) count in omega arith)
 
 -- The verdict on the ways that were found.
 module _ {m : Map} {leg : Leg} {first limit : ℕ} {to : Target} (limited : LimitFor (leg .distance) limit) (end : EndOf m leg to)

@@ -82,7 +82,8 @@ pub extern "C" fn measured_read(
     work: &mut [u32],
     lines: &mut [u32],
 ) -> u32
-    ensures { λ r. ⌜ ReadNumber (now (map .entry)) (now (reference .entry)) (now (work .entry)) (now (lines .entry)) r (now (work .exit)) (now (lines .exit)) ⌝ }
+    ensures { λ r. ⌜ ReadNumber (now (map .entry)) (now (reference .entry)) (now (work .entry)) (now (lines .entry)) r
+        (now (work .exit)) (now (lines .exit)) ⌝ }
 {
     match read(map, reference, work, lines) {
         ReadAnswer::Read(_, _, _) => 0,
@@ -100,7 +101,8 @@ pub extern "C" fn measured_write(
     work: &mut [u32],
     bytes: &mut [u8],
 ) -> usize
-    ensures { λ r. ⌜ WriteNumber (now (map .entry)) (stretchOf (now (stretch .entry)) pos neg) (now (work .entry)) (now (bytes .entry)) r (now (work .exit)) (now (bytes .exit)) ⌝ }
+    ensures { λ r. ⌜ WriteNumber (now (map .entry)) (stretchOf (now (stretch .entry)) pos neg) (now (work .entry)) (now (bytes .entry)) r
+        (now (work .exit)) (now (bytes .exit)) ⌝ }
 {
     match write(map, stretch, pos, neg, work, bytes) {
         WriteAnswer::Written(count) => count,

@@ -1,7 +1,9 @@
 -- A refusal as the paper gives it, and which one each case of the enum `Refusal` is (paper 01, "Refused, by place").
 use Prim.Native.Nat.{ℕ}
 use Rattle.model.specs.declared.Refusal.{Refusal}
-use Rattle.model.specs.declared.Refusal.the-variants.{WorkAreaShort, MapNumber, MapCount, MapCoordinate, MapLine, EqualCodes, StretchLines, StretchGap, StretchOffsets, NoChoice, BytesShort, ReferenceLength, ReferenceStatus, ReferenceBits, ReferenceFlags, NoNode, NoReading, SeveralReadings, NoOffset, LinesShort}
+use Rattle.model.specs.declared.Refusal.the-variants.{WorkAreaShort, MapNumber, MapCount, MapCoordinate, MapLine, EqualCodes, StretchLines}
+use Rattle.model.specs.declared.Refusal.the-variants.{StretchGap, StretchOffsets, NoChoice, BytesShort, ReferenceLength, ReferenceStatus, ReferenceBits}
+use Rattle.model.specs.declared.Refusal.the-variants.{ReferenceFlags, NoNode, NoReading, SeveralReadings, NoOffset, LinesShort}
 
 -- A number of the table. "Refusals 16, 17 and 18 also carry the first point or leg concerned, from 0."
 pub data Refused : Type 0 where

@@ -14,7 +14,7 @@ use Rattle.depot_map.specs.Answer.{WholeMap}
 use Rattle.search.specs.Promises.{Linked}
 use Rattle.opening.specs.declared.Opened.{Opened}
 use Rattle.opening.specs.declared.Opened.the-variants.{Ready, Refused}
-use Rattle.opening.specs.Opened.{ReadyMap, Answers, MapOpened}
+use Rattle.opening.specs.Opened.{ReadyMap, OpenAnswers, MapOpened}
 
 pub opened : {bytes w u v : List ℕ} {nodes lines : ℕ} → WholeMap bytes u nodes lines → Kept 0 codesTo w u →
     ((m : Map) → Held u lines m → Linked u lines m v) → MapOpened bytes w v (Ready nodes lines)
@@ -33,7 +33,7 @@ opened whole kept links =
 
 module _ {bytes w v : List ℕ} {r : Opened} (o : MapOpened bytes w v r) where
   pub opened-ready : {nodes lines : ℕ} → r ≡ Ready nodes lines → ReadyMap bytes v nodes lines
-  opened-ready e = subst (λ (q : Opened). Answers bytes v q) e (o .answers)
+  opened-ready e = subst (λ (q : Opened). OpenAnswers bytes v q) e (o .answers)
 
   pub opened-refused : {why : Refusal} → r ≡ Refused why → decode bytes ≡ refused (refusalOf why)
-  opened-refused e = subst (λ (q : Opened). Answers bytes v q) e (o .answers)
+  opened-refused e = subst (λ (q : Opened). OpenAnswers bytes v q) e (o .answers)

@@ -18,11 +18,11 @@ pub record ReadyMap (bytes v : List ℕ) (nodes lines : ℕ) : Type 0 where
   pub set : Set map lines v
   pub node-count : length (map .nodes) ≡ nodes
 
-abbrev pub Answers : List ℕ → List ℕ → Opened → Type 0
-Answers bytes v (Ready nodes lines) = ReadyMap bytes v nodes lines
-Answers bytes v (Refused why) = decode bytes ≡ refused (refusalOf why)
+abbrev pub OpenAnswers : List ℕ → List ℕ → Opened → Type 0
+OpenAnswers bytes v (Ready nodes lines) = ReadyMap bytes v nodes lines
+OpenAnswers bytes v (Refused why) = decode bytes ≡ refused (refusalOf why)
 
 -- The work area was `w` and is `v`: behind its cells nothing is changed, after a refusal too.
 pub record MapOpened (bytes w v : List ℕ) (r : Opened) : Type 0 where
-  pub answers : Answers bytes v r
+  pub answers : OpenAnswers bytes v r
   pub kept : Kept 0 searchTo w v

@@ -63,7 +63,8 @@ fn no_lines(why: Refusal) -> Lines
 
 // Reads with a work area of its own.
 fn read_into(map: &[u8], reference: &[u8], numbers: &mut [u32]) -> ReadAnswer
-    ensures { λ r. ⌜ ReadAnswered (Reads (now (map .entry)) (now (reference .entry)) workLength (length (now (numbers .entry)))) (now (numbers .entry)) (now (numbers .exit)) r ⌝ }
+    ensures { λ r. ⌜ ReadAnswered (Reads (now (map .entry)) (now (reference .entry)) workLength (length (now (numbers .entry))))
+        (now (numbers .entry)) (now (numbers .exit)) r ⌝ }
 {
     let mut work = [0u32; WORK_LENGTH];
     reader::read(map, reference, &mut work, numbers)
@@ -103,7 +104,8 @@ pub extern "C" fn openlr_read(map: &[u8], reference: &[u8], lines: &mut [u8]) ->
 
 // Takes the line numbers of a stretch from its bytes, as many as there is room for. Bytes whose count is no multiple of four hold no line.
 fn take_stretch(bytes: &[u8], numbers: &mut [u32]) -> usize
-    ensures { λ r. ⌜ (r ≤ length (now (numbers .entry))) × (take r (now (numbers .exit)) ≡ take (length (now (numbers .entry))) (stretchLines (now (bytes .entry)))) ⌝ }
+    ensures { λ r. ⌜ (r ≤ length (now (numbers .entry)))
+        × (take r (now (numbers .exit)) ≡ take (length (now (numbers .entry))) (stretchLines (now (bytes .entry)))) ⌝ }
 {
     if bytes.len() % WORD_BYTES != 0 {
         return 0;
@@ -113,7 +115,8 @@ fn take_stretch(bytes: &[u8], numbers: &mut [u32]) -> usize
 
 // Writes with a work area of its own.
 fn write_from(map: &[u8], stretch: &[u32], pos: u32, neg: u32, bytes: &mut [u8]) -> WriteAnswer
-    ensures { λ r. ⌜ WriteAnswered (Writes (now (map .entry)) (stretchOf (now (stretch .entry)) pos neg) workLength (length (now (bytes .entry)))) (now (bytes .entry)) (now (bytes .exit)) r ⌝ }
+    ensures { λ r. ⌜ WriteAnswered (Writes (now (map .entry)) (stretchOf (now (stretch .entry)) pos neg) workLength (length (now (bytes .entry))))
+        (now (bytes .entry)) (now (bytes .exit)) r ⌝ }
 {
     let mut work = [0u32; WORK_LENGTH];
     writer::write(map, stretch, pos, neg, &mut work, bytes)

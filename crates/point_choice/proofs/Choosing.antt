@@ -14,7 +14,7 @@ use Rattle.model.specs.Map.{Map}
 use Rattle.model.specs.Reading.{joined}
 use Rattle.model.specs.Choice.{LegTest, good, Usable, final, before, Choice, MoreFirst, Preferred, Chosen}
 use Rattle.model.proofs.Joining.{filled, connected}
-use Rattle.point_choice.specs.Cuts.{Route, there, leg, Ahead, same, more, later, Best, NoRoute, legsFrom, Sound, Complete, Filled}
+use Rattle.point_choice.specs.Cuts.{Route, there, leg, FurtherFirst, same, more, later, Best, NoRoute, cutLegs, Sound, Complete, HasLines}
 use Rattle.point_choice.proofs.Routes.{short}
 
 -- Lines up to a cut, and the lines after it.
@@ -36,19 +36,19 @@ module _ (i : ℕ) (ls rest l : List ℕ) (e : ls ++ rest ≡ drop i l) where
   sizes = simp (length-append, length-drop) at (ap length e)
 
 module _ (lines : List ℕ) where
-  pub legs-count : (i : ℕ) (cs : List ℕ) → length (legsFrom lines i cs) ≡ length cs
-  unfolding legsFrom
+  pub legs-count : (i : ℕ) (cs : List ℕ) → length (cutLegs lines i cs) ≡ length cs
+  unfolding cutLegs
   legs-count i [] = refl
   legs-count i (j ∷ cs) = ap suc (legs-count j cs)
 
-  pub whole : {good : ℕ → ℕ → Type 0} {i : ℕ} {cs : List ℕ} → Route good (length lines) i cs → joined (legsFrom lines i cs) ≡ drop i lines
-  unfolding legsFrom joined
+  pub whole : {good : ℕ → ℕ → Type 0} {i : ℕ} {cs : List ℕ} → Route good (length lines) i cs → joined (cutLegs lines i cs) ≡ drop i lines
+  unfolding cutLegs joined
   whole there = sym (drop-length lines)
   whole (leg {i = i} {j = j} h g r) = rw (whole r) (cut-at i j lines (omega arith) (omega (arith, short r)))
 
-  more-first : {good : ℕ → ℕ → Type 0} {i : ℕ} {cs os : List ℕ} → Route good (length lines) i cs → Route good (length lines) i os → Ahead cs os →
-      (legsFrom lines i cs ≡ legsFrom lines i os) ⊎ MoreFirst (legsFrom lines i cs) (legsFrom lines i os)
-  unfolding legsFrom
+  more-first : {good : ℕ → ℕ → Type 0} {i : ℕ} {cs os : List ℕ} → Route good (length lines) i cs → Route good (length lines) i os → FurtherFirst cs os →
+      (cutLegs lines i cs ≡ cutLegs lines i os) ⊎ MoreFirst (cutLegs lines i cs) (cutLegs lines i os)
+  unfolding cutLegs
   more-first r t same = inl refl
   more-first {i = i} (leg {j = a} h g r) (leg {j = b} k f t) (more l) =
       let s : length (slice i b lines) < length (slice i a lines) =
@@ -59,22 +59,22 @@ module _ (lines : List ℕ) where
 
 -- A route over legs that pass the test is a choice.
 module _ (test : LegTest) (lines : List ℕ) {good : ℕ → ℕ → Type 0} (sound : Sound test lines good) where
-  usable : {i : ℕ} {cs : List ℕ} → i < length lines → Route good (length lines) i cs → Usable test i (legsFrom lines i cs)
-  unfolding legsFrom
+  usable : {i : ℕ} {cs : List ℕ} → i < length lines → Route good (length lines) i cs → Usable test i (cutLegs lines i cs)
+  unfolding cutLegs
   usable l there = absurd (omega arith)
   usable l (leg h g there) = final (rw eq-eqb at (sound _ _ h (omega arith) g))
   usable {i = i} l (leg {j = j} h g (leg {j = j′} {cs = cs} h′ g′ r)) =
       let k : j < length lines = omega (arith, short r) in
       let e : i + length (slice i j lines) ≡ j = omega (arith, length-slice i j lines (omega arith)) in
-      let on : Usable test (i + length (slice i j lines)) (legsFrom lines j (j′ ∷ cs)) =
-      subst (λ (at : ℕ). Usable test at (legsFrom lines j (j′ ∷ cs))) (sym e) (usable k (leg h′ g′ r)) in
+      let on : Usable test (i + length (slice i j lines)) (cutLegs lines j (j′ ∷ cs)) =
+      subst (λ (at : ℕ). Usable test at (cutLegs lines j (j′ ∷ cs))) (sym e) (usable k (leg h′ g′ r)) in
       before (rw (ne-eqb j (length lines) (omega arith)) at (sound _ _ h (omega arith) g)) on
 
-  pub choice : {cs : List ℕ} → 0 < length lines → Route good (length lines) 0 cs → Choice test lines (legsFrom lines 0 cs)
+  pub choice : {cs : List ℕ} → 0 < length lines → Route good (length lines) 0 cs → Choice test lines (cutLegs lines 0 cs)
   choice l r = record { usable = usable l r; whole = whole lines r }
 
 -- Where every leg that passes the test is good, a choice is a route.
-module _ (test : LegTest) (lines : List ℕ) {good : ℕ → ℕ → Type 0} (some : Filled test) (complete : Complete test lines good) where
+module _ (test : LegTest) (lines : List ℕ) {good : ℕ → ℕ → Type 0} (some : HasLines test) (complete : Complete test lines good) where
   -- A leg in front of what is left after `i`.
   lead : {last : Bool} {ls : List ℕ} (i : ℕ) → test i last ls → (rest : List ℕ) → i ≤ length lines → ls ++ rest ≡ drop i lines →
       eqb (i + length ls) (length lines) ≡ last → (i < i + length ls) × good i (i + length ls)
@@ -83,8 +83,8 @@ module _ (test : LegTest) (lines : List ℕ) {good : ℕ → ℕ → Type 0} (so
       (l, complete i (i + length ls) l (omega (arith, sizes i ls rest lines e)) (rw (q, front i ls rest lines e h) g))
 
   cuts-of : {i : ℕ} {lss : List (List ℕ)} → Usable test i lss → i ≤ length lines → joined lss ≡ drop i lines →
-      (cs : List ℕ) × Route good (length lines) i cs × (legsFrom lines i cs ≡ lss)
-  unfolding legsFrom joined
+      (cs : List ℕ) × Route good (length lines) i cs × (cutLegs lines i cs ≡ lss)
+  unfolding cutLegs joined
   cuts-of (final {at = i} {ls = ls} g) h e =
       let j : i + length ls ≡ length lines = omega (arith, sizes i ls [] lines e) in
       let f = lead i g [] h e (eq-eqb (i + length ls) (length lines) j) in
@@ -96,22 +96,22 @@ module _ (test : LegTest) (lines : List ℕ) {good : ℕ → ℕ → Type 0} (so
       let f = lead i g rest h e (ne-eqb (i + length ls) (length lines) (omega arith)) in
       ((i + length ls) ∷ k .0, leg (f .0) (f .1) (k .1), rw (front i ls rest lines e h, k .2))
 
-  pub routed : {lss : List (List ℕ)} → Choice test lines lss → (cs : List ℕ) × Route good (length lines) 0 cs × (legsFrom lines 0 cs ≡ lss)
+  pub routed : {lss : List (List ℕ)} → Choice test lines lss → (cs : List ℕ) × Route good (length lines) 0 cs × (cutLegs lines 0 cs ≡ lss)
   routed c = cuts-of (c .usable) (omega arith) (c .whole)
 
   pub no-choice : NoRoute good (length lines) 0 → (lss : List (List ℕ)) → Choice test lines lss → ⊥
   no-choice none lss c = none (routed c .0) (routed c .1)
 
-module _ (test : LegTest) (lines : List ℕ) {good : ℕ → ℕ → Type 0} {cs : List ℕ} (some : Filled test) (sound : Sound test lines good)
+module _ (test : LegTest) (lines : List ℕ) {good : ℕ → ℕ → Type 0} {cs : List ℕ} (some : HasLines test) (sound : Sound test lines good)
     (complete : Complete test lines good) where
-  pub chosen : 0 < length lines → Best good (length lines) 0 cs → Chosen test lines (legsFrom lines 0 cs)
+  pub chosen : 0 < length lines → Best good (length lines) 0 cs → Chosen test lines (cutLegs lines 0 cs)
   chosen l b =
       record {
         choice = choice test lines sound l (b .route);
         preferred = λ others c. let k = routed test lines some complete c in rw (← k .2) (preferred (k .0) (k .1));
       }
     where
-      preferred : (os : List ℕ) → Route good (length lines) 0 os → Preferred (legsFrom lines 0 cs) (legsFrom lines 0 os)
+      preferred : (os : List ℕ) → Route good (length lines) 0 os → Preferred (cutLegs lines 0 cs) (cutLegs lines 0 os)
       preferred os r = ⊎-elim
           (λ e. by (more-first lines (b .route) r (b .furthest os r (sym e))) (legs-count lines 0 cs ∙ e ∙ sym (legs-count lines 0 os)))
           (λ l. Preferred.fewer (rw (legs-count lines 0 cs, legs-count lines 0 os) l))
@@ -122,5 +122,5 @@ module _ (test : LegTest) (lines : List ℕ) {good : ℕ → ℕ → Type 0} {cs
           by (inr f) l = Preferred.more-first l f
 
 -- The legs that the writer goes by have a line at least.
-pub good-filled : (m : Map) → Filled (good m)
+pub good-filled : (m : Map) → HasLines (good m)
 good-filled m at last ls g = filled (connected g)

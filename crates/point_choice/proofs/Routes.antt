@@ -5,19 +5,19 @@ use mathlib.Core.Logic.{inl, inr}
 use mathlib.Core.List.{List, [], _∷_}
 use native.Mathlib.Omega.{arith}
 use lib.ListN.{length}
-use Rattle.point_choice.specs.Cuts.{Route, there, leg, Ahead, same, more, later, Best, NoRoute, Fewest}
+use Rattle.point_choice.specs.Cuts.{Route, there, leg, FurtherFirst, same, more, later, Best, NoRoute, Fewest}
 
-head-le : {a b : ℕ} {xs ys : List ℕ} → Ahead (a ∷ xs) (b ∷ ys) → b ≤ a
+head-le : {a b : ℕ} {xs ys : List ℕ} → FurtherFirst (a ∷ xs) (b ∷ ys) → b ≤ a
 head-le same = omega arith
 head-le (more l) = omega arith
 head-le (later h) = omega arith
 
-behind : {a : ℕ} {xs ys : List ℕ} → Ahead (a ∷ xs) (a ∷ ys) → Ahead xs ys
+behind : {a : ℕ} {xs ys : List ℕ} → FurtherFirst (a ∷ xs) (a ∷ ys) → FurtherFirst xs ys
 behind same = same
 behind (more l) = absurd (omega arith)
 behind (later h) = h
 
-both : {xs ys : List ℕ} → Ahead xs ys → Ahead ys xs → xs ≡ ys
+both : {xs ys : List ℕ} → FurtherFirst xs ys → FurtherFirst ys xs → xs ≡ ys
 both same h = refl
 both (more l) h = absurd (omega (arith, head-le h))
 both (later {a} g) h = ap (λ (xs : List ℕ). a ∷ xs) (both g (behind h))
@@ -41,7 +41,7 @@ module _ {good : ℕ → ℕ → Type 0} {n : ℕ} where
   pub arrived : Best good n n []
   arrived = record { route = there; fewest = λ os r. omega arith; furthest = λ os r. none os }
     where
-      none : (os : List ℕ) → length os ≡ 0 → Ahead [] os
+      none : (os : List ℕ) → length os ≡ 0 → FurtherFirst [] os
       none [] e = same
       none (x ∷ xs) e = absurd (omega arith)
 

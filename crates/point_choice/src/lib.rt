@@ -2,7 +2,7 @@
 // position `i` to position `j` is good.
 ghost use Prim.Native.Nat.{_+_, _*_, _≤_, _<_};
 ghost use lib.ListN.{length};
-ghost use Rattle.point_choice.specs.Cuts.{Marked, FirstCut, Tells, Answers};
+ghost use Rattle.point_choice.specs.Cuts.{GoodIn, FirstCut, TellsFewest, CutAnswers};
 
 // No route of good legs, or how many legs the one to take has.
 pub enum Cut {
@@ -19,8 +19,8 @@ struct Next {
 // The first leg from `i`, given how many legs it takes from each later position. Of equal ones the longest is taken.
 fn first_cut(good: &[u8], n: usize, best: &[usize; 65], i: usize) -> Next
     requires { ⌜ (i < n) × (n ≤ 64) × (65 * n ≤ length (now good)) ⌝ }
-    requires { ⌜ Tells (Marked (now good)) n (now best) (i + 1) ⌝ }
-    ensures { λ r. ⌜ FirstCut (Marked (now (good .entry))) n i (r .to) (r .legs) ⌝ }
+    requires { ⌜ TellsFewest (GoodIn (now good)) n (now best) (i + 1) ⌝ }
+    ensures { λ r. ⌜ FirstCut (GoodIn (now (good .entry))) n i (r .to) (r .legs) ⌝ }
 {
     let mut to = i;
     let mut least = 64;
@@ -42,7 +42,7 @@ fn first_cut(good: &[u8], n: usize, best: &[usize; 65], i: usize) -> Next
 // How many legs it takes from each position.
 fn fewest(good: &[u8], n: usize) -> [usize; 65]
     requires { ⌜ (n ≤ 64) × (65 * n ≤ length (now good)) ⌝ }
-    ensures { λ r. ⌜ Tells (Marked (now (good .entry))) n r 0 ⌝ }
+    ensures { λ r. ⌜ TellsFewest (GoodIn (now (good .entry))) n r 0 ⌝ }
 {
     let mut best = [65; 65];
     best[n] = 0;
@@ -57,7 +57,7 @@ fn fewest(good: &[u8], n: usize) -> [usize; 65]
 // The route to take: `cuts` gets 0 and then where each leg ends.
 pub fn choose(good: &[u8], n: usize, cuts: &mut [u32]) -> Cut
     requires { ⌜ (n ≤ 64) × (65 * n ≤ length (now good)) × (n < length (now cuts)) ⌝ }
-    ensures { λ r. ⌜ Answers (Marked (now (good .entry))) n r (now (cuts .entry)) (now (cuts .exit)) ⌝ }
+    ensures { λ r. ⌜ CutAnswers (GoodIn (now (good .entry))) n r (now (cuts .entry)) (now (cuts .exit)) ⌝ }
 {
     let best = fewest(good, n);
     if best[0] == 65 {

@@ -131,7 +131,8 @@ fn on_map(
 // The answer where the work area is large enough.
 fn on_area(map: &[u8], reference: &[u8], work: &mut [u32], out: &mut [u32]) -> ReadAnswer
     requires { ⌜ workLength ≤ length (now work) ⌝ }
-    ensures { λ r. ⌜ ReadAnswered (ReadMap (decode (now (map .entry))) (now (reference .entry)) (length (now (out .entry)))) (now (out .entry)) (now (out .exit)) r ⌝ }
+    ensures { λ r. ⌜ ReadAnswered (ReadMap (decode (now (map .entry))) (now (reference .entry)) (length (now (out .entry))))
+        (now (out .entry)) (now (out .exit)) r ⌝ }
 {
     match open_map(map, work) {
         Opened::Ready(nodes, lines) => on_map(reference, work, nodes, lines, out),

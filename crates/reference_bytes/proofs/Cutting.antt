@@ -11,8 +11,8 @@ use Rattle.model.specs.Map.{Map}
 use Rattle.model.specs.Choice.{Good}
 use Rattle.work_area.specs.Area.{Held}
 use Rattle.stretches.specs.Stretch.{Known}
-use Rattle.point_choice.specs.Cuts.{Route, there, leg, legsFrom}
-use Rattle.reference_bytes.specs.Put.{cutAt, legAt, CutInto}
+use Rattle.point_choice.specs.Cuts.{Route, there, leg, cutLegs}
+use Rattle.reference_bytes.specs.Put.{cutAt, cutLeg, CutInto}
 use Rattle.stretches.proofs.Stretches.{known-drop}
 use Rattle.stretches.proofs.Checks.{known-take}
 use Rattle.point_choice.proofs.Routes.{short}
@@ -32,10 +32,10 @@ lent-part from to ls h k =
     ∙ drop-at (take from ls) (take (to - from) (drop from ls)) from (length-take-le from ls (omega arith)))
 
 module _ {m : Map} {lines table : List ℕ} {legs : ℕ} {cs : List ℕ} (k : CutInto m lines table legs cs) (t : ℕ) (h : t < legs) where
-  here : (cutAt cs t < cutAt cs (t + 1)) × (cutAt cs (t + 1) ≤ length lines) × Good m (eqb (cutAt cs (t + 1)) (length lines)) (legAt lines cs t)
+  here : (cutAt cs t < cutAt cs (t + 1)) × (cutAt cs (t + 1) ≤ length lines) × Good m (eqb (cutAt cs (t + 1)) (length lines)) (cutLeg lines cs t)
   here = rw add-one (route-at (k .route) t (omega (arith, k .count)))
 
-  pub leg-good : Good m (eqb (cutAt cs (t + 1)) (length lines)) (legAt lines cs t)
+  pub leg-good : Good m (eqb (cutAt cs (t + 1)) (length lines)) (cutLeg lines cs t)
   leg-good = here .2
 
   -- By the cuts as they are read from the table.
@@ -52,7 +52,7 @@ module _ {m : Map} {lines table : List ℕ} {legs : ℕ} {cs : List ℕ} (k : Cu
     pub inside : to ≤ length lines
     inside = omega (arith, end, here .1)
 
-    pub part-is : take (to - from) (drop from lines) ≡ legAt lines cs t
+    pub part-is : take (to - from) (drop from lines) ≡ cutLeg lines cs t
     part-is = lent-part from to lines ordered inside ∙ rw (start, end)
 
     pub part-known : {w : List ℕ} {n : ℕ} → Held w n m → Known n (take (to - from) (drop from lines))
@@ -71,12 +71,12 @@ cut-known {lines = lines} k h = subst (λ (n : ℕ). Known n lines) (h .line-cou
 
 -- One leg more.
 legs-on : (lines : List ℕ) (i : ℕ) (cs : List ℕ) (t : ℕ) → t < length cs →
-    legsFrom lines i (take (suc t) cs) ≡ legsFrom lines i (take t cs) ++ (slice (getD (i ∷ cs) t 0) (getD cs t 0) lines ∷ [])
-unfolding legsFrom
+    cutLegs lines i (take (suc t) cs) ≡ cutLegs lines i (take t cs) ++ (slice (getD (i ∷ cs) t 0) (getD cs t 0) lines ∷ [])
+unfolding cutLegs
 legs-on lines i [] t h = absurd (omega arith)
 legs-on lines i (c ∷ cs) zero h = refl
 legs-on lines i (c ∷ cs) (suc t) h = ap (λ (lss : List (List ℕ)). slice i c lines ∷ lss) (legs-on lines c cs t (omega arith))
 
 pub next-leg : (lines cs : List ℕ) (t : ℕ) → t < length cs →
-    legsFrom lines 0 (take (t + 1) cs) ≡ legsFrom lines 0 (take t cs) ++ (legAt lines cs t ∷ [])
+    cutLegs lines 0 (take (t + 1) cs) ≡ cutLegs lines 0 (take t cs) ++ (cutLeg lines cs t ∷ [])
 next-leg lines cs t h = rw add-one (legs-on lines 0 cs t h)

@@ -22,8 +22,8 @@ use Rattle.point_choice.specs.Cuts.{Route, Tested}
 abbrev pub cutAt : List ℕ → ℕ → ℕ
 cutAt cs t = getD (0 ∷ cs) t 0
 
-abbrev pub legAt : List ℕ → List ℕ → ℕ → List ℕ
-legAt lines cs t = slice (cutAt cs t) (cutAt cs (t + 1)) lines
+abbrev pub cutLeg : List ℕ → List ℕ → ℕ → List ℕ
+cutLeg lines cs t = slice (cutAt cs t) (cutAt cs (t + 1)) lines
 
 -- The cuts `cs` make so many legs of some lines, each of which may be used; 0 and the cuts stand first in the table.
 pub record CutInto (m : Map) (lines table : List ℕ) (legs : ℕ) (cs : List ℕ) : Type 0 where

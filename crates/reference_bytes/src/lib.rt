@@ -30,10 +30,10 @@ ghost use Rattle.work_area.specs.Area.{Held};
 ghost use Rattle.fields.specs.Leg.{attributesIn};
 ghost use Rattle.stretches.specs.Stretch.{Known};
 ghost use Rattle.model.specs.Stretch.{stretchOf};
-ghost use Rattle.point_choice.specs.Cuts.{legsFrom};
+ghost use Rattle.point_choice.specs.Cuts.{cutLegs};
 ghost use Rattle.reference_bytes.specs.Point.{bytesOfPoint, PointIs};
 ghost use Rattle.buffers.specs.Placed.{putAt};
-ghost use Rattle.reference_bytes.specs.Put.{legAt, CutInto, Inside, startBytes, offsetPart, flagged, lastBytes, endBytes, Puts};
+ghost use Rattle.reference_bytes.specs.Put.{cutLeg, CutInto, Inside, startBytes, offsetPart, flagged, lastBytes, endBytes, Puts};
 
 mod point;
 
@@ -81,7 +81,7 @@ fn leg_point(
     requires { ⌜ (t < legs) × (legs < length (now cuts)) ⌝ }
     requires { ⌜ ((m : Map) × (cs : List ℕ) × Held (now work) lines m × CutInto m (now stretch) (now cuts) legs cs) ⌝ }
     ensures { λ r. ⌜ ((m : Map) → (cs : List ℕ) → Held (now (work .entry)) lines m
-        → CutInto m (now (stretch .entry)) (now (cuts .entry)) legs cs → PointIs m (legAt (now (stretch .entry)) cs t) r) ⌝ }
+        → CutInto m (now (stretch .entry)) (now (cuts .entry)) legs cs → PointIs m (cutLeg (now (stretch .entry)) cs t) r) ⌝ }
 {
     let from = wide(cuts[t]);
     let to = wide(cuts[t + 1]);
@@ -100,7 +100,7 @@ fn leg_length(
     requires { ⌜ (t < legs) × (legs < length (now cuts)) ⌝ }
     requires { ⌜ ((m : Map) × (cs : List ℕ) × Held (now work) lines m × CutInto m (now stretch) (now cuts) legs cs) ⌝ }
     ensures { λ r. ⌜ ((m : Map) → (cs : List ℕ) → Held (now (work .entry)) lines m
-        → CutInto m (now (stretch .entry)) (now (cuts .entry)) legs cs → r ≡ total m (legAt (now (stretch .entry)) cs t)) ⌝ }
+        → CutInto m (now (stretch .entry)) (now (cuts .entry)) legs cs → r ≡ total m (cutLeg (now (stretch .entry)) cs t)) ⌝ }
 {
     let from = wide(cuts[t]);
     let to = wide(cuts[t + 1]);
@@ -120,7 +120,7 @@ fn put_points(
     requires { ⌜ ((m : Map) × (cs : List ℕ) × Held (now work) lines m × CutInto m (now stretch) (now cuts) legs cs) ⌝ }
     ensures { λ _. ⌜ ((m : Map) → (cs : List ℕ) → Held (now (work .entry)) lines m
         → CutInto m (now (stretch .entry)) (now (cuts .entry)) legs cs
-        → now (bytes .exit) ≡ putAt 7 (pointBytes (pointsOf m (legsFrom (now (stretch .entry)) 0 cs)) []) (now (bytes .entry))) ⌝ }
+        → now (bytes .exit) ≡ putAt 7 (pointBytes (pointsOf m (cutLegs (now (stretch .entry)) 0 cs)) []) (now (bytes .entry))) ⌝ }
 {
     let mut t: usize = 0;
     while t < legs {
@@ -193,8 +193,8 @@ fn put_end(
     ensures { λ r. ⌜ (r ≡ 7 + 7 * legs + 2 + flagged pos 1 + flagged neg 1)
         × ((m : Map) → (cs : List ℕ) → Held (now (work .entry)) lines m
         → CutInto m (now (stretch .entry)) (now (cuts .entry)) legs cs
-        → now (bytes .exit) ≡ putAt (7 + 7 * legs) (endBytes m (now (stretch .entry)) (legAt (now (stretch .entry)) cs 0)
-        (legAt (now (stretch .entry)) cs (legs - 1)) pos neg) (now (bytes .entry))) ⌝ }
+        → now (bytes .exit) ≡ putAt (7 + 7 * legs) (endBytes m (now (stretch .entry)) (cutLeg (now (stretch .entry)) cs 0)
+        (cutLeg (now (stretch .entry)) cs (legs - 1)) pos neg) (now (bytes .entry))) ⌝ }
 {
     let at = Reference::FIRST_P + Reference::MIDDLE_POINT * legs;
     let a = attributes_of(work, lines, stretch, stretch.len() - 1, BEARING_BACK);
@@ -220,7 +220,7 @@ pub fn put(
         × Inside m (stretchOf (now stretch) pos neg)) ⌝ }
     ensures { λ r. ⌜ ((m : Map) → (cs : List ℕ) → Held (now (work .entry)) lines m
         → CutInto m (now (stretch .entry)) (now (cuts .entry)) legs cs
-        → Puts (stretchBytes m (legsFrom (now (stretch .entry)) 0 cs) (stretchOf (now (stretch .entry)) pos neg))
+        → Puts (stretchBytes m (cutLegs (now (stretch .entry)) 0 cs) (stretchOf (now (stretch .entry)) pos neg))
         (now (bytes .entry)) (now (bytes .exit)) r) ⌝ }
 {
     let length = Reference::FIRST_P

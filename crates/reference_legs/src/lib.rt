@@ -4,8 +4,8 @@ use fields::leg::Verdict;
 use legs::ends::both;
 use legs::from_line;
 use references::leg::leg_at;
-use search::chains::first_leaving;
-use search::chains::next_leaving;
+use search::adjacency::first_leaving;
+use search::adjacency::next_leaving;
 use ways::write_lines;
 ghost use mathlib.Core.Path.{_≡_};
 ghost use Prim.Native.Nat.{ℕ, _*_, _≤_, _<_};
@@ -51,7 +51,8 @@ fn with_leg(sums: Sums, k: usize, reading: Reading) -> Sums
 
 // Writes the lines of a reading into `out`, from its number `from` on: where there is exactly one, and room for it.
 fn put_reading(work: &[u32], found: Verdict, out: &mut [u32], from: usize)
-    requires { ⌜ ((m : Map) × (lines : ℕ) × Held (now work) lines m × ((r : Reading) → found ≡ Verdict.One r → Connected m (linesTo (now work) (r .last) (r .count)))) ⌝ }
+    requires { ⌜ ((m : Map) × (lines : ℕ) × Held (now work) lines m
+        × ((r : Reading) → found ≡ Verdict.One r → Connected m (linesTo (now work) (r .last) (r .count)))) ⌝ }
     ensures { λ _. ⌜ Put (now (work .entry)) from (now (out .entry)) (now (out .exit)) found ⌝ }
 {
     let Verdict::One(reading) = found else {

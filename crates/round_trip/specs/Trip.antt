@@ -1,4 +1,5 @@
--- What writing a stretch and then reading the bytes comes to (paper 01, "The words of demand 3"). "Full work area" and "long enough buffer" are the paper's words.
+-- What writing a stretch and then reading the bytes comes to (paper 01, "The words of demand 3").
+-- "Full work area" and "long enough buffer" are the paper's words.
 use Prim.Native.Nat.{ℕ, _≤_}
 use mathlib.Core.Path.{_≡_}
 use mathlib.Core.List.{List}

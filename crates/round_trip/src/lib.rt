@@ -26,7 +26,9 @@ pub fn write_and_read(
     reading: &mut [u32],
     lines: &mut [u32],
 ) -> Trip
-    ensures { λ r. ⌜ TripTells (now (map .entry)) (stretchOf (now (stretch .entry)) pos neg) (now (writing .entry)) (now (writing .exit)) (now (bytes .entry)) (now (bytes .exit)) (now (reading .entry)) (now (reading .exit)) (now (lines .entry)) (now (lines .exit)) r ⌝ }
+    ensures { λ r. ⌜ TripTells (now (map .entry)) (stretchOf (now (stretch .entry)) pos neg)
+        (now (writing .entry)) (now (writing .exit)) (now (bytes .entry)) (now (bytes .exit))
+        (now (reading .entry)) (now (reading .exit)) (now (lines .entry)) (now (lines .exit)) r ⌝ }
 {
     match write(map, stretch, pos, neg, writing, bytes) {
         WriteAnswer::Refused(why) => Trip::Refused(why),
@@ -78,7 +80,9 @@ pub fn write_two_and_read(
     reading: &mut [u32],
     lines: &mut [u32],
 ) -> Pair
-    ensures { λ r. ⌜ PairTells (now (map .entry)) (stretchOf (now (first .entry)) pos neg) (stretchOf (now (second .entry)) «second_pos» «second_neg») (now (writing .entry)) (now (writing .exit)) (now (bytes .entry)) (now (bytes .exit)) (now (others .entry)) (now (others .exit)) (now (reading .entry)) (now (reading .exit)) (now (lines .entry)) (now (lines .exit)) r ⌝ }
+    ensures { λ r. ⌜ PairTells (now (map .entry)) (stretchOf (now (first .entry)) pos neg) (stretchOf (now (second .entry)) «second_pos» «second_neg»)
+        (now (writing .entry)) (now (writing .exit)) (now (bytes .entry)) (now (bytes .exit)) (now (others .entry)) (now (others .exit))
+        (now (reading .entry)) (now (reading .exit)) (now (lines .entry)) (now (lines .exit)) r ⌝ }
 {
     match write(map, first, pos, neg, writing, bytes) {
         WriteAnswer::Refused(why) => Pair::FirstRefused(why),

@@ -1,7 +1,7 @@
--- What a step of a search does to what is known of lengths and notes: a length comes down, a line is noted, a line waits no longer.
-use Rattle.work_area.specs.Area.{lengthsFrom, beforeFrom, headsFrom, nextFrom, Held}
+-- What a step of a search does to what is known of lengths and notes: a length is lowered, a line is noted, a line is pending no longer.
+use Rattle.work_area.specs.Area.{lengthsFrom, predecessorsFrom, headsFrom, nextFrom, Held}
 use Rattle.model.specs.Map.{Map}
-use Rattle.search.specs.Area.{far, pending, listWeight, several, Listing, lengthTo, lineBefore, listed, reached}
+use Rattle.search.specs.Area.{far, pendingWeight, listWeight, several, Listing, lengthTo, predecessor, listed, reached}
 use Prim.Native.Nat.{ℕ, _+_, _-_, _*_, _/_, _%_, _≤_, _<_}
 use mathlib.Core.Path.{_≡_, refl, sym, _∙_, ap, subst}
 use mathlib.Core.List.{List}
@@ -12,7 +12,7 @@ use lib.Seq.{getD-set-same}
 use Rattle.model.specs.Lines.{lineAt, Follows}
 use Rattle.buffers.specs.Kept.{Kept}
 use Rattle.search.specs.Ways.{line, Reached}
-use Rattle.search.specs.Steps.{Task, Waits, noteAt, Leads, Backed, Counted, Underway, weight, Stepped, Lowered}
+use Rattle.search.specs.Steps.{Task, Pending, noteAt, Leads, Backed, Counted, Underway, weight, Stepped, Lowered}
 use Rattle.search.proofs.Follows.{known}
 use Rattle.buffers.proofs.Kept.{kept-none, kept-then, kept-within, at-set, kept-set}
 use Rattle.search.proofs.Reached.{sum-le, sum-less, reached-le, count-le, listing-same}
@@ -30,7 +30,7 @@ counted-same a b d k =
           rw d (k .noted (omega arith) (record { known = t .known; follows = t .follows; equal = omega (arith, t .equal) }));
     }
 
--- What a note rests on stays where other lengths come down.
+-- What a note rests on stays where other lengths are lowered.
 leads-less : {m : Map} {a j : ℕ} {w v : List ℕ} → lengthTo v a ≤ lengthTo w a → lengthTo v j ≡ lengthTo w j → Leads m w a j → Leads m v a j
 leads-less a b l = record { known = l .known; follows = l .follows; enough = omega (arith, l .enough) }
 
@@ -57,7 +57,7 @@ stepped-then s t =
       kept = kept-then (s .kept) (t .kept);
     }
 
--- The length to line `j` comes down.
+-- The length to line `j` is lowered.
 module _ {q : Task} {n c limit count j note x r : ℕ} {w v : List ℕ} (g : Underway q n c limit count w) (j< : j < n)
     (d : Lowered j note count x w v r) (near : x ≤ limit) (less : x < lengthTo w j) where
   fell : (k : ℕ) → k < n → lengthTo v k ≤ lengthTo w k
@@ -143,7 +143,7 @@ module _ {q : Task} {n c limit count j note x r : ℕ} {w v : List ℕ} (g : Und
   listing : Listing v n r
   listing = ⊎-elim new-listing known-listing (le-or-lt far (lengthTo w j))
 
-  -- A line that does not wait is no longer as near by way of it as `j` is now.
+  -- A line that is not pending is no longer as near by way of it as `j` is now.
   passed : {l : ℕ} → lineAt (q .map) j .frc ≤ c → lengthTo v l ≡ lengthTo w l → Counted (q .map) c limit l j w → Counted (q .map) c limit l j v
   passed {l} ok e k =
       record {
@@ -178,35 +178,35 @@ module _ {q : Task} {n c limit count j note x r : ℕ} {w v : List ℕ} (g : Und
               rw (e .1) (backed-less h fell (e .0) (g .backed k k< (omega (arith, e .0)))));
         };
         fell = fell;
-        lighter = sum-le (λ l. 2 * lengthTo v l + lineBefore v l / pending) (λ l. 2 * lengthTo w l + lineBefore w l / pending) n
-            (here-or (λ l. l < n → 2 * lengthTo v l + lineBefore v l / pending ≤ 2 * lengthTo w l + lineBefore w l / pending) j
+        lighter = sum-le (λ l. 2 * lengthTo v l + predecessor v l / pendingWeight) (λ l. 2 * lengthTo w l + predecessor w l / pendingWeight) n
+            (here-or (λ l. l < n → 2 * lengthTo v l + predecessor v l / pendingWeight ≤ 2 * lengthTo w l + predecessor w l / pendingWeight) j
             (λ l<. omega (arith, d .found, d .before))
             (λ l o l<. let e = d .others l (omega arith) o in omega (arith, e .0, e .1)));
         kept = d .kept;
       }
     where
-      counted : (l k : ℕ) → l < n → lengthTo v l ≤ limit → lineBefore v l < pending → Follows (q .map) l k → Counted (q .map) c limit l k v
+      counted : (l k : ℕ) → l < n → lengthTo v l ≤ limit → predecessor v l < pendingWeight → Follows (q .map) l k → Counted (q .map) c limit l k v
       counted l k l< z awake f =
           let n≤ = few (g .held) in
           let all = g .held .line-count in
           let to = known f in
-          let o : l ≢ j = λ e. omega (arith, subst (λ (a : ℕ). lineBefore v a < pending) e awake, d .before) in
+          let o : l ≢ j = λ e. omega (arith, subst (λ (a : ℕ). predecessor v a < pendingWeight) e awake, d .before) in
           let a = d .others l (omega arith) o in
           let old : Counted (q .map) c limit l k w = g .counted l k l< (omega (arith, a .0)) (omega (arith, a .1)) f in
           here-or (λ b. Counted (q .map) c limit l b w → b < n → Counted (q .map) c limit l b v) j
           (λ b b<. passed ok (a .0) b)
           (λ b p old b<.
           let e = d .others b (omega arith) p in
-          counted-same (a .0) (e .0) (ap (λ (y : ℕ). y % pending) (e .1)) old)
+          counted-same (a .0) (e .0) (ap (λ (y : ℕ). y % pendingWeight) (e .1)) old)
           k old (omega arith)
 
--- Notes change, and lines wait no longer.
-module _ {q : Task} {n c limit count : ℕ} {w v : List ℕ} (g : Underway q n c limit count w) (k : Kept beforeFrom headsFrom w v) where
+-- Notes change, and lines are pending no longer.
+module _ {q : Task} {n c limit count : ℕ} {w v : List ℕ} (g : Underway q n c limit count w) (k : Kept predecessorsFrom headsFrom w v) where
   pub same-length : (l : ℕ) → l < n → lengthTo v l ≡ lengthTo w l
   same-length l l< = let n≤ = few (g .held) in k .below (lengthsFrom + l) (omega arith)
 
-  pub renoted : ((l : ℕ) → l < n → lineBefore v l / pending ≤ lineBefore w l / pending) →
-      ((l j : ℕ) → l < n → j < n → lengthTo w l ≤ limit → lineBefore v l < pending → Follows (q .map) l j → Counted (q .map) c limit l j v) →
+  pub renoted : ((l : ℕ) → l < n → predecessor v l / pendingWeight ≤ predecessor w l / pendingWeight) →
+      ((l j : ℕ) → l < n → j < n → lengthTo w l ≤ limit → predecessor v l < pendingWeight → Follows (q .map) l j → Counted (q .map) c limit l j v) →
       ((j : ℕ) → j < n → lengthTo w j ≤ limit → Backed (q .map) v j (noteAt v j)) → Stepped q n c limit w v count
   renoted awake counted backed =
       let h = g .held in
@@ -223,32 +223,32 @@ module _ {q : Task} {n c limit count : ℕ} {w v : List ℕ} (g : Underway q n c
           backed = λ j j< near. backed j j< (omega (arith, same-length j j<));
         };
         fell = λ l l<. omega (arith, same-length l l<);
-        lighter = sum-le (λ l. 2 * lengthTo v l + lineBefore v l / pending) (λ l. 2 * lengthTo w l + lineBefore w l / pending) n
+        lighter = sum-le (λ l. 2 * lengthTo v l + predecessor v l / pendingWeight) (λ l. 2 * lengthTo w l + predecessor w l / pendingWeight) n
             (λ l l<. omega (arith, same-length l l<, awake l l<));
         kept = kept-within (omega arith) (omega arith) k;
       }
 
--- Line `l` waits no longer, when it is taken into account at every line.
-module _ {q : Task} {n c limit count l y : ℕ} {w : List ℕ} (g : Underway q n c limit count w) (l< : l < n) (is : y ≡ lineBefore w l % pending) where
+-- Line `l` is pending no longer, when it is taken into account at every line.
+module _ {q : Task} {n c limit count l y : ℕ} {w : List ℕ} (g : Underway q n c limit count w) (l< : l < n) (is : y ≡ predecessor w l % pendingWeight) where
   abbrev awoken : List ℕ
-  awoken = set w (beforeFrom + l) y
+  awoken = set w (predecessorsFrom + l) y
 
-  cells : (P : ℕ → ℕ → Type 0) → P l y → ((k : ℕ) → k ≢ l → P k (lineBefore w k)) → (k : ℕ) → P k (lineBefore awoken k)
-  cells P = at-set P w beforeFrom l y (let h = g .held in let n≤ = few h in omega arith)
+  cells : (P : ℕ → ℕ → Type 0) → P l y → ((k : ℕ) → k ≢ l → P k (predecessor w k)) → (k : ℕ) → P k (predecessor awoken k)
+  cells P = at-set P w predecessorsFrom l y (let h = g .held in let n≤ = few h in omega arith)
 
-  kept : Kept beforeFrom headsFrom w awoken
-  kept = let n≤ = few (g .held) in kept-set (beforeFrom + l) y (omega arith) (omega arith)
+  kept : Kept predecessorsFrom headsFrom w awoken
+  kept = let n≤ = few (g .held) in kept-set (predecessorsFrom + l) y (omega arith) (omega arith)
 
   same-note : (k : ℕ) → noteAt awoken k ≡ noteAt w k
-  same-note = cells (λ k b. b % pending ≡ noteAt w k) (omega arith) (λ k o. refl)
+  same-note = cells (λ k b. b % pendingWeight ≡ noteAt w k) (omega arith) (λ k o. refl)
 
   pub awake : ((j : ℕ) → lengthTo w l ≤ limit → Follows (q .map) l j → Counted (q .map) c limit l j w) → Stepped q n c limit w awoken count
   awake counted =
       renoted g kept
-      (cells (λ k b. k < n → b / pending ≤ lineBefore w k / pending) (λ k<. omega arith) (λ k o k<. omega arith))
+      (cells (λ k b. k < n → b / pendingWeight ≤ predecessor w k / pendingWeight) (λ k<. omega arith) (λ k o k<. omega arith))
       (λ k j k< j< near z f.
       counted-same (same-length g kept k k<) (same-length g kept j j<) (same-note j)
-      (cells (λ k b. b < pending → lengthTo w k ≤ limit → k < n → Follows (q .map) k j → Counted (q .map) c limit k j w)
+      (cells (λ k b. b < pendingWeight → lengthTo w k ≤ limit → k < n → Follows (q .map) k j → Counted (q .map) c limit k j w)
       (λ z near k< f. counted j near f)
       (λ k o z near k< f. g .counted k j k< near z f)
       k z near k< f))
@@ -256,12 +256,12 @@ module _ {q : Task} {n c limit count l y : ℕ} {w : List ℕ} (g : Underway q n
       rw (same-note j)
       (backed-less (g .held) (λ k k<. omega (arith, same-length g kept k k<)) (same-length g kept j j<) (g .backed j j< near)))
 
-  pub lighter : Waits w l → weight awoken n < weight w n
+  pub lighter : Pending w l → weight awoken n < weight w n
   lighter waits =
-      sum-less (λ k. 2 * lengthTo awoken k + lineBefore awoken k / pending) (λ k. 2 * lengthTo w k + lineBefore w k / pending) n l l<
+      sum-less (λ k. 2 * lengthTo awoken k + predecessor awoken k / pendingWeight) (λ k. 2 * lengthTo w k + predecessor w k / pendingWeight) n l l<
       (let h = g .held in
       let n≤ = few h in
-      omega (arith, same-length g kept l l<, getD-set-same w (beforeFrom + l) y 0 (omega arith)))
+      omega (arith, same-length g kept l l<, getD-set-same w (predecessorsFrom + l) y 0 (omega arith)))
       (λ k k<.
       omega
-      (arith, same-length g kept k k<, cells (λ k b. b / pending ≤ lineBefore w k / pending) (omega arith) (λ k o. omega arith) k))
+      (arith, same-length g kept k k<, cells (λ k b. b / pendingWeight ≤ predecessor w k / pendingWeight) (omega arith) (λ k o. omega arith) k))

@@ -9,7 +9,7 @@ use lib.ListN.{length, getD}
 use Rattle.model.specs.Lines.{lineAt, Follows}
 
 module _ {m : Map} {l j : ℕ} where
-  -- A line that can follow is a line, and it starts where the other ends: so it is in the chain of that node.
+  -- A line that can follow is a line, and it starts where the other ends: so it is in the adjacency list of that node.
   pub known : Follows m l j → j < length (m .lines)
   known f = f .line
 

@@ -1,5 +1,5 @@
 -- What a store leaves as it was.
-use Rattle.work_area.specs.Area.{lengthsFrom, beforeFrom, headsFrom, nextFrom, Held}
+use Rattle.work_area.specs.Area.{lengthsFrom, predecessorsFrom, headsFrom, nextFrom, Held}
 use Rattle.model.specs.Map.{Map}
 use Rattle.search.specs.Area.{listWeight, Chained}
 use Prim.Native.Nat.{ℕ, _+_, _/_, _%_, _≤_, _<_}
@@ -10,7 +10,7 @@ use Rattle.buffers.specs.Kept.{Kept}
 use Rattle.work_area.proofs.Holding.{few}
 use Rattle.search.proofs.Reached.{listing-same}
 
-pub chained-kept : {lo hi n : ℕ} {w v : List ℕ} {m : Map} → beforeFrom ≤ lo → hi ≤ headsFrom → Held w n m → Kept lo hi w v → Chained w n m → Chained v n m
+pub chained-kept : {lo hi n : ℕ} {w v : List ℕ} {m : Map} → predecessorsFrom ≤ lo → hi ≤ headsFrom → Held w n m → Kept lo hi w v → Chained w n m → Chained v n m
 chained-kept low high h k ch =
     let n≤ = few h in
     record {

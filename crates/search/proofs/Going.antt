@@ -1,8 +1,8 @@
--- How a search begins, and how it goes on from a line: at one line that can follow it, and along the chain of all.
-use Rattle.work_area.specs.Area.{linePlace, lineLength, lineFrc, beforeFrom, headsFrom, Held}
+-- How a search begins, and how it expands a line: at one line that can follow it, and along the adjacency list of all.
+use Rattle.work_area.specs.Area.{linePlace, lineLength, lineFrc, predecessorsFrom, headsFrom, Held}
 use Rattle.model.specs.Map.{greatestLineCount, Map}
 use Rattle.model.specs.Reading.{greatestLegLength}
-use Rattle.search.specs.Area.{pending, several, latest, lengthTo, lineBefore, listed, Tie}
+use Rattle.search.specs.Area.{pendingWeight, several, latest, lengthTo, predecessor, listed, Tie}
 use Prim.Native.Nat.{ℕ, _+_, _-_, _/_, _%_, _≤_, _<_}
 use mathlib.Core.Path.{_≡_, refl, sym, _∙_, ap, subst}
 use mathlib.Core.List.{List, [], _∷_, _++_}
@@ -13,7 +13,7 @@ use native.Mathlib.Decide.{ℕ-discrete}
 use lib.ListN.{getD}
 use Rattle.model.specs.Lines.{lineAt, Follows}
 use Rattle.buffers.specs.Kept.{Kept}
-use Rattle.search.specs.Steps.{Task, task, Waits, noteAt, Leads, Backed, Notes, Counted, Underway, Stepped, Forgotten, Begun, Noted, TieNoted, Lowered, Relaxed, Ahead, WentOn, weight}
+use Rattle.search.specs.Steps.{Task, task, Pending, noteAt, Leads, Backed, Notes, Counted, Underway, Stepped, Reset, Begun, Noted, TieNoted, Lowered, Relaxed, Ahead, WentOn, weight}
 use Rattle.search.proofs.Plain.{way-one, way-more, total-more, total-one}
 use Rattle.search.proofs.Follows.{known, meets}
 use Rattle.buffers.proofs.Kept.{kept-then, kept-within}
@@ -23,7 +23,7 @@ use Rattle.search.proofs.Leaving.{latest-le, latest-hit, latest-all}
 use Rattle.search.proofs.Counting.{counted-same, stepped-none, stepped-then, lowered, renoted, same-length, backed-less}
 
 -- No line is reached.
-module _ {m : Map} {n f limit : ℕ} {w v : List ℕ} (h : Held w n m) (f< : f < n) (small : limit ≤ greatestLegLength) (k : Forgotten m n w v) where
+module _ {m : Map} {n f limit : ℕ} {w v : List ℕ} (h : Held w n m) (f< : f < n) (small : limit ≤ greatestLegLength) (k : Reset m n w v) where
   bare : (c : ℕ) → Underway (task m f) n c limit 0 v
   bare c =
       record {
@@ -152,13 +152,13 @@ module _ {q : Task} {n c limit count l j : ℕ} {w : List ℕ} (g : Underway q n
             backed;
         here = λ f. record { tight = λ ok t. omega arith; noted = λ t u. (omega arith, λ p. omega arith) };
         from = a .0;
-        others = λ k k< p. let t = d .others k (omega arith) p in (t .0, ap (λ (y : ℕ). y % pending) (t .1));
+        others = λ k k< p. let t = d .others k (omega arith) p in (t .0, ap (λ (y : ℕ). y % pendingWeight) (t .1));
         waits = λ t. omega (arith, a .1);
       }
 
   -- Both ways are equal, and line `l` is noted.
   module _ {v : List ℕ} (f : Follows (q .map) l j) (equal : lengthTo w j ≡ lengthTo w l + getD w (linePlace j + lineLength) 0) (t : TieNoted l j w v) where
-    kept : Kept beforeFrom headsFrom w v
+    kept : Kept predecessorsFrom headsFrom w v
     kept = let n≤ = few (g .held) in kept-within (omega arith) (omega arith) (t .kept)
 
     same : (k : ℕ) → k < n → lengthTo v k ≡ lengthTo w k
@@ -167,18 +167,18 @@ module _ {q : Task} {n c limit count l j : ℕ} {w : List ℕ} (g : Underway q n
     note-here : noteAt v j ≡ t .note
     note-here = omega (arith, t .here, t .noted .low)
 
-    cell : (k : ℕ) → k < n → k ≢ j → lineBefore v k ≡ lineBefore w k
+    cell : (k : ℕ) → k < n → k ≢ j → predecessor v k ≡ predecessor w k
     cell k k< o =
         ⊎-elim
-        (λ a. t .kept .above (beforeFrom + k) (omega (arith, o)))
-        (λ a. t .kept .below (beforeFrom + k) (omega arith))
+        (λ a. t .kept .above (predecessorsFrom + k) (omega (arith, o)))
+        (λ a. t .kept .below (predecessorsFrom + k) (omega arith))
         (le-or-lt j k)
 
-    waiting : (k : ℕ) → k < n → lineBefore v k / pending ≡ lineBefore w k / pending
+    waiting : (k : ℕ) → k < n → predecessor v k / pendingWeight ≡ predecessor w k / pendingWeight
     waiting =
-        here-or (λ k. k < n → lineBefore v k / pending ≡ lineBefore w k / pending) j
+        here-or (λ k. k < n → predecessor v k / pendingWeight ≡ predecessor w k / pendingWeight) j
         (λ k<. omega (arith, t .here, t .noted .low))
-        (λ k o k<. ap (λ (y : ℕ). y / pending) (cell k k< o))
+        (λ k o k<. ap (λ (y : ℕ). y / pendingWeight) (cell k k< o))
 
     leads : Leads (q .map) w l j
     leads = let h = g .held in record { known = omega arith; follows = f; enough = omega (arith, length-at) }
@@ -221,7 +221,7 @@ module _ {q : Task} {n c limit count l j : ℕ} {w : List ℕ} (g : Underway q n
                 tight = λ ok y. omega (arith, same k k<, same j j<, old .tight ok (omega (arith, same k k<)));
                 noted = λ y u. rw note-here (notes-old (omega arith) (t .noted) (old .noted (omega (arith, same j j<)) (tied-same k< u)));
               })
-              (λ b o b< old. counted-same (same k k<) (same b b<) (ap (λ (y : ℕ). y % pending) (cell b b< o)) old)
+              (λ b o b< old. counted-same (same k k<) (same b b<) (ap (λ (y : ℕ). y % pendingWeight) (cell b b< o)) old)
               b b< (g .counted k b k< near (omega (arith, waiting k k<)) f))
               (here-or (λ b. b < n → lengthTo w b ≤ limit → Backed (q .map) v b (noteAt v b)) j
               (λ b< near. rw note-here (backed-less (g .held) (λ k k<. omega (arith, same k k<)) (same j j<) (backed near)))
@@ -233,21 +233,21 @@ module _ {q : Task} {n c limit count l j : ℕ} {w : List ℕ} (g : Underway q n
                 noted = λ y u. rw note-here (notes-new (t .noted));
               };
           from = same l l<;
-          others = λ k k< o. (same k k<, ap (λ (y : ℕ). y % pending) (cell k k< o));
+          others = λ k k< o. (same k k<, ap (λ (y : ℕ). y % pendingWeight) (cell k k< o));
           waits = λ y. omega (arith, waiting l l<);
         }
 
--- The walk along the chain of the lines that start where `l` ends: `l` is taken into account at those from `at` on.
+-- The walk along the adjacency list of the node where `l` ends: `l` is taken into account at those from `at` on.
 pub record Along (q : Task) (n c limit l : ℕ) (u w : List ℕ) (at r : ℕ) : Type 0 where
   pub step : Stepped q n c limit u w r
   pub counted : (j : ℕ) → at ≤ j → lengthTo w l ≤ limit → Follows (q .map) l j → Counted (q .map) c limit l j w
-  pub waits : Waits u l → Waits w l
+  pub waits : Pending u l → Pending w l
   pub inside : at ≤ n
   pub joined : 0 < at → lineAt (q .map) (at - 1) .start ≡ lineAt (q .map) l .end
 
 module _ {q : Task} {n c limit l : ℕ} {u : List ℕ} where
   along-from : {w : List ℕ} {at r : ℕ} (i : ℕ) → i ≤ n → at ≡ latest (q .map) (lineAt (q .map) l .end) i → Stepped q n c limit u w r →
-      (Waits u l → Waits w l) → ((j : ℕ) → i ≤ j → Follows (q .map) l j → Counted (q .map) c limit l j w) → Along q n c limit l u w at r
+      (Pending u l → Pending w l) → ((j : ℕ) → i ≤ j → Follows (q .map) l j → Counted (q .map) c limit l j w) → Along q n c limit l u w at r
   along-from i i≤ e s waits counted =
       record {
         step = s;
@@ -260,7 +260,7 @@ module _ {q : Task} {n c limit l : ℕ} {u : List ℕ} where
         joined = rw e (latest-hit (q .map) _ i);
       }
 
-  -- Where `l` does not wait, it is taken into account everywhere.
+  -- Where `l` is not pending, it is taken into account everywhere.
   pub along-start : {at count : ℕ} → Underway q n c limit count u → l < n → Ahead (q .map) n l u at → Along q n c limit l u u at count
   along-start g l< a =
       ⊎-elim
@@ -276,7 +276,7 @@ module _ {q : Task} {n c limit l : ℕ} {u : List ℕ} where
         inside = omega arith;
         joined = λ z. absurd (omega arith);
       })
-      (le-or-lt pending (lineBefore u l))
+      (le-or-lt pendingWeight (predecessor u l))
 
   pub along-step : {w v : List ℕ} {at next r s : ℕ} → Along q n c limit l u w at r → 0 < at → Relaxed q n c limit l (at - 1) w v s →
       next ≡ latest (q .map) (lineAt (q .map) (at - 1) .start) (at - 1) → Along q n c limit l u v next s
@@ -303,11 +303,11 @@ module _ {q : Task} {n c limit l : ℕ} {u : List ℕ} where
             hit ∙ k .joined pos;
       }
 
--- The search went on from the lines that wait at the places from `from` up to `i`.
+-- The search expanded the pending lines at the places from `from` up to `i`.
 pub record Passing (q : Task) (n c limit from count : ℕ) (u w : List ℕ) (i r : ℕ) : Type 0 where
   pub step : Stepped q n c limit u w r
   pub start : i ≡ from → (w ≡ u) × (r ≡ count)
-  pub less : from < i → Waits u (listed u from - 1) → weight w n < weight u n
+  pub less : from < i → Pending u (listed u from - 1) → weight w n < weight u n
 
 module _ {q : Task} {n c limit from count : ℕ} {u : List ℕ} where
   pub passing-start : Underway q n c limit count u → Passing q n c limit from count u u from count
@@ -323,8 +323,8 @@ module _ {q : Task} {n c limit from count : ℕ} {u : List ℕ} where
             ⊎-elim
             (λ e.
             let same : w ≡ u = k .start (sym e) .0 in
-            let at : Waits w (listed w from - 1) = subst (λ (x : List ℕ). Waits x (listed x from - 1)) (sym same) waits in
-            let now = t .less (subst (λ (j : ℕ). Waits w (listed w j - 1)) e at) in
+            let at : Pending w (listed w from - 1) = subst (λ (x : List ℕ). Pending x (listed x from - 1)) (sym same) waits in
+            let now = t .less (subst (λ (j : ℕ). Pending w (listed w j - 1)) e at) in
             subst (λ (x : List ℕ). weight v n < weight x n) same now)
             (λ later. omega (arith, k .less later waits, t .step .lighter))
             (eq-or-lt-of-le {n = from} {m = i} f≤);

@@ -1,4 +1,4 @@
--- The chains of the lines that leave a node: how they are made, and that a walk along one meets every such line.
+-- The adjacency lists: how they are made, and that a walk along one meets every such line.
 use Rattle.work_area.specs.Area.{linePlace, startNode, endNode, searchFrom, lengthsFrom, headsFrom, nextFrom, nearestFrom, Held}
 use Rattle.model.specs.Map.{greatestNodeCount, Map}
 use Rattle.search.specs.Area.{far, listWeight, latest, lengthTo, firstLeaving, nextLeaving, listed}
@@ -57,7 +57,7 @@ latest-all m v (suc i) j j< e =
     (eq-or-lt-of-le {n = j} {m = i} (omega arith)))
     e)
 
--- The chains of the lines below `i` are made, and no such line is reached.
+-- The adjacency lists of the lines below `i` are made, and no such line is reached.
 pub record Linking (w : List ℕ) (i : ℕ) (m : Map) (v : List ℕ) : Type 0 where
   pub heads : (a : ℕ) → a < length (m .nodes) → firstLeaving v a ≡ latest m a i
   pub nexts : (l : ℕ) → l < i → (nextLeaving v l ≡ latest m (lineAt m l .start) l) × (listed v l ≡ 0)

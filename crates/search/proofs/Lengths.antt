@@ -1,6 +1,6 @@
--- Where no line waits the lengths are least, and the notes are right.
+-- Where no line is pending the lengths are least, and the notes are right.
 use Rattle.model.specs.Map.{Map}
-use Rattle.search.specs.Area.{far, pending, several, lengthTo, lineBefore, listed, Tie, Tied}
+use Rattle.search.specs.Area.{far, pendingWeight, several, lengthTo, predecessor, listed, Tie, Tied}
 use Prim.Native.Nat.{ℕ, _-_, _≤_, _<_}
 use mathlib.Core.Path.{_≡_, subst}
 use mathlib.Core.List.{List}
@@ -20,12 +20,12 @@ last-known (more g f k) = known f
 
 module _ {q : Task} {n c limit count place : ℕ} {w : List ℕ} (g : Underway q n c limit count w) (b : Based (q .map) c (q .first) limit w)
     (s : Sought count w place) (end : count ≤ place) where
-  -- Every line within the limit is on the list, and none of these waits.
-  still : (l : ℕ) → l < n → lengthTo w l ≤ limit → lineBefore w l < pending
+  -- Every line within the limit is on the list, and none of these is pending.
+  still : (l : ℕ) → l < n → lengthTo w l ≤ limit → predecessor w l < pendingWeight
   still l l< near =
       let a = g .listing .every l l< (omega (arith, g .small)) in
       let e : listed w (a .0) - 1 ≡ l = omega (arith, a .2) in
-      subst (λ (k : ℕ). lineBefore w k < pending) e (s .none end (a .0) (a .1))
+      subst (λ (k : ℕ). predecessor w k < pendingWeight) e (s .none end (a .0) (a .1))
 
   all : (l j : ℕ) → l < n → lengthTo w l ≤ limit → Follows (q .map) l j → Counted (q .map) c limit l j w
   all l j l< near f = g .counted l j l< near (still l l< near) f
@@ -71,13 +71,13 @@ module _ {q : Task} {n c limit count place : ℕ} {w : List ℕ} (g : Underway q
   tied j j< near =
       let h = g .held in
       let z = still j j< near in
-      let e : noteAt w j ≡ lineBefore w j = omega arith in
+      let e : noteAt w j ≡ predecessor w j = omega arith in
       let k = g .backed j j< near in
       record {
         none = λ z l l< t. omega (arith, notes j< near l t .0);
         tie = λ a b. tie j< near (rw e at (k .one (omega arith) (omega arith)));
         one = λ a b l l< t. rw e at (notes j< near l t .1 (omega arith));
         below = λ a.
-            ⊎-elim (λ z. omega arith) (λ z. let t = k .one (omega arith) (omega arith) .known in omega arith) (le-or-lt (lineBefore w j) 0);
+            ⊎-elim (λ z. omega arith) (λ z. let t = k .one (omega arith) (omega arith) .known in omega arith) (le-or-lt (predecessor w j) 0);
         many = λ a. let t = k .many (omega arith) in (t .0, t .1, tie j< near (t .2), tie j< near (t .3), t .4);
       }

@@ -5,7 +5,7 @@ pub mod Reached
 pub mod Frame
 pub mod Places
 pub mod Leaving
-pub mod Forgetting
+pub mod Resetting
 pub mod Lowering
 pub mod Counting
 pub mod Going

@@ -1,6 +1,6 @@
--- What stands in the work area besides the map: the chains of the lines that leave a node, the list of the lines that a search has
+-- What stands in the work area besides the map: the adjacency lists, the list of the lines that a search has
 -- reached, and what it has found.
-use Rattle.work_area.specs.Area.{lengthsFrom, beforeFrom, headsFrom, nextFrom, nearestFrom, Held}
+use Rattle.work_area.specs.Area.{lengthsFrom, predecessorsFrom, headsFrom, nextFrom, nearestFrom, Held}
 use Rattle.model.specs.Map.{Map}
 use Rattle.model.specs.Reading.{greatestLegLength}
 use Prim.Native.Nat.{ℕ, zero, suc, _+_, _-_, _/_, _%_, _≤_, _<_}
@@ -12,18 +12,18 @@ use lib.Dec.{eqb}
 use Rattle.model.specs.Lines.{lineAt, Follows}
 use Rattle.search.specs.Ways.{line, Distance}
 
--- The cells. For each line: the length found to it (past the limit of the search where no way is within it), and the line before it.
--- While a search is under way `pending` is added to the latter where the line waits: it is still to be gone on from.
-abbrev pub pending : ℕ
-pending = 4_096
+-- The cells. For each line: the length found to it (past the limit of the search where no way is within it), and its predecessor.
+-- While a search is under way `pendingWeight` is added to the latter where the line is pending: it is still to be expanded.
+abbrev pub pendingWeight : ℕ
+pendingWeight = 4_096
 
 abbrev pub lengthTo : List ℕ → ℕ → ℕ
 lengthTo w l = getD w (lengthsFrom + l) 0
 
-abbrev pub lineBefore : List ℕ → ℕ → ℕ
-lineBefore w l = getD w (beforeFrom + l) 0
+abbrev pub predecessor : List ℕ → ℕ → ℕ
+predecessor w l = getD w (predecessorsFrom + l) 0
 
--- For each node the first line of its chain, for each line the next, and for each node the nearest line that ends there.
+-- For each node the first line of its adjacency list, for each line the next, and for each node the nearest line that ends there.
 abbrev pub firstLeaving : List ℕ → ℕ → ℕ
 firstLeaving w v = getD w (headsFrom + v) 0
 
@@ -77,7 +77,7 @@ pub record Among (w : List ℕ) (lines i l : ℕ) : Type 0 where
   pub below : place < i
   pub here : listed w place ≡ l + 1
 
--- The chains of the lines that leave each node: its last line, and from each line to the line before it from the same node.
+-- The adjacency lists: of each node its last line, and from each line to the one below it from the same node.
 -- Beside them stands the list of the lines that the last search reached, so that the next can begin without a look at every line.
 pub record Chained (w : List ℕ) (lines : ℕ) (m : Map) : Type 0 where
   pub heads : (v : ℕ) → v < length (m .nodes) → firstLeaving w v ≡ latest m v lines
@@ -91,7 +91,7 @@ pub record Tie (m : Map) (w : List ℕ) (l j : ℕ) : Type 0 where
   pub equal : lengthTo w l + lineAt m j .length ≡ lengthTo w j
 
 -- What `x` says of the lines below `i` that tie with line `j`: 0 for none, 1 + the only one, or several.
-pub record Before (m : Map) (w : List ℕ) (i j x : ℕ) : Type 0 where
+pub record Predecessors (m : Map) (w : List ℕ) (i j x : ℕ) : Type 0 where
   pub none : x ≡ 0 → (l : ℕ) → l < i → Tie m w l j → ⊥
   pub tie : 0 < x → x < several → Tie m w (x - 1) j
   pub one : 0 < x → x < several → (l : ℕ) → l < i → Tie m w l j → l ≡ x - 1
@@ -100,14 +100,14 @@ pub record Before (m : Map) (w : List ℕ) (i j x : ℕ) : Type 0 where
 
 -- That stands in the area for every line within the limit.
 abbrev pub Tied : Map → ℕ → ℕ → List ℕ → Type 0
-Tied m lines limit w = (j : ℕ) → j < lines → lengthTo w j ≤ limit → Before m w lines j (lineBefore w j)
+Tied m lines limit w = (j : ℕ) → j < lines → lengthTo w j ≤ limit → Predecessors m w lines j (predecessor w j)
 
--- The `count` lines up to line `last`, by the line before each that stands in the area.
+-- The `count` lines up to line `last`, by the predecessor of each that stands in the area.
 abbrev pub linesTo : List ℕ → ℕ → ℕ → List ℕ
 linesTo w last zero = []
-linesTo w last (suc count) = linesTo w (lineBefore w last - 1) count ++ last ∷ []
+linesTo w last (suc count) = linesTo w (predecessor w last - 1) count ++ last ∷ []
 
--- A search from line `first` is done: the length to every line, and the line before it.
+-- A search from line `first` is done: the length to every line, and its predecessor.
 pub record Searched (m : Map) (lines class first limit : ℕ) (w : List ℕ) : Type 0 where
   pub held : Held w lines m
   pub inside : first < lines
@@ -138,7 +138,7 @@ NearestLine m lines limit w v x = Nearest m limit w (λ l. l < lines) v x
 abbrev pub Reaching : Map → ℕ → ℕ → List ℕ → Type 0
 Reaching m lines limit w = (v : ℕ) → v < length (m .nodes) → NearestLine m lines limit w v (nearestLine w v)
 
--- The work area is ready for searches: it holds the map, and the chains of the lines that leave each node are made.
+-- The work area is ready for searches: it holds the map, and the adjacency lists are made.
 pub record Set (m : Map) (lines : ℕ) (w : List ℕ) : Type 0 where
   pub held : Held w lines m
   pub chained : Chained w lines m

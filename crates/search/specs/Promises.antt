@@ -6,14 +6,14 @@ use Prim.Native.Nat.{ℕ}
 use mathlib.Core.List.{List}
 use Rattle.buffers.specs.Kept.{Kept}
 
--- The chains of the lines below `i` are made, no such line is reached, and of the area only the cells of searches but those of the nearest
+-- The adjacency lists of the lines below `i` are made, no such line is reached, and of the area only the cells of searches but those of the nearest
 -- lines are changed.
 pub record Linked (w : List ℕ) (i : ℕ) (m : Map) (v : List ℕ) : Type 0 where
   pub chained : Chained v i m
   pub kept : Kept searchFrom nearestFrom w v
 
--- A search from line `first` is done, and of the area only the lengths, the lines before and the list are changed: the next can begin.
-pub record Found (m : Map) (lines class first limit : ℕ) (w v : List ℕ) : Type 0 where
+-- A search from line `first` is done, and of the area only the lengths, the predecessors and the list are changed: the next can begin.
+pub record Finished (m : Map) (lines class first limit : ℕ) (w v : List ℕ) : Type 0 where
   pub searched : Searched m lines class first limit v
   pub chained : Chained v lines m
   pub kept : Kept searchFrom nearestFrom w v

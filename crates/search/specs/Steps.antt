@@ -1,8 +1,8 @@
 -- What the steps of a search promise one another.
-use Rattle.work_area.specs.Area.{searchFrom, beforeFrom, nearestFrom, Held}
+use Rattle.work_area.specs.Area.{searchFrom, predecessorsFrom, nearestFrom, Held}
 use Rattle.model.specs.Map.{greatestLineCount, greatestNodeCount, Map}
 use Rattle.model.specs.Reading.{greatestLegLength}
-use Rattle.search.specs.Area.{far, pending, several, Chained, Listing, latest, lengthTo, lineBefore, firstLeaving, nextLeaving, listed, sum, Tie}
+use Rattle.search.specs.Area.{far, pendingWeight, several, Chained, Listing, latest, lengthTo, predecessor, firstLeaving, nextLeaving, listed, sum, Tie}
 use Prim.Native.Nat.{ℕ, _+_, _-_, _*_, _/_, _%_, _≤_, _<_}
 use mathlib.Core.Path.{_≡_}
 use mathlib.Core.List.{List}
@@ -12,13 +12,13 @@ use Rattle.model.specs.Lines.{lineAt, Follows}
 use Rattle.buffers.specs.Kept.{Kept}
 use Rattle.search.specs.Ways.{line, Reached}
 
--- Line `l` waits: its length came down, and it was not gone on from since.
-abbrev pub Waits : List ℕ → ℕ → Type 0
-Waits w l = pending ≤ lineBefore w l
+-- Line `l` is pending: its length was lowered, and it was not expanded since.
+abbrev pub Pending : List ℕ → ℕ → Type 0
+Pending w l = pendingWeight ≤ predecessor w l
 
--- What is noted at line `j`: 0, 1 + a line before it, or several.
+-- What is noted at line `j`: 0, 1 + a predecessor, or several.
 abbrev pub noteAt : List ℕ → ℕ → ℕ
-noteAt w j = lineBefore w j % pending
+noteAt w j = predecessor w j % pendingWeight
 
 -- By way of line `l` line `j` is as near as the length found to it, or nearer.
 pub record Leads (m : Map) (w : List ℕ) (l j : ℕ) : Type 0 where
@@ -53,29 +53,29 @@ pub record Task : Type 0 where
 abbrev pub task : Map → ℕ → Task
 task m first = record { map = m; first = first }
 
--- The search is under way: a length within the limit is that of a way, and every line that does not wait is taken into account.
+-- The search is under way: a length within the limit is that of a way, and every line that is not pending is taken into account.
 pub record Underway (q : Task) (lines class limit count : ℕ) (w : List ℕ) : Type 0 where
   pub held : Held w lines (q .map)
   pub chained : Chained w lines (q .map)
   pub listing : Listing w lines count
   pub small : limit ≤ greatestLegLength
   pub real : (l : ℕ) → l < lines → lengthTo w l ≤ limit → Reached (q .map) class (q .first) (line l) (lengthTo w l)
-  pub counted : (l j : ℕ) → l < lines → lengthTo w l ≤ limit → lineBefore w l < pending → Follows (q .map) l j → Counted (q .map) class limit l j w
+  pub counted : (l j : ℕ) → l < lines → lengthTo w l ≤ limit → predecessor w l < pendingWeight → Follows (q .map) l j → Counted (q .map) class limit l j w
   pub backed : (j : ℕ) → j < lines → lengthTo w j ≤ limit → Backed (q .map) w j (noteAt w j)
 
--- It falls with each length that does, and with each line that waits no longer.
+-- It falls with each length that does, and with each line that is pending no longer.
 abbrev pub weight : List ℕ → ℕ → ℕ
-weight w lines = sum (λ l. 2 * lengthTo w l + lineBefore w l / pending) lines
+weight w lines = sum (λ l. 2 * lengthTo w l + predecessor w l / pendingWeight) lines
 
--- A step took `w` to `v`: the search is under way, with `r` lines on the list, and lengths only came down.
+-- A step took `w` to `v`: the search is under way, with `r` lines on the list, and lengths were only lowered.
 pub record Stepped (q : Task) (lines class limit : ℕ) (w v : List ℕ) (r : ℕ) : Type 0 where
   pub underway : Underway q lines class limit r v
   pub fell : (k : ℕ) → k < lines → lengthTo v k ≤ lengthTo w k
   pub lighter : weight v lines ≤ weight w lines
   pub kept : Kept searchFrom nearestFrom w v
 
--- What the last search found is forgotten: no line is reached.
-pub record Forgotten (m : Map) (lines : ℕ) (w v : List ℕ) : Type 0 where
+-- What the last search found is reset: no line is reached.
+pub record Reset (m : Map) (lines : ℕ) (w v : List ℕ) : Type 0 where
   pub chained : Chained v lines m
   pub empty : Listing v lines 0
   pub all : (l : ℕ) → l < lines → far ≤ lengthTo v l
@@ -90,13 +90,13 @@ Based m class first limit w =
 pub record Begun (m : Map) (lines class first limit : ℕ) (w v : List ℕ) (r : ℕ) : Type 0 where
   pub underway : Underway (task m first) lines class limit r v
   pub based : Based m class first limit v
-  pub waits : (i : ℕ) → i < r → Waits v (listed v i - 1)
+  pub waits : (i : ℕ) → i < r → Pending v (listed v i - 1)
   pub kept : Kept searchFrom nearestFrom w v
 
--- The line at place `r` waits; or `r` is past the list, and none on it does.
+-- The line at place `r` is pending; or `r` is past the list, and none on it does.
 pub record Sought (count : ℕ) (w : List ℕ) (r : ℕ) : Type 0 where
-  pub waits : r < count → Waits w (listed w r - 1)
-  pub none : count ≤ r → (i : ℕ) → i < count → lineBefore w (listed w i - 1) < pending
+  pub waits : r < count → Pending w (listed w r - 1)
+  pub none : count ≤ r → (i : ℕ) → i < count → predecessor w (listed w i - 1) < pendingWeight
 
 -- `r` is `x` with line `l` noted.
 pub record Noted (x l r : ℕ) : Type 0 where
@@ -109,14 +109,14 @@ pub record Noted (x l r : ℕ) : Type 0 where
 pub record TieNoted (l j : ℕ) (w v : List ℕ) : Type 0 where
   pub note : ℕ
   pub noted : Noted (noteAt w j) l note
-  pub here : lineBefore v j ≡ lineBefore w j / pending * pending + note
-  pub kept : Kept (beforeFrom + j) (beforeFrom + j + 1) w v
+  pub here : predecessor v j ≡ predecessor w j / pendingWeight * pendingWeight + note
+  pub kept : Kept (predecessorsFrom + j) (predecessorsFrom + j + 1) w v
 
--- The length to line `j` is `x` now, with the note `note`; it waits, and it is on the list, which has `r` lines.
+-- The length to line `j` is `x` now, with the note `note`; it is pending, and it is on the list, which has `r` lines.
 pub record Lowered (j note count x : ℕ) (w v : List ℕ) (r : ℕ) : Type 0 where
   pub found : lengthTo v j ≡ x
-  pub before : lineBefore v j ≡ pending + note
-  pub others : (k : ℕ) → k < greatestLineCount → k ≢ j → (lengthTo v k ≡ lengthTo w k) × (lineBefore v k ≡ lineBefore w k)
+  pub before : predecessor v j ≡ pendingWeight + note
+  pub others : (k : ℕ) → k < greatestLineCount → k ≢ j → (lengthTo v k ≡ lengthTo w k) × (predecessor v k ≡ predecessor w k)
   pub heads : (a : ℕ) → a < greatestNodeCount → firstLeaving v a ≡ firstLeaving w a
   pub nexts : (k : ℕ) → k < greatestLineCount → nextLeaving v k ≡ nextLeaving w k
   pub list : (i : ℕ) → i < greatestLineCount → i ≢ count → listed v i ≡ listed w i
@@ -130,14 +130,14 @@ pub record Relaxed (q : Task) (lines class limit l j : ℕ) (w v : List ℕ) (r 
   pub here : Follows (q .map) l j → Counted (q .map) class limit l j v
   pub from : lengthTo v l ≡ lengthTo w l
   pub others : (k : ℕ) → k < lines → k ≢ j → (lengthTo v k ≡ lengthTo w k) × (noteAt v k ≡ noteAt w k)
-  pub waits : Waits w l → Waits v l
+  pub waits : Pending w l → Pending v l
 
--- `r` is the chain of the lines to go on to from line `l`, or 0 where that does not wait.
+-- `r` is the adjacency list to expand line `l` over, or 0 where that is not pending.
 pub record Ahead (m : Map) (lines l : ℕ) (w : List ℕ) (r : ℕ) : Type 0 where
-  pub waits : Waits w l → r ≡ latest m (lineAt m l .end) lines
-  pub still : lineBefore w l < pending → r ≡ 0
+  pub waits : Pending w l → r ≡ latest m (lineAt m l .end) lines
+  pub still : predecessor w l < pendingWeight → r ≡ 0
 
--- The search went on from line `l`, where that waited, and maybe from others.
+-- The search expanded line `l`, where that was pending, and maybe others.
 pub record WentOn (q : Task) (lines class limit l : ℕ) (w v : List ℕ) (r : ℕ) : Type 0 where
   pub step : Stepped q lines class limit w v r
-  pub less : Waits w l → weight v lines < weight w lines
+  pub less : Pending w l → weight v lines < weight w lines

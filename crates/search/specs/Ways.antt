@@ -33,7 +33,7 @@ pub record Least (m : Map) (class first : ℕ) (to : Target) (d : ℕ) : Type 0 
   pub least : (ls : List ℕ) → Way m class first to ls → d ≤ total m ls
 
 -- Exactly one way has the length `d`: `list`.
-pub record Only (m : Map) (class first : ℕ) (to : Target) (d : ℕ) (list : List ℕ) : Type 0 where
+pub record OnlyWay (m : Map) (class first : ℕ) (to : Target) (d : ℕ) (list : List ℕ) : Type 0 where
   pub way : Way m class first to list
   pub sum : total m list ≡ d
   pub only : (ls : List ℕ) → Way m class first to ls → total m ls ≡ d → ls ≡ list

@@ -13,16 +13,16 @@ ghost use mathlib.Core.Path.{_≡_};
 ghost use Prim.Native.Nat.{_+_, _≤_, _<_};
 ghost use lib.ListN.{length, getD};
 
-// Times this, the list of the lines that a search has reached stands in the cells of `NEXT`: 1 + the line at each place, or 0.
+// The cells of `NEXT` also hold the list of the lines that a search has reached, times this: 1 + the line at each place, or 0.
 pub const LIST_WEIGHT: u32 = 2_048;
 
 // The length to a line that is not reached: one past the greatest limit.
 pub const FAR: u32 = GREATEST_LEG_LENGTH + 1;
 
-// Added in the cell of the line before: the line waits to be gone on from.
-pub const PENDING: u32 = 4_096;
+// Added in the cell of a line's predecessor: the line is pending, still to be expanded.
+pub const PENDING_WEIGHT: u32 = 4_096;
 
-// In the cell of a line: several lines stand before it. Added in the cell of a node: another line is as near.
+// In the cell of a line: it has several predecessors. Added in the cell of a node: another line is as near.
 pub const SEVERAL: u32 = 2_000;
 
 // 1 + the line at place `i` of the list of reached lines, or 0 past its end.

@@ -1,17 +1,17 @@
-// How a search goes on from a line: at each line that can follow it, the length to that comes down, or the line is noted as one before it.
-use crate::cells::PENDING;
+// How a search expands a line: at each line that can follow it the length is lowered, or a tie is recorded.
+use crate::adjacency::first_leaving;
+use crate::adjacency::follows;
+use crate::adjacency::next_leaving;
+use crate::cells::PENDING_WEIGHT;
 use crate::cells::SEVERAL;
 use crate::cells::by_way_of;
 use crate::cells::line_at;
-use crate::chains::first_leaving;
-use crate::chains::follows;
-use crate::chains::next_leaving;
-use crate::list::bring_down;
+use crate::list::lower;
 use buffers::wide;
-use work_area::BEFORE;
 use work_area::END;
 use work_area::FRC;
 use work_area::LENGTHS;
+use work_area::PREDECESSORS;
 use work_area::field;
 ghost use Rattle.work_area.specs.Area.{Held};
 ghost use Rattle.model.specs.Map.{greatestLineCount, Map};
@@ -36,14 +36,14 @@ fn note(x: u32, l: usize) -> u32
     SEVERAL
 }
 
-// Notes line `l` at line `j`.
-fn note_tie(work: &mut [u32], l: usize, j: usize)
+// Records line `l` as a predecessor of line `j`.
+fn record_tie(work: &mut [u32], l: usize, j: usize)
     requires { ⌜ (l < greatestLineCount) × (j < greatestLineCount) × (workLength ≤ length (now work)) ⌝ }
     ensures { λ _. ⌜ TieNoted l j (now (work .entry)) (now (work .exit)) ⌝ }
 {
-    let x = work[BEFORE + j];
-    let noted = note(x % PENDING, l);
-    work[BEFORE + j] = x / PENDING * PENDING + noted;
+    let x = work[PREDECESSORS + j];
+    let noted = note(x % PENDING_WEIGHT, l);
+    work[PREDECESSORS + j] = x / PENDING_WEIGHT * PENDING_WEIGHT + noted;
 }
 
 // Takes line `l` into account at line `j`, where that can follow it: how many lines are on the list now.
@@ -70,7 +70,7 @@ fn relax(
         return count;
     }
     if found == length {
-        note_tie(work, l, j);
+        record_tie(work, l, j);
         return count;
     }
     if class < field(work, j, FRC) {
@@ -79,22 +79,22 @@ fn relax(
     if wide(limit) < length {
         return count;
     }
-    bring_down(work, j, (l + 1) as u32, count, length as u32)
+    lower(work, j, (l + 1) as u32, count, length as u32)
 }
 
-// The chain of the lines to go on to from line `l`: 1 + its first line, or 0 where there is none or where line `l` does not wait.
+// The adjacency list to expand line `l` over: 1 + its first line, or 0 where there is none or where line `l` is not pending.
 fn ahead(work: &[u32], lines: usize, l: usize) -> usize
     requires { ⌜ l < lines ⌝ }
     requires { ⌜ ((m : Map) × Held (now work) lines m × Chained (now work) lines m) ⌝ }
     ensures { λ r. ⌜ ((m : Map) → Held (now (work .entry)) lines m → Chained (now (work .entry)) lines m → Ahead m lines l (now (work .entry)) r) ⌝ }
 {
-    if work[BEFORE + l] < PENDING {
+    if work[PREDECESSORS + l] < PENDING_WEIGHT {
         return 0;
     }
     first_leaving(work, lines, wide(field(work, l, END)))
 }
 
-// Takes line `l` into account at each line ahead of it, and then it waits no longer: how many lines are on the list now.
+// Takes line `l` into account at each line ahead of it, and then it is pending no longer: how many lines are on the list now.
 fn relax_all(
     work: &mut [u32],
     lines: usize,
@@ -114,7 +114,7 @@ fn relax_all(
         reached = relax(work, lines, l, at - 1, reached, class, limit);
         at = next_leaving(work, lines, at);
     }
-    work[BEFORE + l] = work[BEFORE + l] % PENDING;
+    work[PREDECESSORS + l] = work[PREDECESSORS + l] % PENDING_WEIGHT;
     reached
 }
 

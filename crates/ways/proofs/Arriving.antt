@@ -11,7 +11,7 @@ use native.Mathlib.Omega.{arith}
 use lib.ListN.{length, getD, set}
 use Rattle.model.specs.Lines.{lineAt}
 use Rattle.buffers.specs.Kept.{Kept, Filled}
-use Rattle.ways.specs.Told.{Ended}
+use Rattle.ways.specs.Told.{NearestPut}
 use Rattle.search.proofs.Leaving.{end-is, end-in}
 use Rattle.buffers.proofs.Kept.{kept-none, kept-then, at-set, kept-set}
 use Rattle.buffers.proofs.Cases.{le-or-lt}
@@ -166,5 +166,5 @@ module _ {m : Map} {n i l limit v : ℕ} {u w : List ℕ} (h : Held u n m) (l< :
       }
 
 pub ended : {m : Map} {n count i limit : ℕ} {u w : List ℕ} → Listing w n count → count ≤ i → limit ≤ greatestLegLength →
-    Ending m n i limit u w → Ended m n limit u w
+    Ending m n i limit u w → NearestPut m n limit u w
 ended s c small k = record { reaching = λ a a<. nearest-all s c small (k .cells a a<); kept = k .kept }

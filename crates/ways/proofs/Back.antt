@@ -1,6 +1,6 @@
--- The way back from a line, by the line before each: where that is always one, the way is the only one of its length.
+-- The way back from a line, by the predecessor of each: where that is always one, the way is the only one of its length.
 use Rattle.model.specs.Map.{Map}
-use Rattle.search.specs.Area.{far, several, lengthTo, linesTo, Tie, Before, Searched, lineBefore}
+use Rattle.search.specs.Area.{far, several, lengthTo, linesTo, Tie, Predecessors, Searched, predecessor}
 use Prim.Native.Nat.{ℕ, zero, suc, _+_, _-_, _≤_, _<_}
 use mathlib.Core.Path.{_≡_, refl, sym, _∙_, ap, subst}
 use mathlib.Core.Bool.{cond}
@@ -11,7 +11,7 @@ use native.Mathlib.Omega.{arith}
 use borrow.Author.Tests.{ltb-true, ltb-false}
 use lib.Dec.{ltb}
 use Rattle.model.specs.Lines.{lineAt, total, lastOf}
-use Rattle.search.specs.Ways.{line, Way, Reached, Least, Only, Two}
+use Rattle.search.specs.Ways.{line, Way, Reached, Least, OnlyWay, Two}
 use Rattle.search.proofs.Plain.{Grown, one, more, class-first, class-last, total-more, total-one, way-one, way-more, way-of, grown-of, same-before}
 use Rattle.search.proofs.Follows.{known}
 use Rattle.buffers.proofs.Cases.{le-or-lt, picked}
@@ -77,7 +77,7 @@ module _ {m : Map} {n c f limit : ℕ} {w : List ℕ} (s : Searched m n c f limi
       absurd (omega (arith, total-one m f, b .tie .equal, b .sum, b .positive)))
       (back (grown-of p) e d)
 
-  only-first : lengthTo w f ≤ limit → Only m c f (line f) (lengthTo w f) (f ∷ [])
+  only-first : lengthTo w f ≤ limit → OnlyWay m c f (line f) (lengthTo w f) (f ∷ [])
   only-first d =
       let q = near f (s .inside) d .some in
       let e = first-only (q .way) (q .sum) d in
@@ -112,7 +112,7 @@ module _ {m : Map} {n c f limit : ℕ} {w : List ℕ} (s : Searched m n c f limi
         }
 
     only-step : {p : ℕ} {r : List ℕ} → (l ≡ f → ⊥) → Tie m w p l → ((a : ℕ) → Tie m w a l → a ≡ p) →
-        Only m c f (line p) (lengthTo w p) r → Only m c f (line l) (lengthTo w l) (r ++ l ∷ [])
+        OnlyWay m c f (line p) (lengthTo w p) r → OnlyWay m c f (line l) (lengthTo w l) (r ++ l ∷ [])
     only-step {p} {r} out t alone o =
         let one = onto t (record { list = r; way = o .way; sum = o .sum }) in
         record {
@@ -178,8 +178,8 @@ pub record Walked (m : Map) (n c f limit : ℕ) (w : List ℕ) (last at count : 
   pub near : lengthTo w at ≤ limit
   pub some : 0 < count
   pub few : count + closer w (lengthTo w at) n ≤ closer w (lengthTo w last) n + 1
-  pub only : (k : ℕ) → Only m c f (line at) (lengthTo w at) (linesTo w at (suc k)) →
-      Only m c f (line last) (lengthTo w last) (linesTo w last (count + k))
+  pub only : (k : ℕ) → OnlyWay m c f (line at) (lengthTo w at) (linesTo w at (suc k)) →
+      OnlyWay m c f (line last) (lengthTo w last) (linesTo w last (count + k))
   pub two : Two m c f (line at) (lengthTo w at) → Two m c f (line last) (lengthTo w last)
 
 pub walked-start : {m : Map} {n c f limit : ℕ} {w : List ℕ} (last : ℕ) → last < n → lengthTo w last ≤ limit →
@@ -200,10 +200,10 @@ walked-few {n = n} {w = w} {last = last} l< k =
     omega (arith, closer-less w last (lengthTo w last + 1) n l< (omega arith), closer-le w (lengthTo w last + 1) n)
 
 module _ {m : Map} {n c f limit : ℕ} {w : List ℕ} {last at count : ℕ} (s : Searched m n c f limit w) (k : Walked m n c f limit w last at count) where
-  before : Before m w n at (lineBefore w at)
+  before : Predecessors m w n at (predecessor w at)
   before = s .tied at (k .inside) (k .near)
 
-  pub before-some : (at ≡ f → ⊥) → 0 < lineBefore w at
+  pub before-some : (at ≡ f → ⊥) → 0 < predecessor w at
   before-some out =
       let t = some-tie s (k .inside) (k .near) out in
       ⊎-elim
@@ -211,12 +211,12 @@ module _ {m : Map} {n c f limit : ℕ} {w : List ℕ} {last at count : ℕ} (s :
       (λ p. p)
       (le-or-lt _ 0)
 
-  pub walked-less : (at ≡ f → ⊥) → lineBefore w at < several → lengthTo w (lineBefore w at - 1) < lengthTo w at
+  pub walked-less : (at ≡ f → ⊥) → predecessor w at < several → lengthTo w (predecessor w at - 1) < lengthTo w at
   walked-less out low = tie-near s (k .inside) (k .near) (before .tie (before-some out) low) .1
 
-  pub walked-step : (at ≡ f → ⊥) → lineBefore w at < several → Walked m n c f limit w last (lineBefore w at - 1) (count + 1)
+  pub walked-step : (at ≡ f → ⊥) → predecessor w at < several → Walked m n c f limit w last (predecessor w at - 1) (count + 1)
   walked-step out low =
-      let p = lineBefore w at - 1 in
+      let p = predecessor w at - 1 in
       let t = before .tie (before-some out) low in
       let b = tie-near s (k .inside) (k .near) t in
       let alone : (a : ℕ) → Tie m w a at → a ≡ p =
@@ -234,11 +234,11 @@ module _ {m : Map} {n c f limit : ℕ} {w : List ℕ} {last at count : ℕ} (s :
         two = λ o. k .two (two-step s (k .inside) (k .near) t o);
       }
 
-  pub walked-two : several ≤ lineBefore w at → Two m c f (line last) (lengthTo w last)
+  pub walked-two : several ≤ predecessor w at → Two m c f (line last) (lengthTo w last)
   walked-two big = let t = before .many big in k .two (two-ties s (k .inside) (k .near) (t .2) (t .3) (t .4))
 
-  pub walked-one : at ≡ f → Only m c f (line last) (lengthTo w last) (linesTo w last count)
+  pub walked-one : at ≡ f → OnlyWay m c f (line last) (lengthTo w last) (linesTo w last count)
   walked-one e =
       let o = only-first s (subst (λ (x : ℕ). lengthTo w x ≤ limit) e (k .near)) in
       let z : count + 0 ≡ count = omega arith in
-      rw z at (k .only 0 (subst (λ (x : ℕ). Only m c f (line x) (lengthTo w x) (x ∷ [])) (sym e) o))
+      rw z at (k .only 0 (subst (λ (x : ℕ). OnlyWay m c f (line x) (lengthTo w x) (x ∷ [])) (sym e) o))

@@ -1,5 +1,5 @@
 -- What stays known when other parts of the work area change. For the callers of the search.
-use Rattle.work_area.specs.Area.{lengthsFrom, beforeFrom, headsFrom, nextFrom, nearestFrom, Held}
+use Rattle.work_area.specs.Area.{lengthsFrom, predecessorsFrom, headsFrom, nextFrom, nearestFrom, Held}
 use Rattle.model.specs.Map.{Map}
 use Rattle.search.specs.Area.{listWeight, Chained, lengthTo, Searched}
 use Prim.Native.Nat.{ℕ, _+_, _/_, _%_, _≤_, _<_}
@@ -12,7 +12,7 @@ use Rattle.search.proofs.Reached.{listing-same}
 use Rattle.ways.proofs.Ties.{before-kept}
 
 module _ {lo hi n : ℕ} {w v : List ℕ} {m : Map} where
-  -- `nearest_lines` leaves what a search found, the chains and the list.
+  -- `nearest_lines` leaves what a search found, the adjacency lists and the list of reached lines.
   pub searched-kept : {c f limit : ℕ} → headsFrom ≤ lo → Kept lo hi w v → Searched m n c f limit w → Searched m n c f limit v
   searched-kept low k s =
       let h = s .held in
@@ -24,7 +24,7 @@ module _ {lo hi n : ℕ} {w v : List ℕ} {m : Map} where
         small = s .small;
         found = λ l l<. rw (e l l<) at (s .found l l<);
         tied = λ j j< near.
-            rw (k .below (beforeFrom + j) (omega arith)) (before-kept (omega arith) (h .formed .few-lines) k (s .tied j j< (omega (arith, e j j<))));
+            rw (k .below (predecessorsFrom + j) (omega arith)) (before-kept (omega arith) (h .formed .few-lines) k (s .tied j j< (omega (arith, e j j<))));
       }
 
   pub chained-above : nearestFrom ≤ lo → Kept lo hi w v → Held w n m → Chained w n m → Chained v n m

@@ -1,7 +1,7 @@
 -- The lines of a way, written from the last to the first.
 use Rattle.work_area.specs.Area.{Held}
 use Rattle.model.specs.Map.{greatestLineCount, Map}
-use Rattle.search.specs.Area.{linesTo, lineBefore}
+use Rattle.search.specs.Area.{linesTo, predecessor}
 use Prim.Native.Nat.{ℕ, zero, suc, _-_, _≤_, _<_}
 use mathlib.Core.Path.{_≡_, refl, sym, _∙_, ap}
 use mathlib.Core.List.{List, [], _∷_, _++_, append-nil}
@@ -25,13 +25,13 @@ numbers-apart [] l h = (tt, h .0)
 numbers-apart (x ∷ xs) l h = let r = numbers-apart xs l (h .1) in ((h .0, r .0), r .1)
 
 -- The last line still to be written, and those before it.
-apart : (w : List ℕ) (at left : ℕ) → 0 < left → linesTo w at left ≡ linesTo w (lineBefore w at - 1) (left - 1) ++ at ∷ []
+apart : (w : List ℕ) (at left : ℕ) → 0 < left → linesTo w at left ≡ linesTo w (predecessor w at - 1) (left - 1) ++ at ∷ []
 apart w at zero pos = absurd (omega arith)
 apart w at (suc j) pos = let z : suc j - 1 ≡ j = omega arith in rw z refl
 
 pub numbers-last : (w : List ℕ) (at left : ℕ) → 0 < left → Numbers (linesTo w at left) →
-    Numbers (linesTo w (lineBefore w at - 1) (left - 1)) × (at < greatestLineCount)
-numbers-last w at left pos h = numbers-apart (linesTo w (lineBefore w at - 1) (left - 1)) at (rw (apart w at left pos) at h)
+    Numbers (linesTo w (predecessor w at - 1) (left - 1)) × (at < greatestLineCount)
+numbers-last w at left pos h = numbers-apart (linesTo w (predecessor w at - 1) (left - 1)) at (rw (apart w at left pos) at h)
 
 drop-set : (out : List ℕ) (i x : ℕ) → i < length out → drop i (set out i x) ≡ x ∷ drop (suc i) out
 drop-set out i x h =
@@ -41,9 +41,9 @@ drop-set out i x h =
 
 -- `all` is what is to be written: the lines still to be written, and then what is.
 pub write-step : (w all out : List ℕ) (at left : ℕ) → 0 < left → left ≤ length out → all ≡ linesTo w at left ++ drop left out →
-    all ≡ linesTo w (lineBefore w at - 1) (left - 1) ++ drop (left - 1) (set out (left - 1) at)
+    all ≡ linesTo w (predecessor w at - 1) (left - 1) ++ drop (left - 1) (set out (left - 1) at)
 write-step w all out at left pos fits e =
-    let rest = linesTo w (lineBefore w at - 1) (left - 1) in
+    let rest = linesTo w (predecessor w at - 1) (left - 1) in
     let z : left ≡ suc (left - 1) = omega arith in
     let d : drop (left - 1) (set out (left - 1) at) ≡ at ∷ drop left out =
     drop-set out (left - 1) at (omega arith) ∙ ap (λ (k : ℕ). at ∷ drop k out) (sym z) in

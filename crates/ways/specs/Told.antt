@@ -5,12 +5,12 @@ use Rattle.search.specs.Area.{Reaching, linesTo}
 use Prim.Native.Nat.{ℕ, _≤_, _<_}
 use mathlib.Core.List.{List}
 use Rattle.buffers.specs.Kept.{Kept}
-use Rattle.search.specs.Ways.{Target, Least, Only, Two, Beyond}
+use Rattle.search.specs.Ways.{Target, Least, OnlyWay, Two, Beyond}
 use Rattle.ways.specs.declared.Ways.{Ways}
 use Rattle.ways.specs.declared.Ways.the-variants.{Nothing, Several, One}
 
 -- The cell of each node says which line is nearest to it, and nothing else is changed.
-pub record Ended (m : Map) (lines limit : ℕ) (w v : List ℕ) : Type 0 where
+pub record NearestPut (m : Map) (lines limit : ℕ) (w v : List ℕ) : Type 0 where
   pub reaching : Reaching m lines limit v
   pub kept : Kept nearestFrom searchTo w v
 
@@ -24,7 +24,7 @@ pub record SeveralLeast (m : Map) (class first limit : ℕ) (to : Target) (lengt
 pub record OneLeast (m : Map) (class first limit : ℕ) (to : Target) (length : ℕ) (list : List ℕ) : Type 0 where
   pub within : length ≤ limit
   pub least : Least m class first to length
-  pub only : Only m class first to length list
+  pub only : OnlyWay m class first to length list
 
 -- `One last length count`: the way has `count` lines, and they are those up to line `last` in the work area.
 abbrev pub Told : Map → ℕ → ℕ → ℕ → ℕ → Target → List ℕ → Ways → Type 0

@@ -1,12 +1,12 @@
 // What a search has found: the ways of least length to a line or to a node.
 use buffers::wide;
 use search::cells::SEVERAL;
-use work_area::BEFORE;
 use work_area::LENGTHS;
+use work_area::PREDECESSORS;
 ghost use Rattle.work_area.specs.Area.{Held};
 ghost use Rattle.model.specs.Map.{greatestLineCount, Map};
 ghost use Rattle.model.specs.Work.{workLength};
-ghost use Rattle.search.specs.Area.{Searched, NearestLine, lineBefore, linesTo};
+ghost use Rattle.search.specs.Area.{Searched, NearestLine, predecessor, linesTo};
 ghost use mathlib.Core.Path.{_≡_};
 ghost use Prim.Native.Nat.{ℕ, _-_, _≤_, _<_};
 ghost use lib.ListN.{length};
@@ -37,7 +37,7 @@ pub fn to_line(work: &[u32], lines: usize, first: usize, last: usize, limit: u32
     let mut at = last;
     let mut count: usize = 1;
     while at != first {
-        let x = work[BEFORE + at];
+        let x = work[PREDECESSORS + at];
         if SEVERAL <= x {
             return Ways::Several(length);
         }
@@ -63,12 +63,12 @@ pub fn to_node(work: &[u32], lines: usize, first: usize, x: u32, limit: u32) -> 
     to_line(work, lines, first, nearest, limit)
 }
 
-// The line before line `l` on a way. Before the first line it is of no use.
-fn line_before(work: &[u32], l: usize) -> usize
+// The predecessor of line `l` on a way. The first line has none, and what is given for it means nothing.
+fn predecessor_of(work: &[u32], l: usize) -> usize
     requires { ⌜ (l < greatestLineCount) × (workLength ≤ length (now work)) ⌝ }
-    ensures { λ r. ⌜ r ≡ lineBefore (now (work .entry)) l - 1 ⌝ }
+    ensures { λ r. ⌜ r ≡ predecessor (now (work .entry)) l - 1 ⌝ }
 {
-    let x = wide(work[BEFORE + l]);
+    let x = wide(work[PREDECESSORS + l]);
     if x == 0 {
         return 0;
     }
@@ -85,6 +85,6 @@ pub fn write_lines(work: &[u32], last: usize, out: &mut [u32])
     while 0 < left {
         left -= 1;
         out[left] = at as u32;
-        at = line_before(work, at);
+        at = predecessor_of(work, at);
     }
 }

@@ -17,9 +17,9 @@ ghost use mathlib.Core.Path.{_≡_};
 ghost use Prim.Native.Nat.{ℕ, _+_, _≤_, _<_};
 ghost use lib.ListN.{length};
 ghost use Rattle.model.specs.Lines.{lineAt};
-ghost use Rattle.ways.specs.Told.{Ended};
+ghost use Rattle.ways.specs.Told.{NearestPut};
 
-// The number `x` of a node with line `l`, which ends there and is next on the list, taken into account.
+// A node's cell `x` updated for line `l`, which ends at the node and is next on the list.
 fn nearer(work: &[u32], x: u32, l: usize, limit: u32) -> u32
     requires { ⌜ (l < greatestLineCount) × (workLength ≤ length (now work)) ⌝ }
     ensures { λ r. ⌜ ((m : Map) → (lines i v : ℕ) → lineAt m l .end ≡ v → l < lines → listed (now (work .entry)) i ≡ l + 1
@@ -44,7 +44,7 @@ fn nearer(work: &[u32], x: u32, l: usize, limit: u32) -> u32
     other + SEVERAL + 1
 }
 
-// The number `x` of node `v` with line `l`, which is next on the list, taken into account.
+// The cell `x` of node `v` updated for line `l`, which is next on the list.
 fn nearer_to(work: &[u32], lines: usize, x: u32, l: usize, v: usize, limit: u32) -> u32
     requires { ⌜ l < lines ⌝ }
     requires { ⌜ ((m : Map) × Held (now work) lines m) ⌝ }
@@ -77,11 +77,11 @@ pub fn nearest_line(work: &[u32], lines: usize, v: usize, limit: u32) -> u32
     x
 }
 
-// Puts that into the cell of each node.
+// Puts the nearest line of each node into the node's cell.
 pub fn nearest_lines(work: &mut [u32], lines: usize, limit: u32)
     requires { ⌜ ((m : Map) × Held (now work) lines m × Chained (now work) lines m) ⌝ }
     ensures { λ _. ⌜ ((m : Map) → Held (now (work .entry)) lines m → Chained (now (work .entry)) lines m → limit ≤ greatestLegLength
-        → Ended m lines limit (now (work .entry)) (now (work .exit))) ⌝ }
+        → NearestPut m lines limit (now (work .entry)) (now (work .exit))) ⌝ }
 {
     fill(work, NEAREST, NODES, 0);
     let mut i = 0;

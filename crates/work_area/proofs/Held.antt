@@ -11,35 +11,35 @@ use lib.ListN.{length, getD, length-append, List·getD-append}
 use lib.Seq.{getD-at}
 use lib.Dec.{lit<}
 use Rattle.buffers.specs.Kept.{Kept}
-use Rattle.work_area.specs.Held.{heldNode, lineFrom, heldLine, listed, heldNodes, heldLines}
+use Rattle.work_area.specs.Held.{heldNode, lineFrom, heldLine, numbered, heldNodes, heldLines}
 
 -- ---- the first n of some numbered things
 
 module _ {A : Type 0} where
-  pub listed-same : (f g : ℕ → A) (n : ℕ) → ((i : ℕ) → i < n → f i ≡ g i) → listed f n ≡ listed g n
-  unfolding listed
+  pub listed-same : (f g : ℕ → A) (n : ℕ) → ((i : ℕ) → i < n → f i ≡ g i) → numbered f n ≡ numbered g n
+  unfolding numbered
   listed-same f g zero h = refl
   listed-same f g (suc n) h = ap₂ (λ (l : List A) (x : A). l ++ x ∷ []) (listed-same f g n (λ i l. h i (omega arith))) (h n (omega arith))
 
-  pub listed-more : (f g : ℕ → A) (n : ℕ) → ((i : ℕ) → i < n → g i ≡ f i) → listed g (n + 1) ≡ listed f n ++ g n ∷ []
-  unfolding listed
+  pub listed-more : (f g : ℕ → A) (n : ℕ) → ((i : ℕ) → i < n → g i ≡ f i) → numbered g (n + 1) ≡ numbered f n ++ g n ∷ []
+  unfolding numbered
   listed-more f g n h = rw (add-one n) (ap (λ (l : List A). l ++ g n ∷ []) (listed-same g f n h))
 
-  pub listed-length : (f : ℕ → A) (n : ℕ) → length (listed f n) ≡ n
-  unfolding listed
+  pub listed-length : (f : ℕ → A) (n : ℕ) → length (numbered f n) ≡ n
+  unfolding numbered
   listed-length f zero = refl
-  listed-length f (suc n) = length-append (listed f n) (f n ∷ []) ∙ (let h = listed-length f n in omega arith)
+  listed-length f (suc n) = length-append (numbered f n) (f n ∷ []) ∙ (let h = listed-length f n in omega arith)
 
-  pub listed-at : (f : ℕ → A) (n i : ℕ) (d : A) → i < n → getD (listed f n) i d ≡ f i
-  unfolding listed
+  pub listed-at : (f : ℕ → A) (n i : ℕ) (d : A) → i < n → getD (numbered f n) i d ≡ f i
+  unfolding numbered
   listed-at f zero i d h = absurd (omega arith)
   listed-at f (suc n) i d h = go (decLt i n) (λ l. listed-at f n i d l)
     where
-      go : Dec (i < n) → (i < n → getD (listed f n) i d ≡ f i) → getD (listed f n ++ f n ∷ []) i d ≡ f i
-      go (yes l) before = List·getD-append (listed f n) (f n ∷ []) d i (let k = listed-length f n in omega arith) ∙ before l
+      go : Dec (i < n) → (i < n → getD (numbered f n) i d ≡ f i) → getD (numbered f n ++ f n ∷ []) i d ≡ f i
+      go (yes l) before = List·getD-append (numbered f n) (f n ∷ []) d i (let k = listed-length f n in omega arith) ∙ before l
       go (no l) before =
           let e : n ≡ i = omega arith in
-          subst (λ (k : ℕ). getD (listed f n ++ f n ∷ []) k d ≡ f k) e (getD-at (listed f n) (f n) [] d n (listed-length f n))
+          subst (λ (k : ℕ). getD (numbered f n ++ f n ∷ []) k d ≡ f k) e (getD-at (numbered f n) (f n) [] d n (listed-length f n))
 
 -- ---- a node or a line is told by its numbers
 

@@ -40,7 +40,7 @@ module _ {w : List ℕ} {nodes lines : ℕ} {m : Map} (h : Holds w nodes lines m
 -- ---- with the map's own count of nodes
 
 module _ {lo hi : ℕ} where
-  -- Past the map's part, a change leaves the map. Within the lines before, it leaves the chains and the list.
+  -- Past the map's part, a change leaves the map. Within the predecessors, it leaves the adjacency lists and the list.
   pub held-kept : {w v : List ℕ} {n : ℕ} {m : Map} → searchFrom ≤ lo → Kept lo hi w v → Held w n m → Held v n m
   held-kept high k h = holds-kept h k high
 

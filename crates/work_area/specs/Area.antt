@@ -61,11 +61,11 @@ searchFrom = linesFrom + lineSize * greatestLineCount
 abbrev pub lengthsFrom : ℕ
 lengthsFrom = searchFrom
 
-abbrev pub beforeFrom : ℕ
-beforeFrom = lengthsFrom + greatestLineCount
+abbrev pub predecessorsFrom : ℕ
+predecessorsFrom = lengthsFrom + greatestLineCount
 
 abbrev pub headsFrom : ℕ
-headsFrom = beforeFrom + greatestLineCount
+headsFrom = predecessorsFrom + greatestLineCount
 
 abbrev pub nextFrom : ℕ
 nextFrom = headsFrom + greatestNodeCount

@@ -25,12 +25,12 @@ unfoldable pub heldLine : List ℕ → ℕ → Line
 heldLine w i = lineFrom w (linePlace i)
 
 -- The first `n` of some numbered things.
-unfoldable pub listed : {A : Type 0} → (ℕ → A) → ℕ → List A
-listed f zero = []
-listed f (suc n) = listed f n ++ f n ∷ []
+unfoldable pub numbered : {A : Type 0} → (ℕ → A) → ℕ → List A
+numbered f zero = []
+numbered f (suc n) = numbered f n ++ f n ∷ []
 
 abbrev pub heldNodes : List ℕ → ℕ → List Node
-heldNodes w n = listed (heldNode w) n
+heldNodes w n = numbered (heldNode w) n
 
 abbrev pub heldLines : List ℕ → ℕ → List Line
-heldLines w n = listed (heldLine w) n
+heldLines w n = numbered (heldLine w) n

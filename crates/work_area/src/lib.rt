@@ -38,13 +38,13 @@ pub const BEARING_OUT: usize = 5;
 
 pub const BEARING_BACK: usize = 6;
 
-// Behind the map. A number for each line: the length found to it, and the line before it.
+// Behind the map. A number for each line: the length found to it, and its predecessor.
 pub const LENGTHS: usize = LINES + LINE_NUMBERS * MAP_LINES;
 
-pub const BEFORE: usize = LENGTHS + MAP_LINES;
+pub const PREDECESSORS: usize = LENGTHS + MAP_LINES;
 
-// The chains of the lines that leave a node: 1 + the last such line for each node, 1 + the next for each line, or 0.
-pub const HEADS: usize = BEFORE + MAP_LINES;
+// The adjacency lists: 1 + the last such line for each node, 1 + the next for each line, or 0.
+pub const HEADS: usize = PREDECESSORS + MAP_LINES;
 
 pub const NEXT: usize = HEADS + NODES;
 

@@ -26,12 +26,12 @@ use Rattle.stretches.specs.declared.stretch.Checked.the-variants as checked
 use Rattle.model.specs.declared.Refusal.the-variants as why
 
 -- What is known of the choice once the answer is known.
-module _ (good : ℕ → ℕ → Type 0) (n : ℕ) (r : Cut) (before after : List ℕ) (chose : cuts.Answers good n r before after) where
+module _ (good : ℕ → ℕ → Type 0) (n : ℕ) (r : Cut) (before after : List ℕ) (chose : cuts.CutAnswers good n r before after) where
   pub chose-none : r ≡ Nowhere → NoRoute good n 0
-  chose-none e = subst (λ (q : Cut). cuts.Answers good n q before after) e chose .0
+  chose-none e = subst (λ (q : Cut). cuts.CutAnswers good n q before after) e chose .0
 
-  pub chose-legs : {k : ℕ} → r ≡ Legs k → cuts.Answers good n (Legs k) before after
-  chose-legs e = subst (λ (q : Cut). cuts.Answers good n q before after) e chose
+  pub chose-legs : {k : ℕ} → r ≡ Legs k → cuts.CutAnswers good n (Legs k) before after
+  chose-legs e = subst (λ (q : Cut). cuts.CutAnswers good n q before after) e chose
 
 -- What is known of a stretch once the answer on it is known.
 module _ (m : Map) (s : Stretch) (r : Checked) (checks : Checks m s r) where

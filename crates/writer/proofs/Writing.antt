@@ -20,7 +20,7 @@ use Rattle.model.proofs.Answering.{refused-write}
 use Rattle.model.proofs.Joining.{filled}
 use Rattle.model.proofs.Skipping.{Left}
 use Rattle.point_choice.specs.declared.Cut.the-variants.{Legs}
-use Rattle.point_choice.specs.Cuts.{Marked, Route, there, leg, Best, NoRoute, Answers, legsFrom, Sound, Complete}
+use Rattle.point_choice.specs.Cuts.{GoodIn, Route, there, leg, Best, NoRoute, CutAnswers, cutLegs, Sound, Complete}
 use Rattle.reference_bytes.specs.Put.{CutInto, Inside, Puts}
 use Rattle.leg_tests.specs.LegTests.{AllTested}
 use Rattle.point_choice.proofs.Routes.{short}
@@ -38,17 +38,17 @@ wider f there = there
 wider f (leg h g r) = leg h (f _ _ h (omega (arith, short r)) g) (wider f r)
 
 module _ {m : Map} {lines : ℕ} {ls table₀ table w v : List ℕ} (joint : Connected m ls) (all : AllTested m lines ls table₀ table w v) where
-  sound : Sound (good m) ls (Marked table)
+  sound : Sound (good m) ls (GoodIn table)
   sound i j h l one = mark-sound _ (all .tested i j h l) one
 
-  complete : Complete (good m) ls (Marked table)
+  complete : Complete (good m) ls (GoodIn table)
   complete i j h l g = mark-complete _ (all .tested i j h l) g
 
-  pub takes : {cs : List ℕ} → Best (Marked table) (length ls) 0 cs → Chosen (good m) ls (legsFrom ls 0 cs)
+  pub takes : {cs : List ℕ} → Best (GoodIn table) (length ls) 0 cs → Chosen (good m) ls (cutLegs ls 0 cs)
   takes b = chosen (good m) ls (good-filled m) sound complete (filled joint) b
 
   -- The table of cuts that the choice leaves.
-  pub cut-into : {k : ℕ} (before : List ℕ) {after : List ℕ} → length ls ≤ 64 → (a : Answers (Marked table) (length ls) (Legs k) before after) →
+  pub cut-into : {k : ℕ} (before : List ℕ) {after : List ℕ} → length ls ≤ 64 → (a : CutAnswers (GoodIn table) (length ls) (Legs k) before after) →
       CutInto m ls after k (a .0)
   cut-into {k} before few (cs, b, count, e) =
       record {
@@ -61,16 +61,16 @@ module _ {m : Map} {lines : ℕ} {ls table₀ table w v : List ℕ} (joint : Con
       }
 
   module _ (pos neg : ℕ) (before : List ℕ) where
-    pub none-written : NoRoute (Marked table) (length ls) 0 → WriteAnswered (WriteOn m (stretchOf ls pos neg) (length before)) before before (Refused NoChoice)
+    pub none-written : NoRoute (GoodIn table) (length ls) 0 → WriteAnswered (WriteOn m (stretchOf ls pos neg) (length before)) before before (Refused NoChoice)
     unfolding refusalOf
     none-written none = refused-write NoChoice (no-choice (Choosing.no-choice (good m) ls (good-filled m) complete none))
 
-    pub put-written : {cs after : List ℕ} → Best (Marked table) (length ls) 0 cs → (a : WriteAnswer) →
-        Puts (stretchBytes m (legsFrom ls 0 cs) (stretchOf ls pos neg)) before after a →
+    pub put-written : {cs after : List ℕ} → Best (GoodIn table) (length ls) 0 cs → (a : WriteAnswer) →
+        Puts (stretchBytes m (cutLegs ls 0 cs) (stretchOf ls pos neg)) before after a →
         WriteAnswered (WriteOn m (stretchOf ls pos neg) (length before)) before after a
     unfolding bytesAfter refusalOf
     put-written {cs} b (Written n) (size, room, e) =
-        let bs = stretchBytes m (legsFrom ls 0 cs) (stretchOf ls pos neg) in
+        let bs = stretchBytes m (cutLegs ls 0 cs) (stretchOf ls pos neg) in
         record {
           outcome = written bs;
           asked = accepted (takes b) (omega (arith, size, room));

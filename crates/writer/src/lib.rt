@@ -39,7 +39,8 @@ fn on_part(
     requires { ⌜ length (now part) ≤ 64 ⌝ }
     requires { ⌜ ((m : Map) × Set m lines (now work) × Connected m (now part) × Inside m (stretchOf (now part) pos neg)) ⌝ }
     ensures { λ r. ⌜ ((m : Map) → Set m lines (now (work .entry)) → Connected m (now (part .entry)) → Inside m (stretchOf (now (part .entry)) pos neg)
-        → WriteAnswered (WriteOn m (stretchOf (now (part .entry)) pos neg) (length (now (bytes .entry)))) (now (bytes .entry)) (now (bytes .exit)) r) ⌝ }
+        → WriteAnswered (WriteOn m (stretchOf (now (part .entry)) pos neg) (length (now (bytes .entry))))
+        (now (bytes .entry)) (now (bytes .exit)) r) ⌝ }
 {
     let mut table: [u8; LEG_TESTS] = [0; LEG_TESTS];
     test_legs(work, lines, part, &mut table);
@@ -61,7 +62,8 @@ fn on_map(
 ) -> WriteAnswer
     requires { ⌜ ((m : Map) × Set m lines (now work)) ⌝ }
     ensures { λ r. ⌜ ((m : Map) → Set m lines (now (work .entry))
-        → WriteAnswered (WriteStretch m (checkStretch m (stretchOf (now (stretch .entry)) pos neg)) (length (now (bytes .entry)))) (now (bytes .entry)) (now (bytes .exit)) r) ⌝ }
+        → WriteAnswered (WriteStretch m (checkStretch m (stretchOf (now (stretch .entry)) pos neg)) (length (now (bytes .entry))))
+        (now (bytes .entry)) (now (bytes .exit)) r) ⌝ }
 {
     match check(work, lines, stretch, pos, neg) {
         Checked::Remains(left) => {
@@ -83,7 +85,8 @@ fn on_area(
     bytes: &mut [u8],
 ) -> WriteAnswer
     requires { ⌜ workLength ≤ length (now work) ⌝ }
-    ensures { λ r. ⌜ WriteAnswered (WriteMap (decode (now (map .entry))) (stretchOf (now (stretch .entry)) pos neg) (length (now (bytes .entry)))) (now (bytes .entry)) (now (bytes .exit)) r ⌝ }
+    ensures { λ r. ⌜ WriteAnswered (WriteMap (decode (now (map .entry))) (stretchOf (now (stretch .entry)) pos neg) (length (now (bytes .entry))))
+        (now (bytes .entry)) (now (bytes .exit)) r ⌝ }
 {
     match open_map(map, work) {
         Opened::Ready(_, lines) => on_map(work, lines, stretch, pos, neg, bytes),
@@ -101,7 +104,8 @@ pub fn write(
     work: &mut [u32],
     bytes: &mut [u8],
 ) -> WriteAnswer
-    ensures { λ r. ⌜ WriteCall (now (map .entry)) (stretchOf (now (stretch .entry)) pos neg) (now (work .entry)) (now (bytes .entry)) r (now (work .exit)) (now (bytes .exit)) ⌝ }
+    ensures { λ r. ⌜ WriteCall (now (map .entry)) (stretchOf (now (stretch .entry)) pos neg) (now (work .entry)) (now (bytes .entry)) r
+        (now (work .exit)) (now (bytes .exit)) ⌝ }
 {
     if work.len() < WORK_LENGTH {
         return WriteAnswer::Refused(Refusal::WorkAreaShort);

@@ -40,8 +40,8 @@ returns c =
     let met = sym (c .before .met-before .ensures) ∙ c .if1 .taken in
     record { found = sym (clash-true _ _ (l .j) (omega arith) (sym (among-same (l .inv .1) _ (omega arith)) ∙ met)); kept = l .inv .1 }
 
-link-requires : tie.Need-link-requires Inv-loop μ-loop
-link-requires c κs = let v = c .before .before .before .before .before .loop .inv in (omega (arith, v .1 .same), omega arith, v .2)
+add-to-bucket-requires : tie.Need-add-to-bucket-requires Inv-loop μ-loop
+add-to-bucket-requires c κs = let v = c .before .before .before .before .before .loop .inv in (omega (arith, v .1 .same), omega arith, v .2)
 
 add-j : tie.Need-add-j Inv-loop μ-loop
 add-j c = search needs
@@ -53,7 +53,7 @@ loop-again : tie.Need-loop-again Inv-loop μ-loop
 loop-again c =
     let test = c .before .before .before .before in
     let v = test .before .before .before .before .loop .inv in
-    let k = c .before .before .link .ensures in
+    let k = c .before .before .add-to-bucket .ensures in
     let not-met = sym (test .before .met-before .ensures) ∙ test .if1 .left in (
       omega arith,
       kept-then (v .1) (k .kept),
@@ -79,7 +79,7 @@ some-met-spec =
     met-before-requires
     same-length
     returns
-    link-requires
+    add-to-bucket-requires
     add-j
     loop-less
     loop-again

@@ -6,7 +6,7 @@ use Rattle.model.specs.Map.{Map}
 use Rattle.buffers.specs.Kept.{Kept}
 use Rattle.buffers.proofs.Kept.{kept-none, kept-then, kept-set}
 use Rattle.search.specs.Area.{Set}
-use Rattle.leg_tests.specs.LegTests.{mark, Trial, Alike, Within, Measured}
+use Rattle.leg_tests.specs.LegTests.{mark, Trial, SameAttributes, ShortLegs, Measured}
 use Rattle.leg_tests.proofs.Rows.{Sifting, sifting-start, measured-on, sifting-on, sifting-end, later-set}
 use borrow.Author.Needs.{needs}
 use native.Mathlib.Omega.{arith}
@@ -17,7 +17,7 @@ abbrev Inv-loop : tie.InvT-loop
 Inv-loop work₀ lines stretch i first row table₀ end class₀ len₀ searched₀ limit₀ j₀ work table class len searched limit j =
     (i ≤ j) × (j ≤ row .end) × (length work ≡ length work₀) × (length table ≡ length table₀) × (len ≤ j * 4294967295) ×
     Kept (65 * i) (65 * i + 65) table₀ table × ((k : ℕ) → j < k → mark table i k ≡ mark table₀ i k) ×
-    ((m : Map) → Set m lines work₀ → Trial m lines stretch i first → Alike m stretch i first → Within m stretch i (row .end) table₀ →
+    ((m : Map) → Set m lines work₀ → Trial m lines stretch i first → SameAttributes m stretch i first → ShortLegs m stretch i (row .end) table₀ →
     Sifting m lines stretch i first table₀ table work₀ work class len searched limit j)
 
 abbrev μ-loop : tie.MeasureT-loop
@@ -28,7 +28,7 @@ next-leg : (c : tie.After-wide Inv-loop μ-loop) →
     let a = c .before .before .before .before .before .before .before .before .before .before .before .args in
     let l = c .before .before .before .before .before .before .before .loop in
     (m : Map) → Set m (a .lines) (a .work .now) → Trial m (a .lines) (a .stretch .now) (a .i) (a .first) →
-    Alike m (a .stretch .now) (a .i) (a .first) → Within m (a .stretch .now) (a .i) (a .row .end) (a .table .now) →
+    SameAttributes m (a .stretch .now) (a .i) (a .first) → ShortLegs m (a .stretch .now) (a .i) (a .row .end) (a .table .now) →
     Measured m (a .stretch .now) (a .i) (l .j + 1) (c .before .before .before .greater .result) (l .len + c .wide .result)
 next-leg c m set t alike within =
     let l = c .before .before .before .before .before .before .before .loop in

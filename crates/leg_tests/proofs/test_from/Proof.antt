@@ -1,4 +1,4 @@
--- `test_from` meets its contract: after the own first line, those along the chain are tested one after another.
+-- `test_from` meets its contract: after the own first line, those of the adjacency list are tested one after another.
 use Prim.Native.Nat.{ℕ, _-_}
 use mathlib.Core.Path.{_≡_, refl, _∙_, ap}
 use lib.ListN.{length, getD}

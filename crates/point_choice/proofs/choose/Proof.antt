@@ -6,14 +6,14 @@ use mathlib.Core.List.{List, _∷_}
 use native.Mathlib.Omega.{arith}
 use borrow.Author.Needs.{needs}
 use lib.ListN.{length, length-set}
-use Rattle.point_choice.specs.Cuts.{Marked, Best}
+use Rattle.point_choice.specs.Cuts.{GoodIn, Best}
 use Rattle.point_choice.proofs.Routes.{told-none, told-some}
 use Rattle.point_choice.proofs.choose.Proof.Walk.{Walked, set-off, next, between, walked, come-home}
 use Rattle.point_choice.proofs.choose.Statement.{statement}
 use Rattle.point_choice.proofs.choose.Tie as tie
 
 abbrev Inv-loop : tie.InvT-loop
-Inv-loop good n cuts₀ best i₀ k₀ cuts i k = (i ≤ n) × (length cuts ≡ length cuts₀) × (n < length cuts₀) × Walked (Marked good) n cuts₀ cuts i k
+Inv-loop good n cuts₀ best i₀ k₀ cuts i k = (i ≤ n) × (length cuts ≡ length cuts₀) × (n < length cuts₀) × Walked (GoodIn good) n cuts₀ cuts i k
 
 abbrev μ-loop : tie.MeasureT-loop
 μ-loop good n cuts₀ best i₀ k₀ cuts i k = n - i
@@ -45,7 +45,7 @@ first-cut-requires c κs = (omega arith, λ k h m. c .before .before .before .be
 -- There is a route from `i`, so a first cut was found.
 step : (c : tie.After-first-cut Inv-loop μ-loop) →
     let start = c .before .before .before .before .before .before .before .before .args in
-    (cs : List ℕ) × Best (Marked (start .good .now)) (start .n) (c .before .before .before .loop .i) (c .first-cut .result .to ∷ cs)
+    (cs : List ℕ) × Best (GoodIn (start .good .now)) (start .n) (c .before .before .before .loop .i) (c .first-cut .result .to ∷ cs)
 step c = next (c .first-cut .ensures) (c .before .before .before .loop .inv .3)
 
 add-k : tie.Need-add-k Inv-loop μ-loop

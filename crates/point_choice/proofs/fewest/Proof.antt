@@ -8,7 +8,7 @@ use mathlib.Core.Logic.{inl, inr, ⊎-elim}
 use mathlib.Core.List.{List, [], _∷_}
 use lib.ListN.{length, set, length-set, replicate}
 use lib.Seq.{getD-set-same, getD-set-other}
-use Rattle.point_choice.specs.Cuts.{Marked, Fewest, FirstCut, Tells}
+use Rattle.point_choice.specs.Cuts.{GoodIn, Fewest, FirstCut, TellsFewest}
 use Rattle.point_choice.proofs.Routes.{arrived}
 use Rattle.point_choice.proofs.fewest.Statement.{statement}
 use Rattle.point_choice.proofs.fewest.Tie as tie
@@ -18,14 +18,14 @@ counted {to = to} (inl (cs, b, e)) = inl (to ∷ cs, b, e)
 counted (inr w) = inr w
 
 -- One more position is told.
-tells-more : {good : ℕ → ℕ → Type 0} {n : ℕ} (best : List ℕ) {i legs : ℕ} → i < length best → Fewest good n i legs → Tells good n best (i + 1) →
-    Tells good n (set best i legs) i
+tells-more : {good : ℕ → ℕ → Type 0} {n : ℕ} (best : List ℕ) {i legs : ℕ} → i < length best → Fewest good n i legs → TellsFewest good n best (i + 1) →
+    TellsFewest good n (set best i legs) i
 tells-more best {i} {legs} l f tells k h m =
     ⊎-elim (λ e. rw (← e, getD-set-same best i legs 0) f) (λ lt. rw (getD-set-other best i k legs 0 (omega arith)) (tells k (omega arith) m))
     (eq-or-lt-of-le h)
 
 abbrev Inv-loop : tie.InvT-loop
-Inv-loop good n best₀ i₀ best i = (i ≤ n) × (length best ≡ 65) × Tells (Marked good) n best i
+Inv-loop good n best₀ i₀ best i = (i ≤ n) × (length best ≡ 65) × TellsFewest (GoodIn good) n best i
 
 abbrev μ-loop : tie.MeasureT-loop
 μ-loop good n best₀ i₀ best i = i

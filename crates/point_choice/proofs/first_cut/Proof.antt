@@ -3,13 +3,13 @@ mod Scan
 use Prim.Native.Nat.{_≤_, _-_}
 use mathlib.Core.Path.{_≡_}
 use native.Mathlib.Omega.{arith}
-use Rattle.point_choice.specs.Cuts.{Marked}
+use Rattle.point_choice.specs.Cuts.{GoodIn}
 use Rattle.point_choice.proofs.first_cut.Proof.Scan.{Scanned, begun, kept, taken, scanned}
 use Rattle.point_choice.proofs.first_cut.Statement.{statement}
 use Rattle.point_choice.proofs.first_cut.Tie as tie
 
 abbrev Inv-loop : tie.InvT-loop
-Inv-loop good n best i to₀ least₀ j₀ to least j = (i ≤ j) × (j ≤ n) × Scanned (Marked good) best i j to least
+Inv-loop good n best i to₀ least₀ j₀ to least j = (i ≤ j) × (j ≤ n) × Scanned (GoodIn good) best i j to least
 
 abbrev μ-loop : tie.MeasureT-loop
 μ-loop good n best i to₀ least₀ j₀ to least j = n - j

@@ -7,7 +7,7 @@ use Rattle.model.specs.Map.{Map}
 use Rattle.model.specs.Reference.{pointBytes}
 use Rattle.model.specs.Choice.{pointsOf}
 use Rattle.work_area.specs.Area.{Held}
-use Rattle.point_choice.specs.Cuts.{legsFrom}
+use Rattle.point_choice.specs.Cuts.{cutLegs}
 use Rattle.buffers.specs.Placed.{putAt}
 use Rattle.reference_bytes.specs.Put.{CutInto}
 use Rattle.buffers.proofs.Placing.{put-none}
@@ -21,7 +21,7 @@ abbrev Inv-loop : tie.InvT-loop
 Inv-loop work lines stretch cuts legs bytes₀ t₀ bytes t =
     (t ≤ legs) × (length bytes ≡ length bytes₀) ×
     ((m : Map) → (cs : List ℕ) → Held work lines m → CutInto m stretch cuts legs cs →
-    bytes ≡ putAt 7 (pointBytes (pointsOf m (legsFrom stretch 0 (take t cs))) []) bytes₀)
+    bytes ≡ putAt 7 (pointBytes (pointsOf m (cutLegs stretch 0 (take t cs))) []) bytes₀)
 
 abbrev μ-loop : tie.MeasureT-loop
 μ-loop work lines stretch cuts legs bytes₀ t₀ bytes t = legs - t

@@ -5,8 +5,8 @@ use borrow.Author.Needs.{needs}
 use Rattle.search.proofs.begin.Statement.{statement}
 use Rattle.search.proofs.begin.Tie as tie
 
-forget-requires : tie.Need-forget-requires
-forget-requires c κs = search needs
+reset-requires : tie.Need-reset-requires
+reset-requires c κs = search needs
 
 field-requires : tie.Need-field-requires
 field-requires c κs = search needs
@@ -19,7 +19,7 @@ returns c =
     λ m h ch.
     let p = c .before .before .before .before .before .before .before .before .pre in
     let e = c .before .field .ensures in
-    begun-shut h (p .3) (p .4) (c .before .before .before .before .before .forget .ensures m h ch) (let t = c .if1 .taken in omega arith)
+    begun-shut h (p .3) (p .4) (c .before .before .before .before .before .reset .ensures m h ch) (let t = c .if1 .taken in omega arith)
 
 field-requires-2 : tie.Need-field-requires-2
 field-requires-2 c κs = search needs
@@ -32,10 +32,10 @@ returns-2 c =
     λ m h ch.
     let p = c .before .before .before .before .before .before .before .before .before .before .before .pre in
     let e = c .before .field2 .ensures in
-    begun-far h (p .3) (p .4) (c .before .before .before .before .before .before .before .before .forget .ensures m h ch) (let t = c .if2 .taken in omega arith)
+    begun-far h (p .3) (p .4) (c .before .before .before .before .before .before .before .before .reset .ensures m h ch) (let t = c .if2 .taken in omega arith)
 
-bring-down-requires : tie.Need-bring-down-requires
-bring-down-requires c κs = search needs
+lower-requires : tie.Need-lower-requires
+lower-requires c κs = search needs
 
 same-length-3 : tie.Need-same-length-3
 same-length-3 c = search needs
@@ -45,19 +45,19 @@ returns-3 c =
     λ m h ch.
     let p = c .before .before .before .before .before .before .before .before .before .before .before .before .before .before .before .pre in
     let e = c .before .before .before .before .before .before .before .before .field .ensures in
-    begun h (p .3) (p .4) (c .before .before .before .before .before .before .before .before .before .before .before .before .forget .ensures m h ch) (let t = c .before .before .before .before .before .before .before .if1 .left in omega arith) (c .before .before .before .before .before .field2 .ensures) (c .before .before .before .before .if2 .left) (c .before .before .bring-down .ensures)
+    begun h (p .3) (p .4) (c .before .before .before .before .before .before .before .before .before .before .before .before .reset .ensures m h ch) (let t = c .before .before .before .before .before .before .before .if1 .left in omega arith) (c .before .before .before .before .before .field2 .ensures) (c .before .before .before .before .if2 .left) (c .before .before .lower .ensures)
 
 pub begin-spec : {M : Type 1} → statement M
 begin-spec =
     tie.close
     (tie.spec
-    forget-requires
+    reset-requires
     field-requires
     same-length
     returns
     field-requires-2
     same-length-2
     returns-2
-    bring-down-requires
+    lower-requires
     same-length-3
     returns-3)

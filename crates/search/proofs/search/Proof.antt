@@ -1,4 +1,4 @@
--- `search` meets its contract: it goes on until no line waits, and each turn makes the lengths or the lines that wait less.
+-- `search` meets its contract: it goes on until no line is pending; with each turn the sum of twice the lengths and 1 for each pending line falls.
 use mathlib.Core.Path.{_∙_}
 use Rattle.search.specs.Steps.{Task, task, Underway, weight, Stepped, Sought, Based}
 use Rattle.buffers.proofs.Kept.{kept-then}
@@ -39,8 +39,8 @@ loop-holds c =
 relax-from-requires : tie.Need-relax-from-requires Inv-loop μ-loop
 relax-from-requires c κs = (c .before .loop-test .taken, state (c .before))
 
-first-waiting-requires : tie.Need-first-waiting-requires Inv-loop μ-loop
-first-waiting-requires c κs =
+first-pending-requires : tie.Need-first-pending-requires Inv-loop μ-loop
+first-pending-requires c κs =
     let s = state (c .before .before .before .before .before) in
     let g = c .before .before .before .relax-from .ensures (s .0) (s .1) .step .underway in
     (few (g .held), g .held .full, g .listing)
@@ -52,7 +52,7 @@ loop-less c =
 
 loop-again : tie.Need-loop-again Inv-loop μ-loop
 loop-again c = (
-  c .first-waiting .ensures,
+  c .first-pending .ensures,
   λ q g.
       let s = c .before .before .before .before .before .before .before .loop .inv .1 q g in
       stepped-then s (c .before .before .before .before .relax-from .ensures q (s .underway) .step),
@@ -95,7 +95,7 @@ search-spec =
     begin-requires
     loop-holds
     relax-from-requires
-    first-waiting-requires
+    first-pending-requires
     loop-less
     loop-again
     same-length

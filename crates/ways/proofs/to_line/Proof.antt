@@ -1,4 +1,4 @@
--- `to_line` meets its contract: the walk back from the last line, by the line before each.
+-- `to_line` meets its contract: the walk back from the last line, by the predecessor of each.
 use Rattle.model.specs.Map.{greatestLineCount, Map}
 use Rattle.search.specs.Area.{far, Searched, lengthTo}
 use Rattle.ways.proofs.Back.{Walked, walked-start, before-some, walked-less, walked-step, walked-two, walked-one, walked-few}

@@ -39,8 +39,8 @@ mul-out c = search needs
 slice-write-out : tie.Need-slice-write-out Inv-loop μ-loop
 slice-write-out c = search needs
 
-line-before-requires : tie.Need-line-before-requires Inv-loop μ-loop
-line-before-requires c κs = let p = c .before .before .before .before .pre in let k = number c in (k, p .2 .full)
+predecessor-of-requires : tie.Need-predecessor-of-requires Inv-loop μ-loop
+predecessor-of-requires c κs = let p = c .before .before .before .before .pre in let k = number c in (k, p .2 .full)
 
 loop-less : tie.Need-loop-less Inv-loop μ-loop
 loop-less c = search needs
@@ -52,8 +52,8 @@ loop-again c =
     let pos : 0 < c .before .before .loop .left = omega arith in (
       simp length-set (omega arith),
       simp length-set (i .1),
-      rw (c .line-before .ensures) (numbers-last (c .before .before .before .before .before .args .work .now) (c .before .before .loop .at) (c .before .before .loop .left) pos (i .2) .0),
-      rw (c .line-before .ensures) (write-step (c .before .before .before .before .before .args .work .now) _ (c .before .before .loop .out) (c .before .before .loop .at) (c .before .before .loop .left) pos (i .0) (i .3)),
+      rw (c .predecessor-of .ensures) (numbers-last (c .before .before .before .before .before .args .work .now) (c .before .before .loop .at) (c .before .before .loop .left) pos (i .2) .0),
+      rw (c .predecessor-of .ensures) (write-step (c .before .before .before .before .before .args .work .now) _ (c .before .before .loop .out) (c .before .before .loop .at) (c .before .before .loop .left) pos (i .0) (i .3)),
     )
 
 same-length : tie.Need-same-length Inv-loop μ-loop
@@ -75,7 +75,7 @@ write-lines-spec =
     cast-out
     mul-out
     slice-write-out
-    line-before-requires
+    predecessor-of-requires
     loop-less
     loop-again
     same-length

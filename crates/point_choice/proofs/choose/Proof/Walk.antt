@@ -8,7 +8,7 @@ use native.Mathlib.Omega.{arith}
 use lib.ListN.{length, getD, set, drop, length-append}
 use lib.Seq.{set-at, drop-cons, append-snoc, drop-set-lt}
 use Rattle.point_choice.specs.declared.Cut.the-variants.{Legs}
-use Rattle.point_choice.specs.Cuts.{Best, FirstCut, Answers}
+use Rattle.point_choice.specs.Cuts.{Best, FirstCut, CutAnswers}
 use Rattle.point_choice.proofs.Routes.{short, first-leg, arrived, unique, rest-best}
 
 -- `k` legs up to `i` are written, and `rest` is left of the route to take.
@@ -52,7 +52,7 @@ module _ {good : ℕ → ℕ → Type 0} {n : ℕ} where
         left = rest-best (f .1);
       }
 
-  pub come-home : (before : List ℕ) {cuts : List ℕ} {i k : ℕ} → i ≡ n → Walked good n (set before 0 0) cuts i k → Answers good n (Legs k) before cuts
+  pub come-home : (before : List ℕ) {cuts : List ℕ} {i k : ℕ} → i ≡ n → Walked good n (set before 0 0) cuts i k → CutAnswers good n (Legs k) before cuts
   come-home before {i = i} {k = k} e w =
       let end : Best good n i [] = rw e arrived in (
         w .done,

@@ -7,7 +7,7 @@ use native.Mathlib.Nat.{eq-or-lt-of-le}
 use native.Mathlib.Omega.{arith}
 use borrow.Author.Count.{below-more}
 use lib.ListN.{length, getD}
-use Rattle.point_choice.specs.Cuts.{Route, leg, Ahead, more, later, Best, NoRoute, Fewest, Tells, FirstCut}
+use Rattle.point_choice.specs.Cuts.{Route, leg, FurtherFirst, more, later, Best, NoRoute, Fewest, TellsFewest, FirstCut}
 use Rattle.point_choice.proofs.Routes.{short, by-leg, told-le}
 
 -- After the leg to `k` come more than `least` legs, or as many and it is no longer than the leg to `to`.
@@ -47,7 +47,7 @@ module _ {good : ℕ → ℕ → Type 0} {best : List ℕ} {i : ℕ} where
           ⊎-elim (λ e. inr (e, omega arith)) inl (eq-or-lt-of-le le)
 
 module _ {good : ℕ → ℕ → Type 0} {n : ℕ} {best : List ℕ} {i to least : ℕ}
-    (l : i < n) (tells : Tells good n best (i + 1)) (s : Scanned good best i n to least) where
+    (l : i < n) (tells : TellsFewest good n best (i + 1)) (s : Scanned good best i n to least) where
   -- After the first leg of any route come more legs, or at least as many and it is no longer.
   rival : (k : ℕ) (ks : List ℕ) → i < k → good i k → Route good n k ks → (least < length ks) ⊎ ((least ≤ length ks) × (k ≤ to))
   rival k ks h g r =
@@ -65,11 +65,11 @@ module _ {good : ℕ → ℕ → Type 0} {n : ℕ} {best : List ℕ} {i to least
         route = leg h g (b .route);
         fewest = λ os. by-leg (λ os. suc (length cs) ≤ length os) l
             (λ k ks f q r. ⊎-elim (λ w. omega arith) (λ w. omega arith) (rival k ks f q r));
-        furthest = λ os. by-leg (λ os. length os ≡ suc (length cs) → Ahead (to ∷ cs) os) l
+        furthest = λ os. by-leg (λ os. length os ≡ suc (length cs) → FurtherFirst (to ∷ cs) os) l
             (λ k ks f q r m. ⊎-elim (λ w. absurd (omega arith)) (λ w. ahead k ks r (omega arith) (w .1)) (rival k ks f q r));
       }
     where
-      ahead : (k : ℕ) (ks : List ℕ) → Route good n k ks → length ks ≡ length cs → k ≤ to → Ahead (to ∷ cs) (k ∷ ks)
+      ahead : (k : ℕ) (ks : List ℕ) → Route good n k ks → length ks ≡ length cs → k ≤ to → FurtherFirst (to ∷ cs) (k ∷ ks)
       ahead k ks r m w = ⊎-elim (λ e. rw e (later (b .furthest ks (rw e at r) m))) (λ lt. more lt) (eq-or-lt-of-le w)
 
   pub scanned : n ≤ 64 → FirstCut good n i to (least + 1)

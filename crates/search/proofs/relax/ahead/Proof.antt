@@ -1,4 +1,4 @@
--- `ahead` meets its contract: the line does not wait, or its end node has the chain.
+-- `ahead` meets its contract: the line is not pending, or its end node has the adjacency list.
 use Prim.Native.Nat.{ℕ}
 use mathlib.Core.Path.{_∙_, ap}
 use Rattle.search.specs.Area.{latest}

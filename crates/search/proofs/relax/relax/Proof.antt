@@ -1,4 +1,4 @@
--- `relax` meets its contract, in the order of its tests: no line that can follow, nearer already, a tie, shut to the class, past the limit, brought down.
+-- `relax` meets its contract, in the order of its tests: no line that can follow, nearer already, a tie, shut to the class, past the limit, lowered.
 use borrow.Author.Tests.{not-true, not-false}
 use Rattle.search.proofs.Reached.{count-le, room-left}
 use Rattle.work_area.proofs.Holding.{few}
@@ -47,8 +47,8 @@ returns-2 c =
     let t = c .if2 .taken in
     nearer g (p .0) (p .1) (omega arith)
 
-note-tie-requires : tie.Need-note-tie-requires
-note-tie-requires c κs = search needs
+record-tie-requires : tie.Need-record-tie-requires
+record-tie-requires c κs = search needs
 
 same-length-3 : tie.Need-same-length-3
 same-length-3 c = search needs
@@ -61,7 +61,7 @@ returns-3 c =
     let y = c .before .before .before .before .before .before .wide .ensures in
     let t = c .before .before .before .before .if3 .taken in
     let f = rw (not-false (c .before .before .before .before .before .before .before .before .before .before .before .follows .result) (c .before .before .before .before .before .before .before .before .before .before .if1 .left)) at (c .before .before .before .before .before .before .before .before .before .before .before .follows .ensures (q .map) (g .held)) in
-    tied g (p .0) (p .1) f (omega arith) (c .before .before .note-tie .ensures)
+    tied g (p .0) (p .1) f (omega arith) (c .before .before .record-tie .ensures)
 
 field-requires : tie.Need-field-requires
 field-requires c κs = search needs
@@ -99,17 +99,17 @@ returns-5 c =
     let t = c .if5 .taken in
     beyond g (p .0) (p .1) (omega (arith, other)) (omega arith)
 
-add-bring-down : tie.Need-add-bring-down
-add-bring-down c = search needs
+add-lower : tie.Need-add-lower
+add-lower c = search needs
 
-cast-bring-down : tie.Need-cast-bring-down
-cast-bring-down c = search needs
+cast-lower : tie.Need-cast-lower
+cast-lower c = search needs
 
-cast-bring-down-2 : tie.Need-cast-bring-down-2
-cast-bring-down-2 c = search needs
+cast-lower-2 : tie.Need-cast-lower-2
+cast-lower-2 c = search needs
 
-bring-down-requires : tie.Need-bring-down-requires
-bring-down-requires c κs =
+lower-requires : tie.Need-lower-requires
+lower-requires c κs =
     let p = c .before .before .before .before .before .before .before .before .before .before .before .before .before .before .before .before .pre in
     let g = p .1 .1 in
     let h = g .held in
@@ -132,7 +132,7 @@ returns-6 c =
     let ok = c .before .before .before .before .before .before .if4 .left in
     let near = c .before .before .before .before .if5 .left in
     let f = rw (not-false (c .before .before .before .before .before .before .before .before .before .before .before .before .before .before .before .before .follows .result) (c .before .before .before .before .before .before .before .before .before .before .before .before .before .before .before .if1 .left)) at (c .before .before .before .before .before .before .before .before .before .before .before .before .before .before .before .before .follows .ensures (q .map) (g .held)) in
-    brought-down g (p .0) (p .1) x f (omega arith) (omega (arith, other)) (omega arith) (c .before .before .bring-down .ensures)
+    brought-down g (p .0) (p .1) x f (omega arith) (omega (arith, other)) (omega arith) (c .before .before .lower .ensures)
 
 pub relax-spec : {M : Type 1} → statement M
 relax-spec =
@@ -148,7 +148,7 @@ relax-spec =
     wide-requires
     same-length-2
     returns-2
-    note-tie-requires
+    record-tie-requires
     same-length-3
     returns-3
     field-requires
@@ -157,9 +157,9 @@ relax-spec =
     wide-requires-2
     same-length-5
     returns-5
-    add-bring-down
-    cast-bring-down
-    cast-bring-down-2
-    bring-down-requires
+    add-lower
+    cast-lower
+    cast-lower-2
+    lower-requires
     same-length-6
     returns-6)

@@ -1,4 +1,4 @@
--- `relax_all` meets its contract: the walk along the chain of the lines that leave the end of line `l`.
+-- `relax_all` meets its contract: the walk along the adjacency list of the end of line `l`.
 use lib.ListN.{length}
 use Prim.Native.Nat.{_-_}
 use mathlib.Core.Path.{_≡_, refl, _∙_}

@@ -1,4 +1,4 @@
-// The chains of the lines that leave each node, and which line can follow which.
+// The adjacency lists: the lines that leave each node; and which line can follow which.
 use crate::cells::FAR;
 use crate::cells::LIST_WEIGHT;
 use buffers::fill;
@@ -20,7 +20,7 @@ ghost use Rattle.search.specs.Area.{Chained, latest};
 ghost use Rattle.buffers.specs.Decides.{Decides};
 ghost use Rattle.search.specs.Promises.{Linked};
 
-// Makes the chains, and has no line reached. Called once a map.
+// Makes the adjacency lists, and has no line reached. Called once a map.
 pub fn link(work: &mut [u32], lines: usize)
     requires { ⌜ ((m : Map) × Held (now work) lines m) ⌝ }
     ensures { λ _. ⌜ ((m : Map) → Held (now (work .entry)) lines m → Linked (now (work .entry)) lines m (now (work .exit))) ⌝ }
@@ -36,7 +36,7 @@ pub fn link(work: &mut [u32], lines: usize)
     }
 }
 
-// The chain of the lines that leave node `v`: 1 + its first line, or 0 where there is none.
+// The adjacency list of node `v`: 1 + its first line, or 0 where there is none.
 pub fn first_leaving(work: &[u32], lines: usize, v: usize) -> usize
     requires { ⌜ ((m : Map) × Held (now work) lines m × Chained (now work) lines m × (v < length (m .nodes))) ⌝ }
     ensures { λ r. ⌜ ((m : Map) → Held (now (work .entry)) lines m → Chained (now (work .entry)) lines m → v < length (m .nodes)
@@ -45,7 +45,7 @@ pub fn first_leaving(work: &[u32], lines: usize, v: usize) -> usize
     wide(work[HEADS + v])
 }
 
-// 1 + the line that comes in its chain after the one that `at` is 1 + of, or 0.
+// The next line of an adjacency list, plus 1, after line `at - 1`; 0 at its end.
 pub fn next_leaving(work: &[u32], lines: usize, at: usize) -> usize
     requires { ⌜ (0 < at) × (at ≤ lines) ⌝ }
     requires { ⌜ ((m : Map) × Held (now work) lines m × Chained (now work) lines m) ⌝ }

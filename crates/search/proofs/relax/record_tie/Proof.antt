@@ -1,13 +1,13 @@
--- `note_tie` meets its contract: the note changes, and whether the line waits does not.
-use Rattle.work_area.specs.Area.{beforeFrom}
+-- `record_tie` meets its contract: the note changes, and whether the line is pending does not.
+use Rattle.work_area.specs.Area.{predecessorsFrom}
 use lib.Seq.{getD-set-same}
 use Prim.Native.Nat.{_+_, _<_}
 use lib.ListN.{length}
 use Rattle.buffers.proofs.Kept.{kept-set}
 use native.Mathlib.Omega.{arith}
 use borrow.Author.Needs.{needs}
-use Rattle.search.proofs.relax.note_tie.Statement.{statement}
-use Rattle.search.proofs.relax.note_tie.Tie as tie
+use Rattle.search.proofs.relax.record_tie.Statement.{statement}
+use Rattle.search.proofs.relax.record_tie.Tie as tie
 
 add-x : tie.Need-add-x
 add-x c = search needs
@@ -22,10 +22,10 @@ note-requires : tie.Need-note-requires
 note-requires c κs = search needs
 
 mul-work : tie.Need-mul-work
-mul-work c = omega (arith, c .before .before .slice-known .given (beforeFrom + c .before .before .before .args .j))
+mul-work c = omega (arith, c .before .before .slice-known .given (predecessorsFrom + c .before .before .before .args .j))
 
 add-work : tie.Need-add-work
-add-work c = omega (arith, c .before .before .slice-known .given (beforeFrom + c .before .before .before .args .j), c .note .ensures .low)
+add-work c = omega (arith, c .before .before .slice-known .given (predecessorsFrom + c .before .before .before .args .j), c .note .ensures .low)
 
 add-work-2 : tie.Need-add-work-2
 add-work-2 c = search needs
@@ -42,16 +42,16 @@ same-length c = search needs
 returns : tie.Need-returns
 returns c =
     let a = c .before .before .before .args in
-    let fits : beforeFrom + a .j < length (a .work .now) = omega arith in
+    let fits : predecessorsFrom + a .j < length (a .work .now) = omega arith in
     record {
       note = c .note .result;
       noted = c .note .ensures;
-      here = getD-set-same (a .work .now) (beforeFrom + a .j) _ 0 fits;
+      here = getD-set-same (a .work .now) (predecessorsFrom + a .j) _ 0 fits;
       kept = kept-set _ _ (omega arith) (omega arith);
     }
 
-pub note-tie-spec : {M : Type 1} → statement M
-note-tie-spec =
+pub record-tie-spec : {M : Type 1} → statement M
+record-tie-spec =
     tie.close
     (tie.spec
     add-x

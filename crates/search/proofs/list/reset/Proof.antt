@@ -1,4 +1,4 @@
--- `forget` meets its contract: after `i` turns the first `i` places of the list are gone through.
+-- `reset` meets its contract: after `i` turns the first `i` places of the list are gone through.
 use Rattle.work_area.specs.Area.{Held}
 use Rattle.model.specs.Map.{greatestLineCount, Map}
 use Rattle.model.specs.Work.{workLength}
@@ -8,16 +8,16 @@ use Prim.Native.Nat.{ℕ, _≤_, _<_, _-_}
 use mathlib.Core.Path.{_≡_, refl}
 use Rattle.search.proofs.Reached.{count-le}
 use Rattle.work_area.proofs.Holding.{few}
-use Rattle.search.proofs.Forgetting.{Forgetting, forgetting-start, forgetting-step, listed-le, at-end, forgotten}
+use Rattle.search.proofs.Resetting.{Resetting, resetting-start, resetting-step, listed-le, at-end, reset-done}
 use native.Mathlib.Omega.{arith}
 use borrow.Author.Needs.{needs}
-use Rattle.search.proofs.list.forget.Statement.{statement}
-use Rattle.search.proofs.list.forget.Tie as tie
+use Rattle.search.proofs.list.reset.Statement.{statement}
+use Rattle.search.proofs.list.reset.Tie as tie
 
 abbrev Inv-loop : tie.InvT-loop
 Inv-loop work₀ lines i₀ work i =
     (i ≤ lines) × (length work ≡ length work₀) ×
-    ((m : Map) → Held work₀ lines m → (count : ℕ) → Listing work₀ lines count → Forgetting lines count i work₀ work)
+    ((m : Map) → Held work₀ lines m → (count : ℕ) → Listing work₀ lines count → Resetting lines count i work₀ work)
 
 abbrev μ-loop : tie.MeasureT-loop
 μ-loop work₀ lines i₀ work i = lines - i
@@ -36,7 +36,7 @@ known c =
     (omega arith, omega arith, omega (arith, listed-le h (s .1) t (l .2 (p .0) h (s .0) (s .1))), let d = c .if1 .left in omega arith)
 
 loop-holds : tie.Need-loop-holds Inv-loop μ-loop
-loop-holds c = (search needs, refl, λ m h count s. forgetting-start s)
+loop-holds c = (search needs, refl, λ m h count s. resetting-start s)
 
 line-at-requires : tie.Need-line-at-requires Inv-loop μ-loop
 line-at-requires c κs = let p = c .before .before .before .before .pre in let l = c .before .before .loop .inv in let h = p .1 in let n≤ = few h in let t = c .before .loop-test .taken in let z = l .1 in (omega arith, omega arith)
@@ -50,7 +50,7 @@ returns c =
     let k = c .before .before .before .before .loop .inv .2 m h (ch .listing .0) (ch .listing .1) in
     let e = c .before .line-at .ensures in
     let t = c .if1 .taken in
-    forgotten h ch (at-end h (ch .listing .1) (c .before .before .before .loop-test .taken) k (omega arith)) k
+    reset-done h ch (at-end h (ch .listing .1) (c .before .before .before .loop-test .taken) k (omega arith)) k
 
 sub-work : tie.Need-sub-work Inv-loop μ-loop
 sub-work c = search needs
@@ -95,7 +95,7 @@ loop-again c = (
   λ m h count s.
       let e = c .before .before .line-at .ensures in
       let t = c .before .if1 .left in
-      forgetting-step h s (c .before .before .before .before .loop-test .taken) (c .before .before .before .before .before .loop .inv .2 m h count s) _ _ (omega arith) refl,
+      resetting-step h s (c .before .before .before .before .loop-test .taken) (c .before .before .before .before .before .loop .inv .2 m h count s) _ _ (omega arith) refl,
 )
 
 same-length-2 : tie.Need-same-length-2 Inv-loop μ-loop
@@ -106,10 +106,10 @@ returns-2 c =
     λ m h ch.
     let t = c .loop-test .left in
     let l = c .before .loop .inv .0 in
-    forgotten h ch (omega (arith, count-le (ch .listing .1))) (c .before .loop .inv .2 m h (ch .listing .0) (ch .listing .1))
+    reset-done h ch (omega (arith, count-le (ch .listing .1))) (c .before .loop .inv .2 m h (ch .listing .0) (ch .listing .1))
 
-pub forget-spec : {M : Type 1} → statement M
-forget-spec =
+pub reset-spec : {M : Type 1} → statement M
+reset-spec =
     tie.close
     (tie.spec
     Inv-loop

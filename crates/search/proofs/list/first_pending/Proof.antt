@@ -1,15 +1,15 @@
--- `first_waiting` meets its contract: none waits up to the place that is looked at.
-use Rattle.search.specs.Area.{pending, listed, lineBefore}
+-- `first_pending` meets its contract: none is pending up to the place that is looked at.
+use Rattle.search.specs.Area.{pendingWeight, listed, predecessor}
 use Prim.Native.Nat.{ℕ, _<_, _-_}
 use Rattle.search.proofs.Reached.{count-le}
 use borrow.Author.Count.{below-more}
 use native.Mathlib.Omega.{arith}
 use borrow.Author.Needs.{needs}
-use Rattle.search.proofs.list.first_waiting.Statement.{statement}
-use Rattle.search.proofs.list.first_waiting.Tie as tie
+use Rattle.search.proofs.list.first_pending.Statement.{statement}
+use Rattle.search.proofs.list.first_pending.Tie as tie
 
 abbrev Inv-loop : tie.InvT-loop
-Inv-loop work lines count i₀ i = (k : ℕ) → k < i → lineBefore work (listed work k - 1) < pending
+Inv-loop work lines count i₀ i = (k : ℕ) → k < i → predecessor work (listed work k - 1) < pendingWeight
 
 abbrev μ-loop : tie.MeasureT-loop
 μ-loop work lines count i₀ i = count - i
@@ -54,8 +54,8 @@ returns-2 c =
     let t = c .loop-test .left in
     record { waits = λ z. absurd (omega arith); none = λ z k k<. c .before .loop .inv k (omega arith) }
 
-pub first-waiting-spec : {M : Type 1} → statement M
-first-waiting-spec =
+pub first-pending-spec : {M : Type 1} → statement M
+first-pending-spec =
     tie.close
     (tie.spec
     Inv-loop

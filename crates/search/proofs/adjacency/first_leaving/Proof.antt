@@ -1,8 +1,8 @@
 -- `first_leaving` meets its contract: the cell of the node.
 use mathlib.Core.Path.{_∙_}
 use borrow.Author.Needs.{needs}
-use Rattle.search.proofs.chains.first_leaving.Statement.{statement}
-use Rattle.search.proofs.chains.first_leaving.Tie as tie
+use Rattle.search.proofs.adjacency.first_leaving.Statement.{statement}
+use Rattle.search.proofs.adjacency.first_leaving.Tie as tie
 
 add-wide : tie.Need-add-wide
 add-wide c = search needs

@@ -4,8 +4,8 @@ use denote.Ref.{now}
 use Rattle.equal_codes.proofs.Chains.{linked-kept, chains-more}
 use native.Mathlib.Omega.{arith}
 use borrow.Author.Needs.{needs}
-use Rattle.equal_codes.proofs.link.Statement.{statement}
-use Rattle.equal_codes.proofs.link.Tie as tie
+use Rattle.equal_codes.proofs.add_to_bucket.Statement.{statement}
+use Rattle.equal_codes.proofs.add_to_bucket.Tie as tie
 
 bucket-requires : tie.Need-bucket-requires
 bucket-requires c κs = search needs
@@ -57,8 +57,8 @@ returns c =
       kept = linked-kept w j h (omega arith) (omega arith) (omega arith);
     }
 
-pub link-spec : {M : Type 1} → statement M
-link-spec =
+pub add-to-bucket-spec : {M : Type 1} → statement M
+add-to-bucket-spec =
     tie.close
     (tie.spec
     bucket-requires

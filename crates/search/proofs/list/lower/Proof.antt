@@ -1,11 +1,11 @@
--- `bring_down` meets its contract: two stores, and a third where the line is new on the list.
+-- `lower` meets its contract: two stores, and a third where the line is new on the list.
 use lib.ListN.{length-set}
 use Rattle.search.proofs.Lowering.{lowered-known, lowered-new}
 use mathlib.Core.Path.{refl}
 use native.Mathlib.Omega.{arith}
 use borrow.Author.Needs.{needs}
-use Rattle.search.proofs.list.bring_down.Statement.{statement}
-use Rattle.search.proofs.list.bring_down.Tie as tie
+use Rattle.search.proofs.list.lower.Statement.{statement}
+use Rattle.search.proofs.list.lower.Tie as tie
 
 add-found : tie.Need-add-found
 add-found c = search needs
@@ -82,8 +82,8 @@ same-length-2 c = search needs
 returns-2 : tie.Need-returns-2
 returns-2 c = let p = c .before .before .before .pre in lowered-new _ _ _ _ (p .0 .0) (p .0 .2) _ _ (p .1 (c .before .if1 .left)) (c .before .if1 .left) refl
 
-pub bring-down-spec : {M : Type 1} → statement M
-bring-down-spec =
+pub lower-spec : {M : Type 1} → statement M
+lower-spec =
     tie.close
     (tie.spec
     add-found

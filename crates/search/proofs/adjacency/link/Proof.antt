@@ -1,4 +1,4 @@
--- `link` meets its contract: after `i` turns the chains of the lines below `i` are made.
+-- `link` meets its contract: after `i` turns the adjacency lists of the lines below `i` are made.
 use Rattle.work_area.specs.Area.{linePlace, startNode, Held}
 use Rattle.model.specs.Map.{greatestLineCount, greatestNodeCount, Map}
 use Rattle.model.specs.Work.{workLength}
@@ -10,8 +10,8 @@ use Prim.Native.Nat.{ℕ, _+_, _≤_, _<_, _-_}
 use mathlib.Core.Path.{_≡_, refl, _∙_}
 use native.Mathlib.Omega.{arith}
 use borrow.Author.Needs.{needs}
-use Rattle.search.proofs.chains.link.Statement.{statement}
-use Rattle.search.proofs.chains.link.Tie as tie
+use Rattle.search.proofs.adjacency.link.Statement.{statement}
+use Rattle.search.proofs.adjacency.link.Tie as tie
 
 abbrev Inv-loop : tie.InvT-loop
 Inv-loop work₀ lines i₀ work i =

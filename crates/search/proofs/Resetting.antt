@@ -1,4 +1,4 @@
--- How the list is gone through to forget what a search found.
+-- How the list is gone through to reset what a search found.
 use Rattle.work_area.specs.Area.{searchFrom, lengthsFrom, headsFrom, nextFrom, nearestFrom, Held}
 use Rattle.model.specs.Map.{greatestNodeCount, Map}
 use Rattle.search.specs.Area.{far, listWeight, Chained, Listing, lengthTo, firstLeaving, nextLeaving, listed}
@@ -11,7 +11,7 @@ use native.Mathlib.Omega.{arith}
 use lib.ListN.{getD, set, length-set}
 use lib.Seq.{getD-set-other}
 use Rattle.buffers.specs.Kept.{Kept}
-use Rattle.search.specs.Steps.{Forgotten}
+use Rattle.search.specs.Steps.{Reset}
 use Rattle.buffers.proofs.Kept.{kept-none, kept-then, at-set, kept-set}
 use Rattle.search.proofs.Reached.{listing-none}
 use Rattle.search.proofs.Places.{place-le, past}
@@ -19,7 +19,7 @@ use Rattle.buffers.proofs.Cases.{le-or-lt}
 use Rattle.work_area.proofs.Holding.{few}
 
 -- The first `i` places are gone through. A line that is still reached is at one of the others.
-pub record Forgetting (n count i : ℕ) (u w : List ℕ) : Type 0 where
+pub record Resetting (n count i : ℕ) (u w : List ℕ) : Type 0 where
   pub heads : (a : ℕ) → a < greatestNodeCount → firstLeaving w a ≡ firstLeaving u a
   pub nexts : (k : ℕ) → k < n → nextLeaving w k ≡ nextLeaving u k
   pub gone : (k : ℕ) → k < i → listed w k ≡ 0
@@ -27,8 +27,8 @@ pub record Forgetting (n count i : ℕ) (u w : List ℕ) : Type 0 where
   pub every : (l : ℕ) → l < n → lengthTo w l < far → (k : ℕ) × (i ≤ k) × (k < count) × (listed u k ≡ l + 1)
   pub kept : Kept searchFrom nearestFrom u w
 
-pub forgetting-start : {n count : ℕ} {u : List ℕ} → Listing u n count → Forgetting n count 0 u u
-forgetting-start s =
+pub resetting-start : {n count : ℕ} {u : List ℕ} → Listing u n count → Resetting n count 0 u u
+resetting-start s =
     record {
       heads = λ a a<. refl;
       nexts = λ k k<. refl;
@@ -38,7 +38,7 @@ forgetting-start s =
       kept = kept-none;
     }
 
-module _ {n count i : ℕ} {u w : List ℕ} {m : Map} (h : Held u n m) (s : Listing u n count) (i< : i < n) (k : Forgetting n count i u w) where
+module _ {n count i : ℕ} {u w : List ℕ} {m : Map} (h : Held u n m) (s : Listing u n count) (i< : i < n) (k : Resetting n count i u w) where
   -- What stands at place `i`.
   pub listed-le : listed w i ≤ n
   listed-le = omega (arith, k .left i (omega arith) i<, place-le s i<)
@@ -46,9 +46,9 @@ module _ {n count i : ℕ} {u w : List ℕ} {m : Map} (h : Held u n m) (s : List
   pub at-end : listed w i ≡ 0 → count ≤ i
   at-end e = past s i< (sym (k .left i (omega arith) i<) ∙ e)
 
-  pub forgetting-step : (l y : ℕ) → l + 1 ≡ listed w i → y ≡ getD (set w (lengthsFrom + l) far) (nextFrom + i) 0 % listWeight →
-      Forgetting n count (i + 1) u (set (set w (lengthsFrom + l) far) (nextFrom + i) y)
-  forgetting-step l y e z =
+  pub resetting-step : (l y : ℕ) → l + 1 ≡ listed w i → y ≡ getD (set w (lengthsFrom + l) far) (nextFrom + i) 0 % listWeight →
+      Resetting n count (i + 1) u (set (set w (lengthsFrom + l) far) (nextFrom + i) y)
+  resetting-step l y e z =
       let n≤ = few h in
       let o = k .kept .same in
       let w₁ = set w (lengthsFrom + l) far in
@@ -86,9 +86,9 @@ module _ {n count i : ℕ} {u w : List ℕ} {m : Map} (h : Held u n m) (s : List
           (λ a d a< f. let b = k .every a a< f in (b .0, later a (b .0) d (b .1) (b .3), b .2, b .3))
 
 -- The list is gone through, by its end or by its length.
-pub forgotten : {n i : ℕ} {u w : List ℕ} {m : Map} → Held u n m → (ch : Chained u n m) → ch .listing .0 ≤ i →
-    Forgetting n (ch .listing .0) i u w → Forgotten m n u w
-forgotten {n} {i} {u} {w} h ch c k =
+pub reset-done : {n i : ℕ} {u w : List ℕ} {m : Map} → Held u n m → (ch : Chained u n m) → ch .listing .0 ≤ i →
+    Resetting n (ch .listing .0) i u w → Reset m n u w
+reset-done {n} {i} {u} {w} h ch c k =
     let n≤ = few h in
     let f = h .formed in
     let all : (l : ℕ) → l < n → far ≤ lengthTo w l =

@@ -2,8 +2,8 @@
 use Rattle.search.proofs.Follows.{apart, follow}
 use mathlib.Core.Path.{sym, _∙_}
 use borrow.Author.Needs.{needs}
-use Rattle.search.proofs.chains.follows.Statement.{statement}
-use Rattle.search.proofs.chains.follows.Tie as tie
+use Rattle.search.proofs.adjacency.follows.Statement.{statement}
+use Rattle.search.proofs.adjacency.follows.Tie as tie
 
 field-requires : tie.Need-field-requires
 field-requires c κs = search needs

@@ -2,8 +2,8 @@
 use mathlib.Core.Path.{_∙_}
 use native.Mathlib.Omega.{arith}
 use borrow.Author.Needs.{needs}
-use Rattle.search.proofs.chains.next_leaving.Statement.{statement}
-use Rattle.search.proofs.chains.next_leaving.Tie as tie
+use Rattle.search.proofs.adjacency.next_leaving.Statement.{statement}
+use Rattle.search.proofs.adjacency.next_leaving.Tie as tie
 
 sub-wide : tie.Need-sub-wide
 sub-wide c = search needs
