@@ -11,7 +11,9 @@ SEED = 1
 CARGO := $(shell command -v cargo || echo "$$HOME/.cargo/bin/cargo")
 PLAIN = --offline --quiet --manifest-path bench/Cargo.toml
 
-C_FLAGS = -std=c11 -pedantic -Wall -Wextra -Werror -Iinclude
+WARNINGS = -pedantic -Wall -Wextra -Werror
+C_FLAGS = -std=c11 $(WARNINGS) -Iinclude
+CXX_FLAGS = -std=c++11 $(WARNINGS) -Iinclude
 SANITIZED = -g -fsanitize=address,undefined -fno-sanitize-recover=all
 ARCHIVE = target/staticlib/libopenlr.a
 SOURCES := crates.txt $(shell find crates -name '*.rt' -o -name '*.antt')
@@ -47,10 +49,16 @@ test-host: $(ARCHIVE)
 	mkdir -p target/host
 	$(CC) $(C_FLAGS) $(SANITIZED) -o target/host/read tests/host_read.c $(ARCHIVE)
 	$(CC) $(C_FLAGS) $(SANITIZED) -o target/host/write tests/host_write.c $(ARCHIVE)
+	$(CC) $(C_FLAGS) $(SANITIZED) -o target/host/header tests/host_header.c
+	$(CC) $(C_FLAGS) -O2 -pthread -o target/host/stack tests/host_stack.c $(ARCHIVE)
 	$(CC) $(C_FLAGS) $(SANITIZED) -o target/host/answer tests/answer.c $(ARCHIVE)
 	$(CC) $(C_FLAGS) $(SANITIZED) -o target/host/host examples/host.c $(ARCHIVE)
 	target/host/read
 	target/host/write
+	target/host/header
+	target/host/stack
+	if command -v $(CXX) >/dev/null; then $(CXX) $(CXX_FLAGS) -o target/host/cpp tests/host.cpp $(ARCHIVE) && target/host/cpp; \
+	else echo "no C++ compiler: openlr.h is not tried in C++"; fi
 	target/host/host examples/ridge/map.bin 500 0 0 1 >target/host/printed
 	diff target/host/printed tests/host_ridge.txt
 	python3 oracle/check_host.py target/host/answer 500
