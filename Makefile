@@ -45,7 +45,7 @@ host: $(ARCHIVE)
 	$(CC) $(C_FLAGS) -O2 -o target/host/host examples/host.c $(ARCHIVE)
 	target/host/host examples/ridge/map.bin 500 0 0 1
 
-test-host: $(ARCHIVE)
+test-host: $(ARCHIVE) target/bin/openlr_show
 	mkdir -p target/host
 	$(CC) $(C_FLAGS) $(SANITIZED) -o target/host/read tests/host_read.c $(ARCHIVE)
 	$(CC) $(C_FLAGS) $(SANITIZED) -o target/host/write tests/host_write.c $(ARCHIVE)
@@ -62,6 +62,7 @@ test-host: $(ARCHIVE)
 	target/host/host examples/ridge/map.bin 500 0 0 1 >target/host/printed
 	diff target/host/printed tests/host_ridge.txt
 	python3 oracle/check_host.py target/host/answer 500
+	python3 oracle/check_format_page.py target/host/answer
 
 test-plain:
 	$(CARGO) test $(PLAIN)

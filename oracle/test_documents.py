@@ -1,0 +1,46 @@
+"""What stands in several documents is the same in each: refusals in the code, the header and the page on the bytes, sizes, and numbers in README.md."""
+
+import re
+import unittest
+from pathlib import Path
+
+ROOT = Path(__file__).parent.parent
+
+
+def text_of(name):
+    return (ROOT / name).read_text()
+
+
+def header_refusals():
+    enum = re.search(r"enum openlr_refusal \{(.*?)\n\};", text_of("include/openlr.h"), re.DOTALL)[1]
+    return {int(number): name for name, number in re.findall(r"(OPENLR_\w+) = (\d+)", enum)}
+
+
+def header_constant(name):
+    return int(re.search(rf"#define {name} (\d+)", text_of("include/openlr.h"))[1])
+
+
+class Refusals(unittest.TestCase):
+    def test_header_has_the_names_of_the_code(self):
+        rows = re.findall(r"Refusal::(\w+)(?:\(place\))? => Row\((\d+),", text_of("crates/model/src/lib.rt"))
+        names = {int(number): "OPENLR_" + re.sub(r"(?<!^)([A-Z])", r"_\1", name).upper() for name, number in rows}
+        self.assertEqual(header_refusals(), names)
+
+    def test_header_has_a_sentence_for_each(self):
+        self.assertEqual(set(re.findall(r"case (OPENLR_\w+): return", text_of("include/openlr.h"))), set(header_refusals().values()))
+
+    def test_page_has_each(self):
+        rows = re.findall(r"^\| (\d+) \| `(\w+)` \|", text_of("docs/FORMAT.md"), re.MULTILINE)
+        self.assertEqual({int(number): name for number, name in rows}, header_refusals())
+
+
+class Sizes(unittest.TestCase):
+    def test_stack(self):
+        kilobytes, rest = divmod(header_constant("OPENLR_LEAST_STACK"), 1_024)
+        self.assertEqual(rest, 0)
+        for name in ("README.md", "docs/DECISIONS.md"):
+            self.assertIn(f"{kilobytes} KiB", text_of(name))
+
+
+if __name__ == "__main__":
+    unittest.main()
