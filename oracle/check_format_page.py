@@ -1,7 +1,7 @@
 """Holds the C functions to the calls of docs/FORMAT.md, and the page's last section to what its commands print.
 
-Usage: python3 oracle/check_format_page.py PROGRAM. PROGRAM is that of tests/answer.c; the printing program and the archive are built. What differs is printed, and
-the status is 1.
+Usage: python3 oracle/check_format_page.py PROGRAM. PROGRAM is that of tests/answer.c; the printing program and the archive are built. What differs is printed,
+and the status is 1.
 """
 
 import subprocess

@@ -1,4 +1,4 @@
-"""What stands in several documents is the same in each: refusals in the code, the header and the page on the bytes, sizes, and numbers in README.md."""
+"""What stands in several documents is the same in each: refusals in the code, the header and the page on the bytes; places of language forms; the stack."""
 
 import re
 import unittest
@@ -34,12 +34,38 @@ class Refusals(unittest.TestCase):
         self.assertEqual({int(number): name for number, name in rows}, header_refusals())
 
 
+class LanguageForms(unittest.TestCase):
+    def test_each_stands_where_the_page_says(self):
+        page = text_of("docs/DECISIONS.md")
+        section = page[page.index("## Language forms"):page.index("## Definitions")]
+        rows = [row.split(" | ") for row in section.splitlines() if row.startswith('| "')]
+        self.assertEqual(len(rows), 9)
+        self.assertEqual([row[2] for row in rows].count("later (02) |"), 2)
+        for _, _, places in rows[:7]:
+            for place in places.split("; "):
+                file_name, *names = re.findall(r"`([^`]+)`", place)
+                for name in names:
+                    with self.subTest(f"{name} in {file_name}"):
+                        self.assertIn(name.split("::")[-1], text_of(file_name))
+
+
 class Sizes(unittest.TestCase):
     def test_stack(self):
         kilobytes, rest = divmod(header_constant("OPENLR_LEAST_STACK"), 1_024)
         self.assertEqual(rest, 0)
         for name in ("README.md", "docs/DECISIONS.md"):
             self.assertIn(f"{kilobytes} KiB", text_of(name))
+
+
+class LineLengths(unittest.TestCase):
+    def test_no_line_is_over_160_characters(self):
+        folders = ("include", "tests", "examples", "bench", "oracle", "docs")
+        paths = [path for folder in folders for path in (ROOT / folder).rglob("*")
+                 if path.suffix in (".h", ".c", ".cpp", ".py", ".rs", ".sh", ".toml") and "target" not in path.parts[len(ROOT.parts):]]
+        for path in [*paths, ROOT / "Makefile", ROOT / ".ci" / "run"]:
+            for number, line in enumerate(path.read_text().splitlines(), 1):
+                with self.subTest(f"{path.relative_to(ROOT)}:{number}"):
+                    self.assertLessEqual(len(line), 160)
 
 
 if __name__ == "__main__":
