@@ -31,7 +31,7 @@ extern "C" {
 #define OPENLR_LONGEST_REFERENCE 459 /* Bytes of a reference: 1 and a first point of 9, 63 middle points of 7, a last one of 6, and two offsets of 1. */
 #define OPENLR_MOST_LINES 1024       /* Lines that openlr_read hands back, each in four bytes. */
 
-/* Bytes of stack that a thread needs for a call of either function. */
+/* Bytes of stack that a thread needs for a call of either function: 96 KiB, of which a call takes up to 69. */
 #define OPENLR_LEAST_STACK 98304
 
 /* Why a call is refused. Each is given when its condition holds and none above it does; for 2 to 5 the first faulty number in the map decides instead.
