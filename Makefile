@@ -1,8 +1,9 @@
 # `make` reads the ridge example, `make test` runs the gate, `make bench` measures against plain Rust (`make bench ROWS=read`: of one kind),
 # `make count` counts the proved writer's searches and leg tests, `make host` runs a C host on the ridge, `make test-host` tests the C functions,
 # `make test-plain` tests plain Rust and holds it to the stored cases,
-# `make differential` holds the C functions to plain Rust (`make differential CALLS=1000000 SEED=2`).
-.PHONY: ridge test bench count archive host test-host test-plain differential
+# `make differential` holds the C functions to plain Rust (`make differential CALLS=1000000 SEED=2`),
+# `make counts` counts definitions, code, proofs and tests, `make figures` makes docs/FIGURES.md anew.
+.PHONY: ridge test bench count archive host test-host test-plain differential counts figures
 .DELETE_ON_ERROR:
 
 CALLS = 400000
@@ -11,7 +12,9 @@ SEED = 1
 CARGO := $(shell command -v cargo || echo "$$HOME/.cargo/bin/cargo")
 PLAIN = --offline --quiet --manifest-path bench/Cargo.toml
 
-C_FLAGS = -std=c11 -pedantic -Wall -Wextra -Werror -Iinclude
+WARNINGS = -pedantic -Wall -Wextra -Werror
+C_FLAGS = -std=c11 $(WARNINGS) -Iinclude
+CXX_FLAGS = -std=c++11 $(WARNINGS) -Iinclude
 SANITIZED = -g -fsanitize=address,undefined -fno-sanitize-recover=all
 ARCHIVE = target/staticlib/libopenlr.a
 SOURCES := crates.txt $(shell find crates -name '*.rt' -o -name '*.antt')
@@ -43,17 +46,28 @@ host: $(ARCHIVE)
 	$(CC) $(C_FLAGS) -O2 -o target/host/host examples/host.c $(ARCHIVE)
 	target/host/host examples/ridge/map.bin 500 0 0 1
 
-test-host: $(ARCHIVE)
+test-host: $(ARCHIVE) target/bin/openlr_show target/host/stack
 	mkdir -p target/host
 	$(CC) $(C_FLAGS) $(SANITIZED) -o target/host/read tests/host_read.c $(ARCHIVE)
 	$(CC) $(C_FLAGS) $(SANITIZED) -o target/host/write tests/host_write.c $(ARCHIVE)
+	$(CC) $(C_FLAGS) $(SANITIZED) -o target/host/header tests/host_header.c
 	$(CC) $(C_FLAGS) $(SANITIZED) -o target/host/answer tests/answer.c $(ARCHIVE)
 	$(CC) $(C_FLAGS) $(SANITIZED) -o target/host/host examples/host.c $(ARCHIVE)
 	target/host/read
 	target/host/write
+	target/host/header
+	target/host/stack
+	if command -v $(CXX) >/dev/null; then $(CXX) $(CXX_FLAGS) -o target/host/cpp tests/host.cpp $(ARCHIVE) && target/host/cpp; \
+	else echo "no C++ compiler: openlr.h is not tried in C++"; fi
 	target/host/host examples/ridge/map.bin 500 0 0 1 >target/host/printed
 	diff target/host/printed tests/host_ridge.txt
 	python3 oracle/check_host.py target/host/answer 500
+	python3 oracle/check_format_page.py target/host/answer
+
+# Without sanitizers, which need more stack.
+target/host/stack: tests/host_stack.c tests/ridge.h include/openlr.h $(ARCHIVE)
+	mkdir -p target/host
+	$(CC) $(C_FLAGS) -O2 -pthread -o $@ tests/host_stack.c $(ARCHIVE)
 
 test-plain:
 	$(CARGO) test $(PLAIN)
@@ -63,3 +77,9 @@ test-plain:
 differential: $(ARCHIVE)
 	$(CARGO) build --release $(PLAIN) --features openlr --bin differential
 	bench/target/release/differential $(CALLS) $(SEED)
+
+counts:
+	@python3 docs/counts.py
+
+figures:
+	python3 docs/figures.py $(if $(GATE),--gate $(GATE))

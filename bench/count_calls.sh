@@ -2,8 +2,8 @@
 # Counts the searches and the leg tests of the proved writer for each writing row of the benchmark, a stretch's mean. It needs gdb and takes half a
 # minute.
 #
-# In the archive that is measured, search and leg test stand inside the functions that call them. Here the same proved functions are compiled with no optimization, so
-# that each is called: by a copy of the toolchain (links to it) whose clang gets -O0 as its last word. No archive is left behind.
+# In the archive that is measured, search and leg test stand inside the functions that call them. Here the same proved functions are compiled with no
+# optimization, so that each is called: by a copy of the toolchain (links to it) whose clang gets -O0 as its last word. No archive is left behind.
 set -euo pipefail
 cd "$(dirname "$0")/.."
 
@@ -22,7 +22,7 @@ cat >"$copy/count.py" <<'END'
 import os
 
 row_file = os.environ["ROW_FILE"]
-names = ("search::search", "stretches::leg_search::test_leg")
+names = ("search::search", "leg_tests::leg_search::test_leg")
 breakpoints = [gdb.Breakpoint(name) for name in names]
 for breakpoint in breakpoints:
     if breakpoint.pending:

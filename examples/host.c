@@ -9,9 +9,6 @@
 #include <stdio.h>
 #include <stdlib.h>
 
-/* 512 nodes of 8 bytes, 1,024 lines of 13, and two counts of 2. */
-enum { LONGEST_MAP = 17412, LONGEST_REFERENCE = 459, MOST_LINES = 1024 };
-
 /* The bytes of a file, or SIZE_MAX where it cannot be read or is longer than a map can be. */
 static size_t load(const char *name, uint8_t *bytes, size_t room) {
     FILE *file = fopen(name, "rb");
@@ -43,9 +40,9 @@ static uint32_t line_at(const uint8_t *bytes) {
 }
 
 int main(int argc, char **argv) {
-    static uint8_t map[LONGEST_MAP], stretch[4 * MOST_LINES], reference[LONGEST_REFERENCE], lines[4 * MOST_LINES];
+    static uint8_t map[OPENLR_LONGEST_MAP], stretch[4 * OPENLR_MOST_LINES], reference[OPENLR_LONGEST_REFERENCE], line_buffer[4 * OPENLR_MOST_LINES];
     uint32_t pos, neg;
-    if (argc < 4 || argc - 4 > MOST_LINES || !number(argv[2], &pos) || !number(argv[3], &neg)) {
+    if (argc < 4 || argc - 4 > OPENLR_MOST_LINES || !number(argv[2], &pos) || !number(argv[3], &neg)) {
         fprintf(stderr, "usage: host MAP POS NEG LINE ..\n");
         return 2;
     }
@@ -66,20 +63,22 @@ int main(int argc, char **argv) {
 
     struct openlr_written written = openlr_write(map, map_len, stretch, 4 * count, pos, neg, reference, sizeof reference);
     if (written.refusal != 0) {
-        printf("writer: refused %u\n", (unsigned)written.refusal);
+        printf("writer: refused %u: %s\n", (unsigned)written.refusal, openlr_refusal_sentence(written.refusal));
         return 1;
     }
     printf("reference");
-    for (uint32_t i = 0; i < written.bytes; i++) printf(" %02X", reference[i]);
+    for (uint32_t i = 0; i < written.byte_count; i++) printf(" %02X", reference[i]);
     printf("\n");
 
-    struct openlr_lines read = openlr_read(map, map_len, reference, written.bytes, lines, sizeof lines);
+    struct openlr_reading read = openlr_read(map, map_len, reference, written.byte_count, line_buffer, sizeof line_buffer);
     if (read.refusal != 0) {
-        printf("reader: refused %u %u\n", (unsigned)read.refusal, (unsigned)read.place);
+        printf("reader: refused %u", (unsigned)read.refusal);
+        if (read.refusal >= OPENLR_NO_NODE && read.refusal <= OPENLR_SEVERAL_READINGS) printf(" %u", (unsigned)read.place);
+        printf(": %s\n", openlr_refusal_sentence(read.refusal));
         return 1;
     }
-    printf("lines %u pos %u %u neg %u %u\n", (unsigned)read.lines, (unsigned)read.pos_least, (unsigned)read.pos_greatest, (unsigned)read.neg_least,
-           (unsigned)read.neg_greatest);
-    for (uint32_t i = 0; i < read.lines; i++) printf("%u\n", (unsigned)line_at(lines + 4 * i));
+    printf("lines %u pos %u %u neg %u %u\n", (unsigned)read.line_count, (unsigned)read.pos_least, (unsigned)read.pos_greatest,
+           (unsigned)read.neg_least, (unsigned)read.neg_greatest);
+    for (uint32_t i = 0; i < read.line_count; i++) printf("%u\n", (unsigned)line_at(line_buffer + 4 * i));
     return 0;
 }

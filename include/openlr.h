@@ -1,42 +1,16 @@
-/* OpenLR binary line references on a depot map, for C on x86-64 Linux. Link with libopenlr.a.
+/* OpenLR binary line references on a depot map, for C and C++ on x86-64 Linux. Link with libopenlr.a. docs/FORMAT.md has the bytes of a map and of a reference.
 
-   What both functions promise is proved, for all bytes that they can be given: they read no memory but their input slices and write none but the output buffer
-   and the stack, and they return. Nothing checks what the caller owes:
+   What both functions promise is proved, for all bytes that they can be given: they read no memory but their input slices, write none but the output buffer and
+   the stack, and return. Nothing checks what the caller owes:
 
-   - Each pointer is valid for the count of bytes beside it and is not NULL, even where the count is 0. No alignment is asked.
+   - Each pointer is valid for the count of bytes beside it. Where the count is 0 it may be NULL. No alignment is asked.
    - An output buffer does not overlap another argument. Input slices may overlap each other.
-   - About 64 KiB of stack: the work area stands there.
+   - OPENLR_LEAST_STACK bytes of stack, which is enough for the whole of a thread that does nothing else. The functions take no memory from the heap.
 
-   The functions keep nothing between calls and may run in several threads at once, as far as their buffers differ.
+   The functions keep nothing between calls and may run in several threads at once, as long as no output buffer is shared.
 
-   Lines and nodes of a map count from 0, and so do the points and the legs of a reference. Lengths and offsets are in decimetres. A line number takes four bytes,
-   low byte first.
-
-   Refusals, by number. Each is given when its condition holds and none above it does; for 2 to 5 the first faulty number in the map decides.
-
-    2  the map ends early, has a number too large or not in its shortest form, or bytes left over
-    3  a count outside its range
-    4  a coordinate outside its range
-    5  a line's field outside its range, or a line with equal ends
-    6  two nodes with the same pair of codes
-   Writer:
-    7  0 or over 64 lines, or no such line, or a count of bytes that is no multiple of four
-    8  a line does not end where the next starts
-    9  the offsets' sum is not below the total length
-   10  no usable choice of points
-   11  the byte buffer is shorter than the reference
-   Reader:
-   12  a reference of under 16 or over 459 bytes, or of a length that no reference has
-   13  the status byte is not 0B
-   14  a bit that must be zero is set
-   15  the length does not fit the flags
-   16  a point with no node: `place` is the point
-   17  a leg with no reading: `place` is the leg
-   18  a leg with several readings: `place` is the leg
-   19  no offset gives a flagged byte, or the two least offsets reach the total length
-   20  the line buffer is shorter than the list, or the list has over 1,024 lines
-
-   Number 1 (a work area too short) is never given: the functions have their own. */
+   Lines and nodes of a map count from 0, and so do the points and the legs of a reference. Lengths and offsets are in decimetres. A line number takes four
+   bytes, low byte first. */
 #ifndef OPENLR_H
 #define OPENLR_H
 
@@ -47,38 +21,109 @@
 extern "C" {
 #endif
 
+/* Goes up by 1 with each change that a host has to know of: of the map's bytes, of a refusal's number or condition, of a struct or a function, or of the unit.
+   Version 1: lengths and offsets are in decimetres, in the map's bytes as in the calls. A version with another unit has another OPENLR_UNITS_PER_METRE too. */
+#define OPENLR_VERSION 1
+#define OPENLR_UNITS_PER_METRE 10
+
+/* The most that there can be, for buffers that are never too short. */
+#define OPENLR_LONGEST_MAP 17412     /* Bytes of a map: 512 nodes of 8, 1,024 lines of 13, and two counts of 2. */
+#define OPENLR_LONGEST_REFERENCE 459 /* Bytes of a reference: 1 and a first point of 9, 63 middle points of 7, a last one of 6, and two offsets of 1. */
+#define OPENLR_MOST_LINES 1024       /* Lines that openlr_read hands back, each in four bytes. */
+
+/* Bytes of stack that a thread needs for a call of either function: 96 KiB, of which a call takes up to 69. */
+#define OPENLR_LEAST_STACK 98304
+
+/* Why a call is refused. Each is given when its condition holds and none above it does; for 2 to 5 the first faulty number in the map decides instead.
+   openlr_refusal_sentence below has the conditions, and docs/FORMAT.md an example of each. A later version may have further numbers. */
+enum openlr_refusal {
+    OPENLR_WORK_AREA_SHORT = 1, /* Never given by these functions, which have a work area of their own. */
+    /* The map. */
+    OPENLR_MAP_NUMBER = 2,
+    OPENLR_MAP_COUNT = 3,
+    OPENLR_MAP_COORDINATE = 4,
+    OPENLR_MAP_LINE = 5,
+    OPENLR_EQUAL_CODES = 6,
+    /* The writer. */
+    OPENLR_STRETCH_LINES = 7,
+    OPENLR_STRETCH_GAP = 8,
+    OPENLR_STRETCH_OFFSETS = 9,
+    OPENLR_NO_CHOICE = 10,
+    OPENLR_BYTES_SHORT = 11,
+    /* The reader. */
+    OPENLR_REFERENCE_LENGTH = 12,
+    OPENLR_REFERENCE_STATUS = 13,
+    OPENLR_REFERENCE_BITS = 14,
+    OPENLR_REFERENCE_FLAGS = 15,
+    OPENLR_NO_NODE = 16,          /* `place` is the point. */
+    OPENLR_NO_READING = 17,       /* `place` is the leg. */
+    OPENLR_SEVERAL_READINGS = 18, /* `place` is the leg. */
+    OPENLR_NO_OFFSET = 19,
+    OPENLR_LINES_SHORT = 20
+};
+
 /* What openlr_read answers. */
-struct openlr_lines {
-    uint32_t refusal;      /* 0: read. Else the number of the refusal, and all below but `place` are 0. */
-    uint32_t place;        /* The first point or leg concerned, for refusals 16 to 18. Else 0. */
-    uint32_t lines;        /* How many lines were read. Their numbers take the first 4 * lines bytes of the line buffer. */
-    uint32_t pos_least;    /* The offsets, in decimetres, that the positive offset's byte may stand for: the least .. */
+struct openlr_reading {
+    uint32_t refusal;      /* 0: the reference is read. Else the number of the refusal; then every field but `refusal` and `place` is 0. */
+    uint32_t place;        /* For refusals 16 to 18 the first point or leg concerned. Else 0. */
+    uint32_t line_count;   /* How many lines were read. Their numbers are the first 4 * line_count bytes of the line buffer. */
+    uint32_t pos_least;    /* The positive offset's span: the least offset that its byte may stand for, in decimetres, .. */
     uint32_t pos_greatest; /* .. and the greatest. 0 and 0 where the reference has no positive offset. */
-    uint32_t neg_least;    /* Likewise for the negative offset. */
+    uint32_t neg_least;    /* Likewise the negative offset's span. */
     uint32_t neg_greatest;
 };
 
 /* What openlr_write answers. */
 struct openlr_written {
-    uint32_t refusal; /* 0: written. Else the number of the refusal. */
-    uint32_t bytes;   /* How many bytes were written, 16 to 459, at the start of the byte buffer. 0 where refused. */
+    uint32_t refusal;    /* 0: the reference is written. Else the number of the refusal. */
+    uint32_t byte_count; /* How many bytes the reference has, 16 to 459. They are the first of the byte buffer. 0 where refused. */
 };
 
 /* Reads the reference of `reference_len` bytes on the map of `map_len` bytes.
 
-   The line buffer has room for lines_len / 4 lines, rounded down, and for at most 1,024; 4,096 bytes hold every list that is not refused with 20.
-   Where the reference is read, the line numbers stand first in it and the bytes after them are as before. Where it is refused, all of it is as before. */
-struct openlr_lines openlr_read(const uint8_t *map, size_t map_len, const uint8_t *reference, size_t reference_len, uint8_t *lines, size_t lines_len);
+   The line buffer has room for line_buffer_len / 4 lines, rounded down, but for no more than OPENLR_MOST_LINES: a longer list is refused with 20, whatever
+   the buffer. Where the reference is read, the line numbers stand first in the buffer and the bytes after them are as before. Where it is refused, all of the
+   buffer is as before. */
+struct openlr_reading openlr_read(const uint8_t *map, size_t map_len, const uint8_t *reference, size_t reference_len, uint8_t *line_buffer,
+                                  size_t line_buffer_len);
 
-/* Writes a reference for a stretch: the line numbers in the `stretch_len` bytes of `stretch`, each line ending where the next starts, less `pos` decimetres at its
-   start and `neg` decimetres at its end.
+/* Writes a reference for a stretch: the line numbers in the `stretch_len` bytes of `stretch`, each line ending where the next starts, less `pos` decimetres at
+   its start and `neg` decimetres at its end.
 
-   A byte buffer of 459 bytes is long enough for every reference. Where the reference is written, it stands first in the buffer and the bytes after it are as before.
-   Where it is refused, all of the buffer is as before.
+   A byte buffer of OPENLR_LONGEST_REFERENCE bytes is long enough for every reference. Where the reference is written, it stands first in the buffer and the
+   bytes after it are as before. Where it is refused, all of the buffer is as before.
 
-   What is written, openlr_read reads on the same map: the same lines, less those that an offset skips whole, and offsets that may be those left. */
-struct openlr_written openlr_write(const uint8_t *map, size_t map_len, const uint8_t *stretch, size_t stretch_len, uint32_t pos, uint32_t neg, uint8_t *bytes,
-                                   size_t bytes_len);
+   Read back on the same map, the bytes give the same lines without those that an offset covers whole, and spans that contain what is left of the offsets. */
+struct openlr_written openlr_write(const uint8_t *map, size_t map_len, const uint8_t *stretch, size_t stretch_len, uint32_t pos, uint32_t neg,
+                                   uint8_t *byte_buffer, size_t byte_buffer_len);
+
+/* A refusal's condition, in a sentence. The text is static. 0 gives an empty text. */
+static inline const char *openlr_refusal_sentence(uint32_t refusal) {
+    switch (refusal) {
+    case 0: return "";
+    case OPENLR_WORK_AREA_SHORT: return "the work area is too short";
+    case OPENLR_MAP_NUMBER: return "the map ends early, has a number too large or not in its shortest form, or has bytes left over";
+    case OPENLR_MAP_COUNT: return "the map's count of nodes is not 2 to 512, or its count of lines is not 1 to 1,024";
+    case OPENLR_MAP_COORDINATE: return "a coordinate of the map is outside its range";
+    case OPENLR_MAP_LINE: return "a field of one of the map's lines is outside its range, or a line ends at the node where it starts";
+    case OPENLR_EQUAL_CODES: return "two nodes of the map have the same pair of codes";
+    case OPENLR_STRETCH_LINES: return "the stretch has no line, over 64 lines or a line that the map has not, or its count of bytes is no multiple of four";
+    case OPENLR_STRETCH_GAP: return "a line of the stretch does not end where the next one starts";
+    case OPENLR_STRETCH_OFFSETS: return "the two offsets together are not below the length of the stretch";
+    case OPENLR_NO_CHOICE: return "no choice of points is usable for the stretch";
+    case OPENLR_BYTES_SHORT: return "the byte buffer is shorter than the reference";
+    case OPENLR_REFERENCE_LENGTH: return "the reference has under 16 bytes, over 459 bytes or a count of bytes that no reference has";
+    case OPENLR_REFERENCE_STATUS: return "the first byte of the reference is not 0B";
+    case OPENLR_REFERENCE_BITS: return "a bit of the reference that must be zero is set";
+    case OPENLR_REFERENCE_FLAGS: return "the length of the reference does not fit its offset flags";
+    case OPENLR_NO_NODE: return "a point of the reference has no node on the map";
+    case OPENLR_NO_READING: return "a leg of the reference has no reading on the map";
+    case OPENLR_SEVERAL_READINGS: return "a leg of the reference has several readings on the map";
+    case OPENLR_NO_OFFSET: return "no offset gives a flagged offset byte, or the two least offsets reach the total length";
+    case OPENLR_LINES_SHORT: return "the line buffer is shorter than the list of lines, or the list has over 1,024 lines";
+    default: return "unknown refusal";
+    }
+}
 
 #ifdef __cplusplus
 }

@@ -8,22 +8,15 @@ from dataclasses import replace
 
 from answers import answers, hexadecimal, report
 from cases import read_cases, write_cases
+from host_calls import MOST_LINES, line_bytes
 from outcome import outcome_text
 from read_recipes import read_outcome
 from reader import LEAST_WORK_LENGTH
 from write_recipes import write_outcome
 
-# "A list of over 1,024 lines is refusal 20."
-MOST_LINES = 1_024
-
 
 def one_row(outcome):
     return outcome_text(outcome).replace("\n", " ")
-
-
-def line_bytes(lines):
-    """Each line number as four bytes, low byte first."""
-    return b"".join(line.to_bytes(4, "little") for line in lines)
 
 
 def read_calls(seed, count):

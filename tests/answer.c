@@ -29,28 +29,31 @@ static int kept(const uint8_t *buffer, size_t from, size_t room) {
     return 1;
 }
 
-static void print_read(struct openlr_lines a, const uint8_t *lines, size_t room) {
-    if (!kept(lines, 4 * (size_t)a.lines, room)) {
+static void print_read(struct openlr_reading a, const uint8_t *line_buffer, size_t room) {
+    if (!kept(line_buffer, 4 * (size_t)a.line_count, room)) {
         printf("buffer");
     } else if (a.refusal != 0) {
         printf("refused %u", (unsigned)a.refusal);
         if (a.refusal >= 16 && a.refusal <= 18) printf(" %u", (unsigned)a.place);
     } else {
-        printf("lines %u pos %u %u neg %u %u", (unsigned)a.lines, (unsigned)a.pos_least, (unsigned)a.pos_greatest, (unsigned)a.neg_least, (unsigned)a.neg_greatest);
-        for (size_t i = 0; i < a.lines; i++)
-            printf(" %lu", lines[4 * i] + 256ul * lines[4 * i + 1] + 65536ul * lines[4 * i + 2] + 16777216ul * lines[4 * i + 3]);
+        printf("lines %u pos %u %u neg %u %u", (unsigned)a.line_count, (unsigned)a.pos_least, (unsigned)a.pos_greatest, (unsigned)a.neg_least,
+               (unsigned)a.neg_greatest);
+        for (size_t i = 0; i < a.line_count; i++) {
+            const uint8_t *line = line_buffer + 4 * i;
+            printf(" %lu", line[0] + 256ul * line[1] + 65536ul * line[2] + 16777216ul * line[3]);
+        }
     }
     printf("\n");
 }
 
-static void print_written(struct openlr_written a, const uint8_t *bytes, size_t room) {
-    if (!kept(bytes, a.bytes, room)) {
+static void print_written(struct openlr_written a, const uint8_t *byte_buffer, size_t room) {
+    if (!kept(byte_buffer, a.byte_count, room)) {
         printf("buffer");
     } else if (a.refusal != 0) {
         printf("refused %u", (unsigned)a.refusal);
     } else {
-        printf("bytes %u ", (unsigned)a.bytes);
-        for (uint32_t i = 0; i < a.bytes; i++) printf("%02X", bytes[i]);
+        printf("bytes %u ", (unsigned)a.byte_count);
+        for (uint32_t i = 0; i < a.byte_count; i++) printf("%02X", byte_buffer[i]);
     }
     printf("\n");
 }

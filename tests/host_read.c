@@ -1,28 +1,29 @@
-/* The reader as a C program sees it: the layout of its answer, each of its fields, and the line buffer. What is expected is the scope paper's, and its arithmetic. */
+/* The reader as a C program sees it: the layout of its answer, each of its fields, and the line buffer. What is expected is the scope paper's, and its
+   arithmetic. */
 #include "ridge.h"
 
-_Static_assert(sizeof(struct openlr_lines) == 28, "seven numbers of 32 bits");
-_Static_assert(_Alignof(struct openlr_lines) == 4, "aligned as one of them");
-_Static_assert(offsetof(struct openlr_lines, refusal) == 0, "first");
-_Static_assert(offsetof(struct openlr_lines, place) == 4, "second");
-_Static_assert(offsetof(struct openlr_lines, lines) == 8, "third");
-_Static_assert(offsetof(struct openlr_lines, pos_least) == 12, "fourth");
-_Static_assert(offsetof(struct openlr_lines, pos_greatest) == 16, "fifth");
-_Static_assert(offsetof(struct openlr_lines, neg_least) == 20, "sixth");
-_Static_assert(offsetof(struct openlr_lines, neg_greatest) == 24, "seventh");
+_Static_assert(sizeof(struct openlr_reading) == 28, "seven numbers of 32 bits");
+_Static_assert(_Alignof(struct openlr_reading) == 4, "aligned as one of them");
+_Static_assert(offsetof(struct openlr_reading, refusal) == 0, "first");
+_Static_assert(offsetof(struct openlr_reading, place) == 4, "second");
+_Static_assert(offsetof(struct openlr_reading, line_count) == 8, "third");
+_Static_assert(offsetof(struct openlr_reading, pos_least) == 12, "fourth");
+_Static_assert(offsetof(struct openlr_reading, pos_greatest) == 16, "fifth");
+_Static_assert(offsetof(struct openlr_reading, neg_least) == 20, "sixth");
+_Static_assert(offsetof(struct openlr_reading, neg_greatest) == 24, "seventh");
 _Static_assert(sizeof(size_t) == 8, "the counts are of 64 bits");
 
 enum { UNTOUCHED = 0xEE };
 
-/* The answer for a line buffer of `room` bytes, all UNTOUCHED. `lines` is of just that size, so that a sanitizer sees what lies beyond. */
-static struct openlr_lines answer(const uint8_t *reference, size_t length, uint8_t *lines, size_t room) {
-    memset(lines, UNTOUCHED, room);
-    return openlr_read(ridge, sizeof ridge, reference, length, lines, room);
+/* The answer for a line buffer of `room` bytes, all UNTOUCHED. `line_buffer` is of just that size, so that a sanitizer sees what lies beyond. */
+static struct openlr_reading answer(const uint8_t *reference, size_t length, uint8_t *line_buffer, size_t room) {
+    memset(line_buffer, UNTOUCHED, room);
+    return openlr_read(ridge, sizeof ridge, reference, length, line_buffer, room);
 }
 
-static int untouched(const uint8_t *lines, size_t from, size_t to) {
+static int untouched(const uint8_t *line_buffer, size_t from, size_t to) {
     for (size_t i = from; i < to; i++)
-        if (lines[i] != UNTOUCHED) return 0;
+        if (line_buffer[i] != UNTOUCHED) return 0;
     return 1;
 }
 
@@ -31,31 +32,31 @@ static void both_offsets(void) {
     static const uint8_t reference[] = {0x0B, 0, 0, 0, 0, 0, 0, 0x1B, 0x68, 0x01, 0x03, 0xE8, 0, 0, 0x1B, 0x68, 0x01, 0x03, 0xE8, 0, 0, 0x1B, 0x78, 0x80, 0x40};
     static const uint8_t expected[] = {0, 0, 0, 0, 1, 0, 0, 0};
     for (size_t room = 0; room <= 19; room++) {
-        uint8_t *lines = malloc(room + 1);
-        EXPECT(lines != NULL);
-        lines[room] = 0x55;
-        struct openlr_lines a = answer(reference, sizeof reference, lines, room);
+        uint8_t *line_buffer = malloc(room + 1);
+        EXPECT(line_buffer != NULL);
+        line_buffer[room] = 0x55;
+        struct openlr_reading a = answer(reference, sizeof reference, line_buffer, room);
         if (room < 8) {
-            EXPECT(a.refusal == 20 && a.place == 0 && a.lines == 0);
+            EXPECT(a.refusal == 20 && a.place == 0 && a.line_count == 0);
             EXPECT(a.pos_least == 0 && a.pos_greatest == 0 && a.neg_least == 0 && a.neg_greatest == 0);
-            EXPECT(untouched(lines, 0, room));
+            EXPECT(untouched(line_buffer, 0, room));
         } else {
-            EXPECT(a.refusal == 0 && a.place == 0 && a.lines == 2);
+            EXPECT(a.refusal == 0 && a.place == 0 && a.line_count == 2);
             EXPECT(a.pos_least == 500 && a.pos_greatest == 503 && a.neg_least == 250 && a.neg_greatest == 253);
-            EXPECT(memcmp(lines, expected, sizeof expected) == 0 && untouched(lines, sizeof expected, room));
+            EXPECT(memcmp(line_buffer, expected, sizeof expected) == 0 && untouched(line_buffer, sizeof expected, room));
         }
-        EXPECT(lines[room] == 0x55);
-        free(lines);
+        EXPECT(line_buffer[room] == 0x55);
+        free(line_buffer);
     }
 }
 
 /* Refused, with a place or without one, and nothing written. */
 static void refused(const uint8_t *reference, size_t length, uint32_t number, uint32_t place) {
-    uint8_t lines[64];
-    struct openlr_lines a = answer(reference, length, lines, sizeof lines);
-    EXPECT(a.refusal == number && a.place == place && a.lines == 0);
+    uint8_t line_buffer[64];
+    struct openlr_reading a = answer(reference, length, line_buffer, sizeof line_buffer);
+    EXPECT(a.refusal == number && a.place == place && a.line_count == 0);
     EXPECT(a.pos_least == 0 && a.pos_greatest == 0 && a.neg_least == 0 && a.neg_greatest == 0);
-    EXPECT(untouched(lines, 0, sizeof lines));
+    EXPECT(untouched(line_buffer, 0, sizeof line_buffer));
 }
 
 /* The paper's two-point bytes; the three-point bytes with a second leg of D 2, with a third point that has no node, with another status, and cut short. */
@@ -70,8 +71,8 @@ static void refusals(void) {
     three[0] = 0x0A;
     refused(three, sizeof three, 13, 0);
     refused(three, 15, 12, 0);
-    uint8_t lines[4];
-    struct openlr_lines a = openlr_read(ridge, sizeof ridge - 1, two, sizeof two, lines, sizeof lines);
+    uint8_t line_buffer[4];
+    struct openlr_reading a = openlr_read(ridge, sizeof ridge - 1, two, sizeof two, line_buffer, sizeof line_buffer);
     EXPECT(a.refusal == 2 && a.place == 0);
 }
 
@@ -79,18 +80,32 @@ static void refusals(void) {
 static void large_buffer(void) {
     static const uint8_t reference[] = {0x0B, 0, 0, 0, 0, 0, 0, 0x1B, 0x68, 0x01, 0x03, 0xE8, 0, 0, 0x1B, 0x68, 0x01, 0x03, 0xE8, 0, 0, 0x1B, 0x18};
     size_t room = 8192;
-    uint8_t *lines = malloc(room);
-    EXPECT(lines != NULL);
-    struct openlr_lines a = answer(reference, sizeof reference, lines, room);
-    EXPECT(a.refusal == 0 && a.lines == 2 && a.pos_greatest == 0 && a.neg_greatest == 0);
-    EXPECT(untouched(lines, 8, room));
-    free(lines);
+    uint8_t *line_buffer = malloc(room);
+    EXPECT(line_buffer != NULL);
+    struct openlr_reading a = answer(reference, sizeof reference, line_buffer, room);
+    EXPECT(a.refusal == 0 && a.line_count == 2 && a.pos_greatest == 0 && a.neg_greatest == 0);
+    EXPECT(untouched(line_buffer, 8, room));
+    free(line_buffer);
+}
+
+/* A slice of no bytes may be NULL, whichever and however many are. The first that is missing decides. */
+static void null_slices(void) {
+    static const uint8_t reference[] = {0x0B, 0, 0, 0, 0, 0, 0, 0x1B, 0x68, 0x01, 0x03, 0xE8, 0, 0, 0x1B, 0x68, 0x01, 0x03, 0xE8, 0, 0, 0x1B, 0x18};
+    for (int missing = 0; missing < 8; missing++) {
+        int no_map = missing & 1, no_reference = missing & 2, no_buffer = missing & 4;
+        uint8_t line_buffer[8];
+        struct openlr_reading a = openlr_read(no_map ? NULL : ridge, no_map ? 0 : sizeof ridge, no_reference ? NULL : reference,
+                                              no_reference ? 0 : sizeof reference, no_buffer ? NULL : line_buffer, no_buffer ? 0 : sizeof line_buffer);
+        EXPECT(a.refusal == (no_map ? 2u : no_reference ? 12u : no_buffer ? 20u : 0u));
+        EXPECT(a.place == 0 && a.line_count == (missing ? 0u : 2u));
+    }
 }
 
 int main(void) {
     both_offsets();
     refusals();
     large_buffer();
+    null_slices();
     puts("openlr_read: as a C program expects");
     return 0;
 }

@@ -4,13 +4,13 @@
 _Static_assert(sizeof(struct openlr_written) == 8, "two numbers of 32 bits");
 _Static_assert(_Alignof(struct openlr_written) == 4, "aligned as one of them");
 _Static_assert(offsetof(struct openlr_written, refusal) == 0, "first");
-_Static_assert(offsetof(struct openlr_written, bytes) == 4, "second");
+_Static_assert(offsetof(struct openlr_written, byte_count) == 4, "second");
 
 enum { UNTOUCHED = 0xEE };
 
-static int untouched(const uint8_t *bytes, size_t from, size_t to) {
+static int untouched(const uint8_t *byte_buffer, size_t from, size_t to) {
     for (size_t i = from; i < to; i++)
-        if (bytes[i] != UNTOUCHED) return 0;
+        if (byte_buffer[i] != UNTOUCHED) return 0;
     return 1;
 }
 
@@ -19,19 +19,19 @@ static void ridge_bytes(void) {
     static const uint8_t stretch[] = {0, 0, 0, 0, 1, 0, 0, 0};
     static const uint8_t expected[] = {0x0B, 0, 0, 0, 0, 0, 0, 0x1B, 0x68, 0x01, 0x03, 0xE8, 0, 0, 0x1B, 0x68, 0x01, 0x03, 0xE8, 0, 0, 0x1B, 0x58, 0x80};
     for (size_t room = 0; room <= sizeof expected + 3; room++) {
-        uint8_t *bytes = malloc(room + 1);
-        EXPECT(bytes != NULL);
-        memset(bytes, UNTOUCHED, room);
-        bytes[room] = 0x55;
-        struct openlr_written a = openlr_write(ridge, sizeof ridge, stretch, sizeof stretch, 500, 0, bytes, room);
+        uint8_t *byte_buffer = malloc(room + 1);
+        EXPECT(byte_buffer != NULL);
+        memset(byte_buffer, UNTOUCHED, room);
+        byte_buffer[room] = 0x55;
+        struct openlr_written a = openlr_write(ridge, sizeof ridge, stretch, sizeof stretch, 500, 0, byte_buffer, room);
         if (room < sizeof expected) {
-            EXPECT(a.refusal == 11 && a.bytes == 0 && untouched(bytes, 0, room));
+            EXPECT(a.refusal == 11 && a.byte_count == 0 && untouched(byte_buffer, 0, room));
         } else {
-            EXPECT(a.refusal == 0 && a.bytes == sizeof expected);
-            EXPECT(memcmp(bytes, expected, sizeof expected) == 0 && untouched(bytes, sizeof expected, room));
+            EXPECT(a.refusal == 0 && a.byte_count == sizeof expected);
+            EXPECT(memcmp(byte_buffer, expected, sizeof expected) == 0 && untouched(byte_buffer, sizeof expected, room));
         }
-        EXPECT(bytes[room] == 0x55);
-        free(bytes);
+        EXPECT(byte_buffer[room] == 0x55);
+        free(byte_buffer);
     }
 }
 
@@ -42,17 +42,17 @@ static void offsets(void) {
     uint8_t both[64], alone[64];
     struct openlr_written a = openlr_write(ridge, sizeof ridge, stretch, sizeof stretch, 1500, 0, both, sizeof both);
     struct openlr_written b = openlr_write(ridge, sizeof ridge, second, sizeof second, 500, 0, alone, sizeof alone);
-    EXPECT(a.refusal == 0 && b.refusal == 0 && a.bytes == b.bytes && memcmp(both, alone, a.bytes) == 0);
+    EXPECT(a.refusal == 0 && b.refusal == 0 && a.byte_count == b.byte_count && memcmp(both, alone, a.byte_count) == 0);
     EXPECT(both[15] == 0x58 && both[16] == 0x80);
     a = openlr_write(ridge, sizeof ridge, stretch, sizeof stretch, 0, 1500, both, sizeof both);
     EXPECT(a.refusal == 0 && both[15] == 0x38 && both[16] == 0x80);
 }
 
 static void refused(const uint8_t *stretch, size_t length, uint32_t pos, uint32_t neg, uint32_t number) {
-    uint8_t bytes[459];
-    memset(bytes, UNTOUCHED, sizeof bytes);
-    struct openlr_written a = openlr_write(ridge, sizeof ridge, stretch, length, pos, neg, bytes, sizeof bytes);
-    EXPECT(a.refusal == number && a.bytes == 0 && untouched(bytes, 0, sizeof bytes));
+    uint8_t byte_buffer[OPENLR_LONGEST_REFERENCE];
+    memset(byte_buffer, UNTOUCHED, sizeof byte_buffer);
+    struct openlr_written a = openlr_write(ridge, sizeof ridge, stretch, length, pos, neg, byte_buffer, sizeof byte_buffer);
+    EXPECT(a.refusal == number && a.byte_count == 0 && untouched(byte_buffer, 0, sizeof byte_buffer));
 }
 
 static void refusals(void) {
@@ -72,15 +72,29 @@ static void refusals(void) {
     refused(gap, sizeof gap, 0, 0, 8);
     refused(good, sizeof good, 1000, 1000, 9);
     refused(good, sizeof good, UINT32_MAX, UINT32_MAX, 9);
-    uint8_t bytes[4];
-    struct openlr_written a = openlr_write(ridge, sizeof ridge - 1, good, 7, 0, 0, bytes, sizeof bytes);
-    EXPECT(a.refusal == 2 && a.bytes == 0);
+    uint8_t byte_buffer[4];
+    struct openlr_written a = openlr_write(ridge, sizeof ridge - 1, good, 7, 0, 0, byte_buffer, sizeof byte_buffer);
+    EXPECT(a.refusal == 2 && a.byte_count == 0);
+}
+
+/* A slice of no bytes may be NULL, whichever and however many are. The first that is missing decides. */
+static void null_slices(void) {
+    static const uint8_t stretch[] = {0, 0, 0, 0, 1, 0, 0, 0};
+    for (int missing = 0; missing < 8; missing++) {
+        int no_map = missing & 1, no_stretch = missing & 2, no_buffer = missing & 4;
+        uint8_t byte_buffer[23];
+        struct openlr_written a = openlr_write(no_map ? NULL : ridge, no_map ? 0 : sizeof ridge, no_stretch ? NULL : stretch,
+                                               no_stretch ? 0 : sizeof stretch, 0, 0, no_buffer ? NULL : byte_buffer, no_buffer ? 0 : sizeof byte_buffer);
+        EXPECT(a.refusal == (no_map ? 2u : no_stretch ? 7u : no_buffer ? 11u : 0u));
+        EXPECT(a.byte_count == (missing ? 0u : 23u));
+    }
 }
 
 int main(void) {
     ridge_bytes();
     offsets();
     refusals();
+    null_slices();
     puts("openlr_write: as a C program expects");
     return 0;
 }

@@ -1,0 +1,178 @@
+"""The examples of docs/FORMAT.md: what the page says of bytes, of formulas, of calls and of commands. The page itself says how they are written."""
+
+import re
+from pathlib import Path
+from typing import NamedTuple, Optional
+
+from answers import hexadecimal
+from depot_map import write_number
+from fields import coordinate_code, distance_byte, offset_byte, offset_span, sector
+from host_calls import MOST_LINES, line_bytes, lines_of
+from outcome import Refused, ReferenceWritten, StretchRead
+from reader import LEAST_WORK_LENGTH, read
+from reference import LONGEST_REFERENCE
+from writer import write
+
+PAGE = Path(__file__).parent.parent / "docs" / "FORMAT.md"
+
+
+class Call(NamedTuple):
+    """A call of the reader or of the writer, as the page writes it, and the answer that the page gives."""
+    text: str
+    kind: str
+    map_bytes: bytes
+    given: bytes
+    pos: int
+    neg: int
+    room: int
+    work: Optional[int]
+    answer: object
+
+    def outcome(self):
+        """What this implementation answers."""
+        work = LEAST_WORK_LENGTH if self.work is None else self.work
+        if self.kind == "read":
+            return read(self.map_bytes, self.given, work, self.room)
+        return write(self.map_bytes, lines_of(self.given), self.pos, self.neg, work, self.room)
+
+    def row(self):
+        """The same call for tests/answer.c."""
+        if self.kind == "read":
+            return f"read {hexadecimal(self.map_bytes)} {hexadecimal(self.given)} {4 * self.room}"
+        return f"write {hexadecimal(self.map_bytes)} {hexadecimal(self.given)} {self.pos} {self.neg} {self.room}"
+
+
+class Formula(NamedTuple):
+    """A worked number, such as `sector 90 -> 8`: what the page says and what it is."""
+    text: str
+    said: str
+    computed: str
+
+
+class Command(NamedTuple):
+    """A command of the last section, and what it prints."""
+    text: str
+    printed: str
+
+
+def signed_bytes(number, width):
+    return number.to_bytes(width, "big", signed=True).hex().upper()
+
+
+def span_text(byte, leg_length):
+    span = offset_span(byte, leg_length)
+    return "none" if span is None else f"{span[0]} {span[1]}"
+
+
+FORMULAS = (
+    (r"number (\d+)", lambda number: write_number(int(number)).hex(" ").upper()),
+    (r"code (-?\d+)", lambda coordinate: signed_bytes(coordinate_code(int(coordinate)), 3)),
+    (r"difference (-?\d+)", lambda difference: signed_bytes(int(difference), 2)),
+    (r"sector (\d+)", lambda bearing: str(sector(int(bearing)))),
+    (r"D (\d+)", lambda length: str(distance_byte(int(length)))),
+    (r"offset (\d+) of (\d+)", lambda offset, length: f"{offset_byte(int(offset), int(length)):02X}"),
+    (r"span ([0-9A-F]{2}) of (\d+)", lambda byte, length: span_text(int(byte, 16), int(length))),
+)
+
+
+class Page:
+    """The page taken apart. Names hold from the line that gives them on, and before it."""
+
+    def __init__(self, text):
+        self.names, self.calls, self.formulas, self.commands = {}, [], [], []
+        rows = [line[4:] for line in text.splitlines() if line.startswith("    ")]
+        rows = [row if row.startswith("$ ") else row.split("#")[0].rstrip() for row in rows]
+        self._take_names(rows)
+        for row in rows:
+            self._take(row)
+
+    def _take_names(self, rows):
+        name = None
+        for row in rows:
+            given = re.fullmatch(r"(\w+) =(.*)", row)
+            if given:
+                name = given[1]
+                if name in self.names:
+                    raise ValueError(f"{name} is given twice")
+                self.names[name] = bytes.fromhex(given[2])
+            elif name is not None and re.fullmatch(r"    [0-9A-F ]+", row):
+                self.names[name] += bytes.fromhex(row)
+            else:
+                name = None
+
+    def _take(self, row):
+        if row.startswith("$ "):
+            self.commands.append(Command(row[2:], ""))
+        elif " -> " in row:
+            left, right = row.split(" -> ")
+            if left.split()[0] in ("read", "write"):
+                self.calls.append(self._call(row, left, right))
+            else:
+                self.formulas.append(_formula(row, left, right))
+        elif self.commands and row and not row.startswith(" "):
+            command, printed = self.commands[-1]
+            self.commands[-1] = Command(command, printed + row + "\n")
+
+    def _call(self, row, left, right):
+        kind, rest = left.split(" ", 1)
+        map_bytes, rest = self._bytes(rest)
+        if kind == "read":
+            given, rest = self._bytes(rest)
+        else:
+            part = re.match(r"(lines|bytes)((?: [0-9A-F]+)*)(?= |$)", rest)
+            numbers, rest = part[2], rest[part.end():]
+            given = line_bytes(map(int, numbers.split())) if part[1] == "lines" else bytes.fromhex(numbers)
+        settings = dict(re.findall(r"(\w+) (\d+)", rest))
+        if re.sub(r"\w+ \d+", "", rest).strip() or not settings.keys() <= {"room", "work", "pos", "neg"}:
+            raise ValueError(f"cannot be read: {row}")
+        room = int(settings.get("room", MOST_LINES if kind == "read" else LONGEST_REFERENCE))
+        work = int(settings["work"]) if "work" in settings else None
+        return Call(row, kind, map_bytes, given, int(settings.get("pos", 0)), int(settings.get("neg", 0)), room, work, self._answer(right))
+
+    def _bytes(self, text):
+        """The bytes at the start of a text, and the text after them."""
+        if text.startswith("["):
+            inside, rest = text[1:].split("]", 1)
+            return bytes.fromhex(inside), rest.strip()
+        if text.startswith("("):
+            changed, rest = self._bytes(text[1:])
+            change, rest = rest.split(")", 1)
+            return _changed(changed, change), rest.strip()
+        name, _, rest = text.partition(" ")
+        return self.names[name], rest
+
+    def _answer(self, text):
+        refused = re.fullmatch(r"refused (\d+)(?: (\d+))?", text)
+        if refused:
+            return Refused(int(refused[1]), None if refused[2] is None else int(refused[2]))
+        reads = re.fullmatch(r"reads ([\d ]+) pos (\d+) (\d+) neg (\d+) (\d+)", text)
+        if reads:
+            spans = [int(number) for number in reads.groups()[1:]]
+            return StretchRead(tuple(map(int, reads[1].split())), tuple(spans[:2]), tuple(spans[2:]))
+        written = text.removeprefix("writes ")
+        return ReferenceWritten(self.names[written] if written in self.names else bytes.fromhex(written))
+
+
+def _changed(data, change):
+    one_byte = re.fullmatch(r"with byte (\d+) = ([0-9A-F]{2})", change)
+    if one_byte:
+        position = int(one_byte[1])
+        if data[position] == int(one_byte[2], 16):
+            raise ValueError(f"no change: {change}")
+        return data[:position] + bytes.fromhex(one_byte[2]) + data[position + 1:]
+    cut = re.fullmatch(r"cut to (\d+) bytes", change)
+    if cut:
+        return data[:int(cut[1])]
+    return data + bytes.fromhex(change.removeprefix("and "))
+
+
+def _formula(row, left, right):
+    for pattern, compute in FORMULAS:
+        parts = re.fullmatch(pattern, left)
+        if parts:
+            return Formula(row, right, compute(*parts.groups()))
+    raise ValueError(f"cannot be read: {row}")
+
+
+def format_page():
+    return Page(PAGE.read_text())

@@ -1,0 +1,44 @@
+"""Every example of docs/FORMAT.md is what this implementation answers, and the files of the ridge are those of the page."""
+
+import unittest
+
+from depot_map import read_map
+from format_page import format_page
+from outcome import Refused
+from test_scope_paper import RIDGE, THREE_POINTS, THREE_POINTS_OFFSET_500, TWO_POINTS
+
+PAGE = format_page()
+
+
+class FormatPage(unittest.TestCase):
+    def test_calls(self):
+        for call in PAGE.calls:
+            with self.subTest(call.text):
+                self.assertEqual(call.outcome(), call.answer)
+
+    def test_every_refusal_has_an_example(self):
+        refused = {call.answer.number for call in PAGE.calls if isinstance(call.answer, Refused)}
+        self.assertEqual(refused, set(range(1, 21)))
+
+    def test_formulas(self):
+        for formula in PAGE.formulas:
+            with self.subTest(formula.text):
+                self.assertEqual(formula.said, formula.computed)
+        kinds = {formula.text.split()[0] for formula in PAGE.formulas}
+        self.assertEqual(kinds, {"number", "code", "difference", "sector", "D", "offset", "span"})
+
+    def test_bytes_of_the_ridge(self):
+        names = PAGE.names
+        self.assertEqual((names["ridge"], names["ref"], names["three"], names["two"]), (RIDGE, THREE_POINTS_OFFSET_500, THREE_POINTS, TWO_POINTS))
+
+    def test_small_map(self):
+        tiny = read_map(PAGE.names["tiny"])
+        self.assertEqual((len(tiny.nodes), len(tiny.lines), tiny.lines[0].length), (2, 1, 7_150))
+
+    def test_commands_are_found(self):
+        self.assertEqual(PAGE.commands[0].text, "mkdir -p target/by_hand")
+        self.assertTrue(any(command.printed.startswith("reference 0B") for command in PAGE.commands))
+
+
+if __name__ == "__main__":
+    unittest.main()

@@ -1,0 +1,152 @@
+/* Both functions in a thread with a stack of just OPENLR_LEAST_STACK bytes, on full-size maps and on the calls that take most: 64 legs, 64 lines, 1,024 lines
+   read. Prints how much of the stack was used, the thread's own part with it. It is compiled without sanitizers, which need more stack. */
+#define _DEFAULT_SOURCE
+#include "ridge.h"
+
+#include <pthread.h>
+#include <sys/mman.h>
+
+enum { NODES = 512, LINES = 1024, GUARD = 65536, UNUSED = 0xA5 };
+
+static uint8_t map[OPENLR_LONGEST_MAP], given[OPENLR_LONGEST_REFERENCE], line_buffer[4 * OPENLR_MOST_LINES], byte_buffer[OPENLR_LONGEST_REFERENCE];
+static size_t map_len, given_len;
+static uint32_t pos, neg;
+static struct openlr_reading reading;
+static struct openlr_written written;
+
+static void put_number(uint32_t number) {
+    for (; number >= 128; number /= 128) map[map_len++] = (uint8_t)(number % 128 + 128);
+    map[map_len++] = (uint8_t)number;
+}
+
+static void put_line(uint32_t start, uint32_t end, uint32_t length, uint32_t form) {
+    const uint32_t numbers[] = {start, end, length, 3, form, 135, 315};
+    for (int i = 0; i < 7; i++) put_number(numbers[i]);
+}
+
+static void put_nodes(void) {
+    map_len = 0;
+    put_number(NODES);
+    for (uint32_t i = 0; i < NODES; i++) {
+        put_number(18000000 + 100 * (i % 32));
+        put_number(9000000 + 100 * (i / 32));
+    }
+    put_number(LINES);
+}
+
+/* Lines `from` to 1,023: there and back between nodes next to each other from node 15 on. They are of another form, and no leg below is shorter by them. */
+static void put_other_lines(uint32_t from) {
+    for (uint32_t i = from; i < LINES; i++) {
+        uint32_t node = 15 + i / 2 % (NODES - 16);
+        put_line(node + i % 2, node + 1 - i % 2, 20000, 5);
+    }
+}
+
+static void put_stretch(uint32_t count) {
+    memset(given, 0, sizeof given);
+    given_len = 4 * count;
+    for (uint32_t i = 0; i < count; i++) given[4 * i] = (uint8_t)i;
+}
+
+static void *read_once(void *unused) {
+    reading = openlr_read(map, map_len, given, given_len, line_buffer, sizeof line_buffer);
+    return unused;
+}
+
+static void *write_once(void *unused) {
+    written = openlr_write(map, map_len, given, given_len, pos, neg, byte_buffer, sizeof byte_buffer);
+    return unused;
+}
+
+/* Runs a call in a thread of its own. Below its stack no memory may be touched. */
+static void run(const char *what, void *(*call)(void *)) {
+    uint8_t *memory = mmap(NULL, GUARD + OPENLR_LEAST_STACK, PROT_READ | PROT_WRITE, MAP_PRIVATE | MAP_ANONYMOUS, -1, 0), *stack = memory + GUARD;
+    EXPECT(memory != MAP_FAILED && mprotect(memory, GUARD, PROT_NONE) == 0);
+    memset(stack, UNUSED, OPENLR_LEAST_STACK);
+    pthread_attr_t attributes;
+    pthread_t thread;
+    EXPECT(pthread_attr_init(&attributes) == 0 && pthread_attr_setstack(&attributes, stack, OPENLR_LEAST_STACK) == 0);
+    EXPECT(pthread_create(&thread, &attributes, call, NULL) == 0 && pthread_join(thread, NULL) == 0);
+    size_t unused = 0;
+    while (stack[unused] == UNUSED) unused++;
+    printf("%s: %zu of %d bytes of stack\n", what, (size_t)OPENLR_LEAST_STACK - unused, OPENLR_LEAST_STACK);
+    EXPECT(pthread_attr_destroy(&attributes) == 0 && munmap(memory, GUARD + OPENLR_LEAST_STACK) == 0);
+}
+
+/* A ring of 16 lines, and 64 legs that each go once around it from node 0, with both offsets. Of 141,168 decimetres, D is 240 (F0), and byte 80 means 70,584 to
+   71,135 (256 x 71,136 / 141,168 is 129). */
+static void read_most(void) {
+    static const uint8_t first[] = {0x0B, 0, 0, 0, 0, 0, 0, 0x1B, 0x6C, 0xF0}, next[] = {0, 0, 0, 0, 0x1B, 0x6C, 0xF0};
+    static const uint8_t last[] = {0, 0, 0, 0, 0x1B, 0x7C, 0x80, 0x80};
+    put_nodes();
+    for (uint32_t i = 0; i < 16; i++) put_line(i, (i + 1) % 16, 8823, 3);
+    put_other_lines(16);
+    memcpy(given, first, sizeof first);
+    for (size_t i = 0; i < 63; i++) memcpy(given + sizeof first + i * sizeof next, next, sizeof next);
+    memcpy(given + sizeof first + 63 * sizeof next, last, sizeof last);
+    given_len = sizeof given;
+    run("openlr_read, 64 legs, 1,024 lines", read_once);
+    EXPECT(reading.refusal == 0 && reading.line_count == 1024);
+    EXPECT(reading.pos_least == 70584 && reading.pos_greatest == 71135 && reading.neg_least == 70584 && reading.neg_greatest == 71135);
+    for (uint32_t i = 0; i < 1024; i++) EXPECT(line_buffer[4 * i] == i % 16 && line_buffer[4 * i + 1] == 0);
+}
+
+/* A chain of 64 lines, of which no two fit one leg: 64 legs and both offsets. The bytes are read back. */
+static void write_most_legs(void) {
+    put_nodes();
+    for (uint32_t i = 0; i < 64; i++) put_line(i, i + 1, 76000, 3);
+    put_other_lines(64);
+    put_stretch(64);
+    pos = neg = 38000;
+    run("openlr_write, 64 legs", write_once);
+    EXPECT(written.refusal == 0 && written.byte_count == OPENLR_LONGEST_REFERENCE && byte_buffer[457] == 0x80 && byte_buffer[458] == 0x80);
+    memcpy(given, byte_buffer, sizeof given);
+    given_len = sizeof given;
+    run("openlr_read, 64 legs, 64 lines", read_once);
+    EXPECT(reading.refusal == 0 && reading.line_count == 64 && reading.pos_least == 38000 && reading.neg_least == 38000);
+    for (uint32_t i = 0; i < 64; i++) EXPECT(line_buffer[4 * i] == i);
+}
+
+/* A chain of 64 short lines: every part of it is the only way, so that all 2,080 legs are tested. Two points are enough. */
+static void write_most_tests(void) {
+    put_nodes();
+    for (uint32_t i = 0; i < 64; i++) put_line(i, i + 1, 1000, 3);
+    put_other_lines(64);
+    put_stretch(64);
+    pos = neg = 0;
+    run("openlr_write, one leg of 64 lines", write_once);
+    EXPECT(written.refusal == 0 && written.byte_count == 16 && byte_buffer[9] == 64000 / 586);
+}
+
+/* A map with every number as long as it can be. Up to three lines join the same two nodes; D tells them apart. */
+static void longest_map(void) {
+    map_len = 0;
+    put_number(NODES);
+    for (uint32_t i = 0; i < NODES; i++) {
+        put_number(35999998 - 100 * i);
+        put_number(18000000);
+    }
+    put_number(LINES);
+    for (uint32_t i = 0; i < LINES; i++) {
+        const uint32_t numbers[] = {128 + i % 384, 128 + (i + 1) % 384, 150000 - i / 384 * 586, 7, 7, 359, 359};
+        for (int k = 0; k < 7; k++) put_number(numbers[k]);
+    }
+    EXPECT(map_len == OPENLR_LONGEST_MAP);
+    put_stretch(1);
+    given[0] = 1;
+    pos = neg = 0;
+    run("openlr_write, longest map", write_once);
+    EXPECT(written.refusal == 0 && written.byte_count == 16);
+    memcpy(given, byte_buffer, 16);
+    given_len = 16;
+    run("openlr_read, longest map", read_once);
+    EXPECT(reading.refusal == 0 && reading.line_count == 1 && line_buffer[0] == 1);
+}
+
+int main(void) {
+    read_most();
+    write_most_legs();
+    write_most_tests();
+    longest_map();
+    return 0;
+}
