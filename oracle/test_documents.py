@@ -57,6 +57,11 @@ class Sizes(unittest.TestCase):
             self.assertIn(f"{kilobytes} KiB", text_of(name))
 
 
+class Version(unittest.TestCase):
+    def test_page_on_the_bytes_is_of_the_header_s_version(self):
+        self.assertIn(f"the format of version {header_constant('OPENLR_VERSION')}", " ".join(text_of("docs/FORMAT.md").split()))
+
+
 class LineLengths(unittest.TestCase):
     def test_no_line_is_over_160_characters(self):
         # Not all of bench: what is built there may change meanwhile.

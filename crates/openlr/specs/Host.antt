@@ -5,7 +5,7 @@ use Rattle.model.specs.Host.{HostRead, HostWritten, hostStretch}
 use Rattle.openlr.specs.declared.Lines.{Lines}
 use Rattle.openlr.specs.declared.Written.{Written}
 
--- `struct openlr_lines`.
+-- `struct openlr_reading`.
 unfoldable pub asRead : Lines → HostRead
 asRead r =
     record {

@@ -26,7 +26,7 @@ ghost use Rattle.openlr.specs.Host.{asRead, asWritten, stretchLines};
 // How many line numbers are taken from a stretch: one more than it may have, so that a longer one is refused.
 const STRETCH_NUMBERS: usize = GREATEST_STRETCH + 1;
 
-// What the host gets from the reader; `struct openlr_lines` in C. 0 where a number says nothing.
+// What the host gets from the reader; `struct openlr_reading` in C. 0 where a number says nothing.
 #[repr(C)]
 pub struct Lines {
     pub refusal: u32,

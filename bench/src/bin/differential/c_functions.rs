@@ -2,13 +2,13 @@
 
 use crate::memory::Memory;
 
-/// `struct openlr_lines`.
+/// `struct openlr_reading`.
 #[repr(C)]
 #[derive(Clone, Copy, Debug, Default, PartialEq, Eq)]
-pub struct LinesAnswer {
+pub struct ReadingAnswer {
     pub refusal: u32,
     pub place: u32,
-    pub lines: u32,
+    pub line_count: u32,
     pub pos_least: u32,
     pub pos_greatest: u32,
     pub neg_least: u32,
@@ -20,7 +20,7 @@ pub struct LinesAnswer {
 #[derive(Clone, Copy, Debug, Default, PartialEq, Eq)]
 pub struct WrittenAnswer {
     pub refusal: u32,
-    pub bytes: u32,
+    pub byte_count: u32,
 }
 
 #[link(name = "openlr", kind = "static")]
@@ -30,9 +30,9 @@ extern "C" {
         map_len: usize,
         reference: *const u8,
         reference_len: usize,
-        lines: *mut u8,
-        lines_len: usize,
-    ) -> LinesAnswer;
+        line_buffer: *mut u8,
+        line_buffer_len: usize,
+    ) -> ReadingAnswer;
     fn openlr_write(
         map: *const u8,
         map_len: usize,
@@ -40,13 +40,13 @@ extern "C" {
         stretch_len: usize,
         pos: u32,
         neg: u32,
-        bytes: *mut u8,
-        bytes_len: usize,
+        byte_buffer: *mut u8,
+        byte_buffer_len: usize,
     ) -> WrittenAnswer;
 }
 
 /// Reads the reference that the memory holds beside the map.
-pub fn read(memory: &mut Memory) -> LinesAnswer {
+pub fn read(memory: &mut Memory) -> ReadingAnswer {
     let Memory { map, given, buffer } = memory;
     // Each pointer is valid for the length beside it, and the three parts do not overlap.
     unsafe {

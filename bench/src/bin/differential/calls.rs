@@ -6,7 +6,7 @@ use plain::hexadecimal::{bytes, digits};
 use plain::outcome::{Outcome, Reading, Refusal, WORK_AREA};
 use plain::{reader, writer};
 
-use crate::c_functions::{self, LinesAnswer, WrittenAnswer};
+use crate::c_functions::{self, ReadingAnswer, WrittenAnswer};
 use crate::memory::Memory;
 
 /// A list of more lines is refused, however long the buffer.
@@ -36,8 +36,8 @@ impl ReadCall<'_> {
         let lines = (self.room / 4).min(MOST_LINES_READ);
         let outcome = reader::read(self.map, self.reference, WORK_AREA, lines);
         let (answer, result) = match &outcome {
-            Ok(reading) => (lines_answer(reading), line_bytes(&reading.lines)),
-            Err(refusal) => (lines_refusal(*refusal), Vec::new()),
+            Ok(reading) => (reading_answer(reading), line_bytes(&reading.lines)),
+            Err(refusal) => (reading_refusal(*refusal), Vec::new()),
         };
         let memory = Memory::new(self.map, self.reference, self.room);
         compare(c_functions::read, memory, &result, answer)?;
@@ -105,11 +105,11 @@ fn compare<Answer: Debug + PartialEq>(
     memory.check(&expected_memory)
 }
 
-fn lines_answer(reading: &Reading) -> LinesAnswer {
-    LinesAnswer {
+fn reading_answer(reading: &Reading) -> ReadingAnswer {
+    ReadingAnswer {
         refusal: 0,
         place: 0,
-        lines: reading.lines.len() as u32,
+        line_count: reading.lines.len() as u32,
         pos_least: reading.positive.least,
         pos_greatest: reading.positive.greatest,
         neg_least: reading.negative.least,
@@ -117,25 +117,25 @@ fn lines_answer(reading: &Reading) -> LinesAnswer {
     }
 }
 
-fn lines_refusal(refusal: Refusal) -> LinesAnswer {
-    LinesAnswer {
+fn reading_refusal(refusal: Refusal) -> ReadingAnswer {
+    ReadingAnswer {
         refusal: refusal.number(),
         place: refusal.place().unwrap_or(0),
-        ..LinesAnswer::default()
+        ..ReadingAnswer::default()
     }
 }
 
 fn written_answer(reference: &[u8]) -> WrittenAnswer {
     WrittenAnswer {
         refusal: 0,
-        bytes: reference.len() as u32,
+        byte_count: reference.len() as u32,
     }
 }
 
 fn written_refusal(refusal: Refusal) -> WrittenAnswer {
     WrittenAnswer {
         refusal: refusal.number(),
-        bytes: 0,
+        byte_count: 0,
     }
 }
 
