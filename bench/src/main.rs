@@ -30,6 +30,10 @@ const INPUTS: usize = 8;
 const BYTE_ROOM: usize = 459;
 const LINE_ROOM: usize = 65_536;
 
+/// The proved reader keeps so many lines until every refusal is asked, and makes a longer reading twice. A C host's lists
+/// have 1,024 lines at most and never get there, so such a row is left out of the aim.
+const KEPT_LINES: usize = 2_304;
+
 /// A function to time, on the input with this number.
 type Call<'a> = Box<dyn FnMut(usize) + 'a>;
 
@@ -253,7 +257,10 @@ fn reading_rows(sample: &Sample) {
         let lines: usize = references.iter().map(|(_, lines)| lines.len()).sum();
         let lines = lines / references.len();
         let references = references.into_iter().map(|(bytes, _)| bytes).collect();
-        let what = format!("read, {}, legs {legs}, lines {lines}", sample.name);
+        let mut what = format!("read, {}, legs {legs}, lines {lines}", sample.name);
+        if lines > KEPT_LINES {
+            what += " (made twice, no aim)";
+        }
         reading_row(what, sample, references).print();
     }
 }
