@@ -20,4 +20,5 @@ pub mod Once
 pub mod Calls
 pub mod Answering
 pub mod Demand3
+pub mod CallsOnce
 pub mod Cases
