@@ -16,9 +16,11 @@ pub mod Composed
 pub mod Outcomes
 pub mod Cleared
 pub mod Opened
+pub mod Rows
 pub mod Once
 pub mod Calls
 pub mod Answering
 pub mod Demand3
 pub mod CallsOnce
+pub mod HostDemand3
 pub mod Cases
