@@ -5,6 +5,7 @@ pub mod Differences
 pub mod Decoded
 pub mod Nodes
 pub mod Numbers
+pub mod Cut
 pub mod Spans
 pub mod Legs
 pub mod Skipping
