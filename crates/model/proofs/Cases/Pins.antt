@@ -6,11 +6,13 @@ use native.Mathlib.Omega.{arith}
 use lib.ListN.{replicate}
 use Rattle.model.specs.Map.{Map, MapAnswer, whole, decode}
 use Rattle.model.specs.Stretch.{Stretch, StretchAnswer, checkStretch, stretchOf}
-use Rattle.model.specs.Reference.{absent, Reference}
+use Rattle.model.specs.Reference.{absent, byte, Reference}
 use Rattle.model.specs.Reading.{any, Leg, Allowed, Only, Unread}
 use Rattle.model.specs.Refusal.{row, rowAt}
 use Rattle.model.specs.Outcome.{ReadOutcome, read, ReadOn, Reads, WriteOutcome, written, Writes}
-use Rattle.model.specs.Host.{hostStretch, HostReadCall, HostWriteCall}
+use Rattle.model.specs.Host.{words, hostStretch, HostReadCall, HostWriteCall}
+use Rattle.model.specs.Choice.{offsetOf, lastLeg}
+use Rattle.model.specs.Locate.{locate, no-node}
 use Rattle.model.proofs.Cases.Computing.{computing}
 use Rattle.model.proofs.Cases.Ways.{finding, connects}
 use Rattle.model.proofs.Cases.Legs.{sole, unread}
@@ -78,23 +80,37 @@ lost =
       neg = absent;
     }
 
--- Longitudes stored as 0 and 1; and two nodes apart, with a line of FRC 0, FOW 0 and bearings 0.
+-- The end of a map's bytes: a line from node 0 to node 1; and a map whose two nodes have longitudes stored as 0 and 1.
+abbrev oneLine : List ℕ
+oneLine = 1 ∷ 0 ∷ 1 ∷ 10 ∷ 3 ∷ 3 ∷ 90 ∷ 90 ∷ []
+
 abbrev clashing : List ℕ
-clashing = 2 ∷ 0 ∷ 0 ∷ 1 ∷ 0 ∷ 1 ∷ 0 ∷ 1 ∷ 10 ∷ 3 ∷ 3 ∷ 90 ∷ 90 ∷ []
+clashing = 2 ∷ 0 ∷ 0 ∷ 1 ∷ 0 ∷ oneLine
 
 pub record Pins : Type 0 where
   -- 65 lines are refusal 7 although an offset drops one, although two do not meet, although the offsets reach the total.
   pub sixty-five : map (checkStretch toAndFro)
       (stretchOf (1 ∷ laps 32) 20 0 ∷ stretchOf (1 ∷ laps 32) 0 10 ∷ stretchOf (0 ∷ laps 32) 0 0 ∷ stretchOf (1 ∷ laps 32) 9_999 9_999 ∷ []) ≡
       replicate 4 (StretchAnswer.refused (row 7))
-  -- A map of three nodes and two lines has no line 2.
-  pub no-line-2 : checkStretch long (stretchOf (2 ∷ []) 0 0) ≡ StretchAnswer.refused (row 7)
+  -- A map of three nodes and two lines has no line 2, wherever it stands in the stretch.
+  pub no-line-2 : map (checkStretch long) (stretchOf (2 ∷ []) 0 0 ∷ stretchOf (2 ∷ 0 ∷ []) 0 0 ∷ stretchOf (0 ∷ 2 ∷ 1 ∷ []) 0 0 ∷ []) ≡
+      replicate 3 (StretchAnswer.refused (row 7))
   pub lowest-values : decode (2 ∷ 0 ∷ 0 ∷ 100 ∷ 0 ∷ 1 ∷ 0 ∷ 1 ∷ 10 ∷ 0 ∷ 0 ∷ 0 ∷ 0 ∷ []) ≡
       whole
       (record {
         nodes = record { lon = 0; lat = 0 } ∷ record { lon = 100; lat = 0 } ∷ [];
         lines = record { start = 0; end = 1; length = 10; frc = 0; fow = 0; out = 0; back = 0 } ∷ [];
       })
+  -- Two nodes with the same codes, neither of them the first: longitudes stored as 9, 0 and 1; and two with another between: 0, 9 and 1.
+  pub later-codes : map decode ((3 ∷ 9 ∷ 0 ∷ 0 ∷ 0 ∷ 1 ∷ 0 ∷ oneLine) ∷ (3 ∷ 0 ∷ 0 ∷ 9 ∷ 0 ∷ 1 ∷ 0 ∷ oneLine) ∷ []) ≡
+      replicate 2 (MapAnswer.refused (row 6))
+  -- The first point has its longitude's code at node 0, and its latitude's at none.
+  pub both-codes : locate ridge (record { lon = 0; lat = 99; points = []; arrives = road 24; pos = absent; neg = absent }) ≡ no-node 0
+  -- An offset that is not 0 is flagged, though its byte is 0; the last of three legs is the third.
+  pub flagged-0 : offsetOf 1_000 1 ≡ byte 0
+  pub third-leg : lastLeg ((0 ∷ []) ∷ (1 ∷ []) ∷ (2 ∷ []) ∷ []) ≡ 2 ∷ []
+  -- Bytes beyond the last whole four say no line.
+  pub whole-fours : map words ((7 ∷ 0 ∷ 0 ∷ 0 ∷ 1 ∷ []) ∷ (7 ∷ 0 ∷ 0 ∷ 0 ∷ 1 ∷ 0 ∷ []) ∷ (7 ∷ 0 ∷ 0 ∷ 0 ∷ 1 ∷ 0 ∷ 0 ∷ []) ∷ []) ≡ replicate 3 (7 ∷ [])
   -- The number of each part is that of the call.
   pub map-rows : Reads clashing [] 12_288 0 (ReadOutcome.refused (row 6)) × Writes clashing (stretchOf [] 0 0) 12_288 0 (WriteOutcome.refused (row 6))
   pub stretch-rows : Writes mapBytes (stretchOf (0 ∷ 2 ∷ 1 ∷ []) 0 0) 12_288 0 (WriteOutcome.refused (row 8)) ×
@@ -112,6 +128,11 @@ pins =
       sixty-five = refl;
       no-line-2 = refl;
       lowest-values = refl;
+      later-codes = refl;
+      both-codes = refl;
+      flagged-0 = refl;
+      third-leg = refl;
+      whole-fours = refl;
       map-rows = (refl, refl);
       stretch-rows = (refl, refl);
       form-rows = refl;
