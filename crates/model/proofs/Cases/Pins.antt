@@ -114,6 +114,7 @@ pub record Pins : Type 0 where
   -- The number of each part is that of the call.
   pub map-rows : Reads clashing [] 12_288 0 (ReadOutcome.refused (row 6)) × Writes clashing (stretchOf [] 0 0) 12_288 0 (WriteOutcome.refused (row 6))
   pub stretch-rows : Writes mapBytes (stretchOf (0 ∷ 2 ∷ 1 ∷ []) 0 0) 12_288 0 (WriteOutcome.refused (row 8)) ×
+      Writes mapBytes (stretchOf (3 ∷ 0 ∷ 1 ∷ []) 0 0) 12_288 0 (WriteOutcome.refused (row 8)) ×
       Writes mapBytes (stretchOf (0 ∷ []) 1_000 0) 12_288 0 (WriteOutcome.refused (row 9))
   pub form-rows : Reads mapBytes (0x0A ∷ replicate 15 0) 12_288 0 (ReadOutcome.refused (row 13))
   -- Six bytes are no multiple of four.
@@ -134,7 +135,7 @@ pins =
       third-leg = refl;
       whole-fours = refl;
       map-rows = (refl, refl);
-      stretch-rows = (refl, refl);
+      stretch-rows = (refl, refl, refl);
       form-rows = refl;
       six-bytes = refl;
       points-first = λ room. ReadOn.no-point refl;
