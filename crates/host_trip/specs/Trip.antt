@@ -4,20 +4,17 @@ use mathlib.Core.Path.{_≡_}
 use mathlib.Core.Logic.{_≢_}
 use mathlib.Core.List.{List}
 use lib.ListN.{length, take}
-use Rattle.model.specs.Stretch.{Stretch, remaining}
+use Rattle.model.specs.Stretch.{Stretch}
 use Rattle.model.specs.Outcome.{read}
 use Rattle.model.specs.Work.{placed}
 use Rattle.model.specs.Host.{wordBytes, hostStretch, HostRead, hostRead, HostReadCall, HostWriteCall}
 use Rattle.model.specs.Demand3.{ReadBack, Alike}
 use Rattle.openlr.specs.Host.{asRead}
+use Rattle.round_trip.specs.Trip.{leftOf}
 use Rattle.host_trip.specs.declared.Pair.{Pair}
 use Rattle.host_trip.specs.declared.Pair.the-variants.{FirstRefused, SecondRefused, Differ, Same}
 use Rattle.host_trip.specs.declared.Trip.{Trip}
 use Rattle.host_trip.specs.declared.Trip.the-variants.{Refused, Back}
-
--- The lines that are left of a stretch, as demand 3 names them.
-abbrev pub leftOf : (mb : List ℕ) (s : Stretch) (bs : List ℕ) → ReadBack mb s bs → List ℕ
-leftOf mb s bs back = remaining (back .map) s .lines
 
 -- What was written is read. Demand 3 over the definitions holds of the bytes; the reader's call is one of the definitions; and with a long enough buffer,
 -- four bytes a line, it answers the lines left, in order, and the spans of demand 3.

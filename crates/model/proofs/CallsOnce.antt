@@ -13,7 +13,7 @@ use Rattle.model.specs.declared.WriteAnswer.{WriteAnswer}
 use Rattle.model.specs.Refusal.{numberOf, placeOf, refusalOf}
 use Rattle.model.specs.Stretch.{Stretch}
 use Rattle.model.specs.Work.{workLength}
-use Rattle.model.specs.Outcome.{ReadOutcome, Reads, WriteOutcome, Writes}
+use Rattle.model.specs.Outcome.{ReadOutcome, WriteOutcome}
 use Rattle.model.specs.Call.{ReadAnswers, WriteAnswers, Answered, Called, ReadCall, WriteCall}
 use Rattle.model.specs.Host.{hostStretch, hostRoom, HostRead, hostRead, HostReadCall, HostWritten, hostWritten, HostWriteCall}
 use Rattle.model.proofs.Once.{reads-once, writes-once}

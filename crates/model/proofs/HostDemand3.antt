@@ -5,12 +5,11 @@ use mathlib.Core.List.{List}
 use native.Mathlib.Omega.{arith}
 use lib.ListN.{length, take, drop}
 use lib.Seq.{take-at}
-use Rattle.model.specs.Refusal.{numberOf}
 use Rattle.model.specs.Map.{Map}
 use Rattle.model.specs.Stretch.{Stretch, remaining, greatestStretch}
 use Rattle.model.specs.Outcome.{read, WriteOutcome, written, Writes}
 use Rattle.model.specs.Work.{workLength, placed}
-use Rattle.model.specs.Host.{greatestHostLines, wordBytes, hostStretch, hostRoom, HostRead, hostRead, hostLinesAfter, HostReadCall, HostWritten, hostWritten, hostBytesAfter, HostWriteCall}
+use Rattle.model.specs.Host.{greatestHostLines, wordBytes, hostStretch, hostRoom, hostRead, hostLinesAfter, HostReadCall, HostWritten, hostWritten, hostBytesAfter, HostWriteCall}
 use Rattle.model.specs.Demand3.{ReadBack}
 use Rattle.model.specs.HostDemand3.{HostReadAs, HostBack, HostDemand3}
 use Rattle.model.proofs.Rows.{no-write-refusal-is-0}

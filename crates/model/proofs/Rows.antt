@@ -15,7 +15,7 @@ use Rattle.model.specs.Reference.{Reference, ParseAnswer, parsed, parse,
 use Rattle.model.specs.Reading.{Leg}
 use Rattle.model.specs.Opening.{OnMap, OnArea, Opens}
 use Rattle.model.specs.Work.{workLength}
-use Rattle.model.specs.Outcome.{LegsAnswer, every, failed, LegsRead, ReadOutcome, ReadEnd, ReadOn, ReadParsed, Reads, WriteOutcome, WriteOn, WriteStretch, Writes}
+use Rattle.model.specs.Outcome.{failed, LegsRead, ReadOutcome, ReadEnd, ReadOn, ReadParsed, Reads, WriteOutcome, WriteOn, WriteStretch, Writes}
 
 -- A refusal with one of the numbers from `low` to `high`.
 pub record From (low high : ℕ) (r : Refused) : Type 0 where

@@ -1,11 +1,11 @@
 -- Worked cases that tell the definitions from near misses which every other theorem lets pass.
 use Prim.Native.Nat.{ℕ}
 use mathlib.Core.Path.{_≡_, refl}
-use mathlib.Core.List.{List, [], _∷_, _++_, map}
+use mathlib.Core.List.{List, [], _∷_, map}
 use native.Mathlib.Omega.{arith}
 use lib.ListN.{replicate}
 use Rattle.model.specs.Map.{Map, MapAnswer, whole, decode}
-use Rattle.model.specs.Stretch.{Stretch, StretchAnswer, checkStretch, stretchOf}
+use Rattle.model.specs.Stretch.{StretchAnswer, checkStretch, stretchOf}
 use Rattle.model.specs.Reference.{absent, byte, Reference}
 use Rattle.model.specs.Reading.{any, Leg, Allowed, Only, Unread}
 use Rattle.model.specs.Refusal.{row, rowAt}
