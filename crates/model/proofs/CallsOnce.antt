@@ -110,4 +110,5 @@ host-read-once {mb} {ref} {before} c d =
 pub host-write-once : {mb stretch : List ℕ} {pos neg : ℕ} {before : List ℕ} {a b : HostWritten} {after after′ : List ℕ} →
     HostWriteCall mb stretch pos neg before a after → HostWriteCall mb stretch pos neg before b after′ → (a ≡ b) × (after ≡ after′)
 host-write-once {mb} {stretch} {pos} {neg} {before} c d =
-    answered-once (λ o o′. writes-once mb (hostStretch stretch pos neg) (length before) {o = o} {o′ = o′} workLength) (given-told hostWritten) (c .answered) (d .answered)
+    answered-once (λ o o′. writes-once mb (hostStretch stretch pos neg) (length before) {o = o} {o′ = o′} workLength) (given-told hostWritten) (c .answered)
+    (d .answered)

@@ -78,7 +78,8 @@ module _ (mb : List ℕ) (s : Stretch) (before after : List ℕ) (a : HostWritte
 pub host-wrote : {mb stretch : List ℕ} {pos neg : ℕ} {before after : List ℕ} {a : HostWritten} → HostWriteCall mb stretch pos neg before a after →
     a .refusal ≡ 0 → HostWrote mb (hostStretch stretch pos neg) before after (a .bytes)
 host-wrote {mb} {stretch} {pos} {neg} {before} {after} {a} c zero =
-    by-outcome mb (hostStretch stretch pos neg) before after a zero (c .answered .outcome) (c .answered .asked) (c .answered .answers) (c .answered .buffer-after)
+    by-outcome mb (hostStretch stretch pos neg) before after a zero (c .answered .outcome) (c .answered .asked) (c .answered .answers)
+    (c .answered .buffer-after)
 
 pub host-demand3 : HostDemand3
 host-demand3 =

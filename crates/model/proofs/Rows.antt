@@ -182,7 +182,8 @@ read-same r s e = cc
 write-same : (r s : Refused) → WriteOutcome.refused r ≡ WriteOutcome.refused s → r ≡ s
 write-same r s e = cc
 
-parsed-rows : (m : Map) (ref : List ℕ) (a : ParseAnswer) (room : ℕ) (why : Refused) → parse ref ≡ a → ReadParsed m a room (ReadOutcome.refused why) → From 1 20 why
+parsed-rows : (m : Map) (ref : List ℕ) (a : ParseAnswer) (room : ℕ) (why : Refused) → parse ref ≡ a →
+    ReadParsed m a room (ReadOutcome.refused why) → From 1 20 why
 parsed-rows m ref (parsed r) room why e h = wider (omega arith) (omega arith) (read-on-rows h)
 parsed-rows m ref (ParseAnswer.refused r) room why e h = rw (read-same why r h) (wider (omega arith) (omega arith) (parse-rows ref r e))
 
@@ -194,7 +195,8 @@ left-rows m s (StretchAnswer.refused r) room why e h = rw (write-same why r h) (
 -- The reader's refusals have the numbers 1 to 20, the writer's 1 to 11.
 pub read-rows : (mb ref : List ℕ) (work room : ℕ) (why : Refused) → Reads mb ref work room (ReadOutcome.refused why) → From 1 20 why
 read-rows mb ref work room why h =
-    opens-rows ReadOutcome.refused read-same (λ m. ReadParsed m (parse ref) room) 20 why (λ m. parsed-rows m ref (parse ref) room why refl) (omega arith) mb work h
+    opens-rows ReadOutcome.refused read-same (λ m. ReadParsed m (parse ref) room) 20 why (λ m. parsed-rows m ref (parse ref) room why refl)
+    (omega arith) mb work h
 
 pub write-rows : (mb : List ℕ) (s : Stretch) (work room : ℕ) (why : Refused) → Writes mb s work room (WriteOutcome.refused why) → From 1 11 why
 write-rows mb s work room why h =
@@ -205,5 +207,6 @@ write-rows mb s work room why h =
 pub no-read-refusal-is-0 : (mb ref : List ℕ) (work room : ℕ) (why : Refused) → Reads mb ref work room (ReadOutcome.refused why) → numberOf why ≡ 0 → ⊥
 no-read-refusal-is-0 mb ref work room why h e = omega (arith, read-rows mb ref work room why h .least)
 
-pub no-write-refusal-is-0 : (mb : List ℕ) (s : Stretch) (work room : ℕ) (why : Refused) → Writes mb s work room (WriteOutcome.refused why) → numberOf why ≡ 0 → ⊥
+pub no-write-refusal-is-0 : (mb : List ℕ) (s : Stretch) (work room : ℕ) (why : Refused) → Writes mb s work room (WriteOutcome.refused why) →
+    numberOf why ≡ 0 → ⊥
 no-write-refusal-is-0 mb s work room why h e = omega (arith, write-rows mb s work room why h .least)

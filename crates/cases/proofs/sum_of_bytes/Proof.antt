@@ -36,10 +36,14 @@ loop-less : tie.Need-loop-less Inv-loop μ-loop
 loop-less c = search needs
 
 loop-again : tie.Need-loop-again Inv-loop μ-loop
-loop-again c = (omega arith, c .added .ensures .1, one-more _ _ _ _ _ (c .before .before .before .before .loop .inv .2) (omega arith) (c .added .ensures .0 ∙ ap (addedTo _) (c .before .wide .ensures .0)))
+loop-again c =
+    let step = c .added .ensures .0 ∙ ap (addedTo _) (c .before .wide .ensures .0) in
+    (omega arith, c .added .ensures .1, one-more _ _ _ _ _ (c .before .before .before .before .loop .inv .2) (omega arith) step)
 
 returns : tie.Need-returns Inv-loop μ-loop
-returns c = let n : c .before .before .before .args .to - 0 ≡ c .before .before .before .args .to = omega arith in (rw n at (no-more _ _ _ _ _ (c .before .loop .inv .2) (omega arith)), c .before .loop .inv .1)
+returns c =
+    let n : c .before .before .before .args .to - 0 ≡ c .before .before .before .args .to = omega arith in
+    (rw n at (no-more _ _ _ _ _ (c .before .loop .inv .2) (omega arith)), c .before .loop .inv .1)
 
 pub sum-of-bytes-spec : {M : Type 1} → statement M
 sum-of-bytes-spec =

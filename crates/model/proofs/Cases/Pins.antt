@@ -65,7 +65,7 @@ last-class = unread uneven (legTo 0 2 3 3) refl (λ r. omega (arith, r .allowed 
 
 -- ---- by computation
 
--- Points 1 at node 1 with a D that no line gives, and 2 at no node.
+-- Point 1 stands at node 1, and the leg to it has a D that no line gives; point 2 stands at no node.
 abbrev lost : Reference
 lost =
     record {
@@ -95,6 +95,7 @@ pub record Pins : Type 0 where
   -- A map of three nodes and two lines has no line 2, wherever it stands in the stretch.
   pub no-line-2 : map (checkStretch long) (stretchOf (2 ∷ []) 0 0 ∷ stretchOf (2 ∷ 0 ∷ []) 0 0 ∷ stretchOf (0 ∷ 2 ∷ 1 ∷ []) 0 0 ∷ []) ≡
       replicate 3 (StretchAnswer.refused (row 7))
+  -- FRC 0, FOW 0 and bearings of 0 are in their ranges.
   pub lowest-values : decode (2 ∷ 0 ∷ 0 ∷ 100 ∷ 0 ∷ 1 ∷ 0 ∷ 1 ∷ 10 ∷ 0 ∷ 0 ∷ 0 ∷ 0 ∷ []) ≡
       whole
       (record {
