@@ -151,7 +151,7 @@ def packed_calls(calls, subject, numbers, row):
 
 def test_reads():
     """The subject is a reference; the numbers are the lengths of the work area and of the line buffer."""
-    calls = [*on_small_maps(read_cases, 2_960), *full_map_reads(maps=10, references=40)]
+    calls = [*on_small_maps(read_cases, 3_040), *full_map_reads(maps=10, references=40)]
     return packed_calls(calls, lambda given: given.reference,
                         lambda given: [given.work_length, given.line_room], read_row)
 

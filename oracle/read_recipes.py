@@ -280,6 +280,20 @@ def leg_without_reading(rng, turn):
             ReadInput(map_to_bytes(depot_map), replaced(reference, d_position, b"\x01")))
 
 
+def no_node_after_failed_leg(rng, turn):
+    """A leg without exactly one reading, and a later point with no node: every point is asked before any leg."""
+    leg_count = rng.randrange(2, 8)
+    wrong = [0, leg_count - 2, rng.randrange(leg_count - 1)][turn % 3]
+    depot_map, legs = chain_of_ties(leg_count, (wrong,) if turn % 2 else ())
+    reference = bytes_of_legs(depot_map, legs)
+    positions = p_byte_positions(len(reference))
+    if turn % 2 == 0:
+        reference = replaced(reference, positions[wrong] + 2, b"\x01")
+    point = rng.randrange(wrong + 2, leg_count + 1)
+    return (f"leg {wrong} and point {point} of {leg_count} legs",
+            ReadInput(map_to_bytes(depot_map), replaced(reference, positions[point] - 4, b"\x7f\xff")))
+
+
 def row_of_lines(lengths):
     builder = MapBuilder()
     nodes = builder.row_of_nodes(len(lengths) + 1)
@@ -348,6 +362,7 @@ READ_RECIPES = {
     "refusal 16": damaged_reference(16),
     "refusal 16, point 0 of 65": longest_reference_damaged(16, 0),
     "refusal 16, point 64 of 65": longest_reference_damaged(16, 64),
+    "refusal 16, after a leg with no reading or several": no_node_after_failed_leg,
     "refusal 17, leg 0 of 64": longest_reference_damaged(17, 0),
     "refusal 17, leg 63 of 64": longest_reference_damaged(17, 63),
     "refusal 17, by marks": damaged_reference(17),

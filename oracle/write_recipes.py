@@ -139,10 +139,28 @@ def no_such_lines(rng, turn):
     details = [
         ("no lines", ()), ("65 lines", around), ("65 lines that do not join", (0,) * 65),
         ("first line unknown", (unknown,) + start), ("last line unknown", start + (unknown,)),
-        ("only line unknown", (LARGEST_NUMBER,)), ("unknown line after a gap", (0, 0, unknown))]
-    detail, lines = details[turn % len(details)]
+        ("only line unknown", (LARGEST_NUMBER,)), ("unknown line after a gap", (0, 0, unknown)),
+        ("65 lines, and an offset that leaves fewer", around), ("line unknown, but not the node of its number", ())]
+    which = turn % len(details)
+    detail, lines = details[which]
+    if which == 7:
+        # The stretch is refused as it is given.
+        skipped = list_length(sample.depot_map, around[:rng.choice([1, 2, MOST_STRETCH_LINES])])
+        pos, neg = ((skipped, 0), (0, skipped))[rng.randrange(2)]
+        return detail, WriteInput(map_to_bytes(sample.depot_map), lines, pos, neg)
+    if which == 8:
+        return detail, line_of_a_node(rng)
     # Offsets that are too large do not count yet.
     return detail, WriteInput(map_to_bytes(sample.depot_map), lines, pos=LARGEST_NUMBER * (turn % 2))
+
+
+def line_of_a_node(rng):
+    """A line number that no line has and a node has: there are more nodes than lines."""
+    builder = MapBuilder()
+    nodes = builder.row_of_nodes(rng.randrange(3, 7))
+    known = tuple(builder.line(start, end, 1_000) for start, end in zip(nodes, nodes[1:-1]))
+    unknown = rng.randrange(len(known), len(nodes))
+    return WriteInput(map_to_bytes(builder.build()), rng.choice([(unknown,), known + (unknown,)]))
 
 
 def broken_joint(rng, turn):

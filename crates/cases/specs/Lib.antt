@@ -1,2 +1,3 @@
--- What the parts of a file of cases are.
+-- What the parts of a file of cases are, and the sum over some numbers.
 pub mod Part
+pub mod Sum

@@ -3,9 +3,10 @@
 use buffers::bytes::wide;
 use buffers::words;
 ghost use mathlib.Core.Path.{_≡_};
-ghost use Prim.Native.Nat.{_+_, _*_, _≤_, _<_};
+ghost use Prim.Native.Nat.{_+_, _*_, _-_, _≤_, _<_};
 ghost use lib.ListN.{length};
 ghost use Rattle.cases.specs.Part.{PartIs, wordAt};
+ghost use Rattle.cases.specs.Sum.{modulus, addedTo, sumFrom};
 
 // Room for a file of cases. A literal of this size in `main` itself is too large for the checker.
 pub fn megabyte() -> [u8; 1048576]
@@ -53,16 +54,16 @@ pub fn word_at(bytes: &[u8], at: usize) -> u32
 
 // A sum that tells the numbers and their order: each step takes 257 times the sum so far and adds the number, by the greatest prime below 2^32.
 fn added(sum: u64, x: u32) -> u64
-    requires { ⌜ sum < 4_294_967_291 ⌝ }
-    ensures { λ r. ⌜ r < 4_294_967_291 ⌝ }
+    requires { ⌜ sum < modulus ⌝ }
+    ensures { λ r. ⌜ (r ≡ addedTo sum x) × (r < modulus) ⌝ }
 {
     (sum * 257 + x as u64) % 4_294_967_291
 }
 
 // The sum over the numbers from `from` up to `to`, on top of `sum`.
 pub fn sum_of(numbers: &[u32], from: usize, to: usize, sum: u64) -> u64
-    requires { ⌜ (from ≤ to) × (to ≤ length (now numbers)) × (sum < 4_294_967_291) ⌝ }
-    ensures { λ r. ⌜ r < 4_294_967_291 ⌝ }
+    requires { ⌜ (from ≤ to) × (to ≤ length (now numbers)) × (sum < modulus) ⌝ }
+    ensures { λ r. ⌜ (r ≡ sumFrom (now (numbers .entry)) from (to - from) sum) × (r < modulus) ⌝ }
 {
     let mut total = sum;
     let mut i = from;
@@ -76,7 +77,7 @@ pub fn sum_of(numbers: &[u32], from: usize, to: usize, sum: u64) -> u64
 // The sum over the first `to` bytes.
 pub fn sum_of_bytes(bytes: &[u8], to: usize) -> u64
     requires { ⌜ to ≤ length (now bytes) ⌝ }
-    ensures { λ r. ⌜ r < 4_294_967_291 ⌝ }
+    ensures { λ r. ⌜ (r ≡ sumFrom (now (bytes .entry)) 0 to 0) × (r < modulus) ⌝ }
 {
     let mut total: u64 = 0;
     let mut i: usize = 0;

@@ -21,6 +21,7 @@ pub mod Readings
 pub mod Conditions
 pub mod Choices
 pub mod Usable
+pub mod Pins
 pub mod WrongWays
 pub mod WrongChoices
 pub mod WrongMaps

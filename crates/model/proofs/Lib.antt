@@ -5,6 +5,7 @@ pub mod Differences
 pub mod Decoded
 pub mod Nodes
 pub mod Numbers
+pub mod Cut
 pub mod Spans
 pub mod Legs
 pub mod Skipping
@@ -16,8 +17,11 @@ pub mod Composed
 pub mod Outcomes
 pub mod Cleared
 pub mod Opened
+pub mod Rows
 pub mod Once
 pub mod Calls
 pub mod Answering
 pub mod Demand3
+pub mod CallsOnce
+pub mod HostDemand3
 pub mod Cases

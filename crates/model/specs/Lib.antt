@@ -18,3 +18,4 @@ pub mod Outcome
 pub mod Call
 pub mod Host
 pub mod Demand3
+pub mod HostDemand3

@@ -40,7 +40,7 @@ pub fn write_and_read(
 }
 
 // Whether two byte lists are the same.
-fn same_bytes(one: &[u8], other: &[u8]) -> bool
+pub fn same_bytes(one: &[u8], other: &[u8]) -> bool
     ensures { λ r. ⌜ Decides (now (one .entry) ≡ now (other .entry)) r ⌝ }
 {
     let n = one.len();

@@ -32,7 +32,7 @@ abbrev stretch : List ℕ → ℕ → ℕ → Stretch
 stretch lines pos neg = record { lines = lines; pos = pos; neg = neg }
 
 -- To and fro so many times.
-abbrev laps : ℕ → List ℕ
+abbrev pub laps : ℕ → List ℕ
 laps zero = []
 laps (suc n) = 0 ∷ 1 ∷ laps n
 

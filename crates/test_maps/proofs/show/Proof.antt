@@ -65,7 +65,7 @@ add-sum-of c = search needs
 sum-of-requires-2 : tie.Need-sum-of-requires-2
 sum-of-requires-2 c κs =
     let w = read-whole (c .before .before .before .before .before .before .before .before .before .before .before .before .before .read-map .ensures) (c .before .before .before .before .before .before .before .before .before .nodes .given .1) in
-    omega (arith, counts (w .held), c .before .before .before .before .before .before .sum-of .ensures)
+    omega (arith, counts (w .held), c .before .before .before .before .before .before .sum-of .ensures .1)
 
 print-requires-3 : tie.Need-print-requires-3
 print-requires-3 c κs = search needs

@@ -1,0 +1,2 @@
+-- What the loops over the numbers of a sum need.
+pub mod Sums

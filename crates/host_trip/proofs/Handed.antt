@@ -1,0 +1,57 @@
+-- What a C program wrote and then read, from demand 3 for a C host and the contracts of the two functions.
+use Prim.Native.Nat.{ℕ, _≤_}
+use mathlib.Core.Path.{_≡_, refl, ap, subst}
+use mathlib.Core.Logic.{_≢_}
+use mathlib.Core.List.{List}
+use native.Mathlib.Omega.{arith}
+use lib.ListN.{length, take, drop, length-append}
+use Rattle.model.specs.Outcome.{WriteOutcome, written}
+use Rattle.model.specs.Work.{placed}
+use Rattle.model.specs.Host.{hostStretch, HostRead, HostReadCall, HostWritten, hostWritten, hostBytesAfter, HostWriteCall}
+use Rattle.model.specs.Demand3.{Alike}
+use Rattle.model.specs.HostDemand3.{HostBack}
+use Rattle.model.proofs.HostDemand3.{host-wrote, host-demand3}
+use Rattle.openlr.specs.Host.{asWritten}
+use Rattle.openlr.specs.declared.Written.{Written}
+use Rattle.host_trip.specs.Trip.{HandedBack, Wrote, NotWritten}
+
+-- ---- the writer's answer, by its refusal
+
+module _ {mb stretch : List ℕ} {pos neg : ℕ} {b b′ : List ℕ} (r : Written) (call : HostWriteCall mb stretch pos neg b (asWritten r) b′) where
+  pub wrote : r .refusal ≡ 0 → Wrote mb stretch pos neg b b′ (r .bytes)
+  unfolding asWritten
+  wrote zero = subst (λ (n : ℕ). HostWriteCall mb stretch pos neg b (record { refusal = n; bytes = r .bytes }) b′) zero call
+
+  nothing-written : r .refusal ≢ 0 → (o : WriteOutcome) → asWritten r ≡ hostWritten o → b′ ≡ hostBytesAfter o b → (r .bytes ≡ 0) × (b′ ≡ b)
+  unfolding asWritten hostWritten hostBytesAfter
+  nothing-written some (written bs) e f = absurd (some (ap (λ (x : HostWritten). x .refusal) e))
+  nothing-written some (WriteOutcome.refused why) e f = (ap (λ (x : HostWritten). x .bytes) e, f)
+
+  pub not-written : r .refusal ≢ 0 → NotWritten mb stretch pos neg b b′ (r .refusal)
+  unfolding asWritten
+  not-written some =
+      let k = nothing-written some (call .answered .outcome) (call .answered .answers) (call .answered .buffer-after) in (
+        subst (λ (n : ℕ). HostWriteCall mb stretch pos neg b (record { refusal = r .refusal; bytes = n }) b′) (k .0) call,
+        some,
+        k .1,
+      )
+
+-- ---- what was written is read
+
+module _ {mb stretch : List ℕ} {pos neg : ℕ} {b b′ : List ℕ} {count : ℕ} (k : Wrote mb stretch pos neg b b′ count) where
+  pub bytes-fit : length b′ ≡ length b → count ≤ length b′
+  unfolding placed
+  bytes-fit same =
+      let w = host-wrote k refl in
+      omega (arith, same, w .size, ap (λ (l : List ℕ). length l) (w .placed-so), length-append (w .list) (drop (length (w .list)) b))
+
+  pub handed-back : {l l′ : List ℕ} {a : HostRead} (bs : List ℕ) → bs ≡ take count b′ → HostReadCall mb bs l a l′ →
+      HandedBack mb (hostStretch stretch pos neg) bs l l′ a
+  handed-back {l} {l′} {a} bs e call =
+      let h : HostBack mb (hostStretch stretch pos neg) bs = rw e (host-demand3 .back mb stretch pos neg b b′ (record { refusal = 0; bytes = count }) k refl) in
+      record { back = h .back; call = call; accepts = λ enough. h .reads .nothing-else l l′ a enough call }
+
+-- Two stretches with the same bytes.
+pub alike : {mb s t : List ℕ} {pos neg pos′ neg′ : ℕ} {b b′ o o′ : List ℕ} {count size : ℕ} → Wrote mb s pos neg b b′ count → Wrote mb t pos′ neg′ o o′ size →
+    take count b′ ≡ take size o′ → Alike mb (take count b′) (hostStretch s pos neg) (hostStretch t pos′ neg′)
+alike k j e = host-demand3 .alike _ _ _ _ _ _ _ _ _ _ _ _ _ k j refl refl e

@@ -1,0 +1,189 @@
+-- What stands behind the longest map, or the longest reference, does not count: bytes that are cut behind it are answered as the whole.
+use Prim.Native.Nat.{ℕ, zero, suc, _+_, _*_, _-_, _≤_, _<_, _^_}
+use mathlib.Core.Path.{_≡_, refl, sym, ap, _∙_}
+use mathlib.Core.Bool.{Bool, true, false, cond, _&&_, _||_, not}
+use mathlib.Core.List.{List, [], _∷_, _++_}
+use native.Mathlib.Omega.{arith}
+use lib.ListN.{length, take, drop}
+use lib.Seq.{take-all, length-take-le}
+use lib.Dec.{leb, ltb, eqb}
+use borrow.Author.Tests.{leb-true, ltb-true, ltb-false, lt-ltb, le-ltb}
+use Rattle.model.specs.Number.{Number, got, faulty, groups, number}
+use Rattle.model.specs.Refusal.{Refused, row}
+use Rattle.model.specs.Map.{Node, Line, MapAnswer, greatestNodeCount, greatestLineCount, greatestLineLength, field, ended, readLine, decodeLines, readNode, decodeNodes, decode}
+use Rattle.model.specs.Reference.{ParseAnswer, parse, shortestReference, longestReference}
+use Rattle.model.proofs.Tests.{both}
+
+-- ---- a number takes five bytes at most, and those behind it follow it
+
+abbrev onto : List ℕ → Number → Number
+onto more (got x rest) = got x (rest ++ more)
+onto more faulty = faulty
+
+module _ (more : List ℕ) where
+  groups-more : (most weight value : ℕ) (bs : List ℕ) → most ≤ length bs → groups most weight value (bs ++ more) ≡ onto more (groups most weight value bs)
+  unfolding groups
+  groups-more zero weight value bs h = refl
+  groups-more (suc most) weight value [] h = absurd (omega arith)
+  groups-more (suc most) weight value (b ∷ bs) h = go (ltb b 128) (groups-more most (weight * 128) (value + (b - 128) * weight) bs (omega arith))
+    where
+      last : (s t : Bool) → cond s (cond t (got (value + b * weight) (bs ++ more)) faulty) faulty ≡
+          onto more (cond s (cond t (got (value + b * weight) bs) faulty) faulty)
+      last true true = refl
+      last true false = refl
+      last false t = refl
+
+      go : (t : Bool) →
+          groups most (weight * 128) (value + (b - 128) * weight) (bs ++ more) ≡ onto more (groups most (weight * 128) (value + (b - 128) * weight) bs) →
+          elim t [
+            | true ↦ cond (not (eqb b 0) || eqb weight 1) (cond (ltb (value + b * weight) (2 ^ 32)) (got (value + b * weight) (bs ++ more)) faulty) faulty
+            | false ↦ groups most (weight * 128) (value + (b - 128) * weight) (bs ++ more)
+          ] ≡
+          onto more
+          (elim t [
+            | true ↦ cond (not (eqb b 0) || eqb weight 1) (cond (ltb (value + b * weight) (2 ^ 32)) (got (value + b * weight) bs) faulty) faulty
+            | false ↦ groups most (weight * 128) (value + (b - 128) * weight) bs
+          ])
+      go true later = last (not (eqb b 0) || eqb weight 1) (ltb (value + b * weight) (2 ^ 32))
+      go false later = later
+
+  number-more : (bs : List ℕ) → 5 ≤ length bs → number (bs ++ more) ≡ onto more (number bs)
+  unfolding number
+  number-more bs h = groups-more 5 1 0 bs h
+
+not-got : {x : ℕ} {rest : List ℕ} → faulty ≡ got x rest → ⊥
+not-got e = let z : _≡_ {A = ℕ} 0 1 = cc in omega arith
+
+groups-few : (most weight value : ℕ) (bs : List ℕ) (x : ℕ) (rest : List ℕ) → groups most weight value bs ≡ got x rest → length bs ≤ length rest + most
+unfolding groups
+groups-few zero weight value bs x rest e = absurd (not-got e)
+groups-few (suc most) weight value [] x rest e = absurd (not-got e)
+groups-few (suc most) weight value (b ∷ bs) x rest e =
+    go (ltb b 128) e (groups-few most (weight * 128) (value + (b - 128) * weight) bs x rest)
+  where
+    last : (s t : Bool) → cond s (cond t (got (value + b * weight) bs) faulty) faulty ≡ got x rest → suc (length bs) ≤ length rest + suc most
+    last true true e = let same : bs ≡ rest = cc in omega (arith, ap length same)
+    last true false e = absurd (not-got e)
+    last false t e = absurd (not-got e)
+
+    go : (t : Bool) →
+        elim t [
+          | true ↦
+              cond (not (eqb b 0) || eqb weight 1) (cond (ltb (value + b * weight) (2 ^ 32)) (got (value + b * weight) bs) faulty) faulty
+          | false ↦ groups most (weight * 128) (value + (b - 128) * weight) bs
+        ] ≡ got x rest →
+        (groups most (weight * 128) (value + (b - 128) * weight) bs ≡ got x rest → length bs ≤ length rest + most) →
+        suc (length bs) ≤ length rest + suc most
+    go true e later = last (not (eqb b 0) || eqb weight 1) (ltb (value + b * weight) (2 ^ 32)) e
+    go false e later = let h = later e in omega arith
+
+number-few : (bs : List ℕ) (x : ℕ) (rest : List ℕ) → number bs ≡ got x rest → length bs ≤ length rest + 5
+unfolding number
+number-few bs x rest e = groups-few 5 1 0 bs x rest e
+
+-- ---- a map, number by number: with enough bytes, those behind do not count
+
+-- What `field` does with a number, by itself.
+abbrev tested : Bool → MapAnswer → MapAnswer → MapAnswer
+tested t a b = elim t [ true ↦ a | false ↦ b ]
+
+abbrev next : ℕ → ℕ → Refused → (ℕ → List ℕ → MapAnswer) → Number → MapAnswer
+next low high n rest a =
+    elim a [
+      | got x after ↦ elim (leb low x && leb x high) [ true ↦ rest x after | false ↦ MapAnswer.refused n ]
+      | faulty ↦ MapAnswer.refused (row 2)
+    ]
+
+module _ (more : List ℕ) where
+  field-more : (bs : List ℕ) (low high : ℕ) (n : Refused) (rest : ℕ → List ℕ → MapAnswer) (k : ℕ) → k + 5 ≤ length bs →
+      ((x : ℕ) (after : List ℕ) → x ≤ high → k ≤ length after → rest x (after ++ more) ≡ rest x after) →
+      field (bs ++ more) low high n rest ≡ field bs low high n rest
+  unfolding field
+  field-more bs low high n rest k h later = ap (next low high n rest) (number-more more bs (omega arith)) ∙ go (number bs) refl
+    where
+      ranged : (x : ℕ) (after : List ℕ) → number bs ≡ got x after → (t : Bool) → (leb low x && leb x high) ≡ t →
+          tested t (rest x (after ++ more)) (MapAnswer.refused n) ≡ tested t (rest x after) (MapAnswer.refused n)
+      ranged x after f true t = later x after (leb-true x high (both (leb low x) (leb x high) t .1)) (omega (arith, number-few bs x after f))
+      ranged x after f false t = refl
+
+      go : (a : Number) → number bs ≡ a → next low high n rest (onto more a) ≡ next low high n rest a
+      go (got x after) f = ranged x after f (leb low x && leb x high) refl
+      go faulty f = refl
+
+  line-more : (last : ℕ) (bs : List ℕ) (rest : Line → List ℕ → MapAnswer) (k : ℕ) → k + 35 ≤ length bs →
+      ((l : Line) (after : List ℕ) → k ≤ length after → rest l (after ++ more) ≡ rest l after) → readLine last (bs ++ more) rest ≡ readLine last bs rest
+  unfolding readLine
+  line-more last bs rest k h later =
+      field-more bs 0 last (row 5) _ (k + 30) (omega arith) λ start bs₁ _ h₁.
+      field-more bs₁ 0 last (row 5) _ (k + 25) (omega arith) λ end bs₂ _ h₂.
+      differ (eqb start end)
+      (field-more bs₂ 1 greatestLineLength (row 5) _ (k + 20) (omega arith) λ len bs₃ _ h₃.
+      field-more bs₃ 0 7 (row 5) _ (k + 15) (omega arith) λ frc bs₄ _ h₄.
+      field-more bs₄ 0 7 (row 5) _ (k + 10) (omega arith) λ fow bs₅ _ h₅.
+      field-more bs₅ 0 359 (row 5) _ (k + 5) (omega arith) λ out bs₆ _ h₆.
+      field-more bs₆ 0 359 (row 5) _ k (omega arith) λ back bs₇ _ h₇. later _ bs₇ h₇)
+    where
+      differ : (t : Bool) {a b : MapAnswer} → a ≡ b → tested t (MapAnswer.refused (row 5)) a ≡ tested t (MapAnswer.refused (row 5)) b
+      differ true e = refl
+      differ false e = e
+
+  ended-more : (bs : List ℕ) (nodes : List Node) (lines : List Line) → 1 ≤ length bs → ended (bs ++ more) nodes lines ≡ ended bs nodes lines
+  unfolding ended
+  ended-more [] nodes lines h = absurd (omega arith)
+  ended-more (b ∷ bs) nodes lines h = refl
+
+  lines-more : (left : ℕ) (bs : List ℕ) (nodes : List Node) (lines : List Line) → left * 35 + 1 ≤ length bs →
+      decodeLines left (bs ++ more) nodes lines ≡ decodeLines left bs nodes lines
+  unfolding decodeLines
+  lines-more zero bs nodes lines h = ended-more bs nodes lines (omega arith)
+  lines-more (suc left) bs nodes lines h =
+      line-more (length nodes - 1) bs _ (left * 35 + 1) (omega arith) λ line after h′. lines-more left after nodes (lines ++ line ∷ []) h′
+
+  nodes-more : (left : ℕ) (bs : List ℕ) (nodes : List Node) → left * 10 + 35_846 ≤ length bs → decodeNodes left (bs ++ more) nodes ≡ decodeNodes left bs nodes
+  unfolding decodeNodes readNode
+  nodes-more zero bs nodes h =
+      field-more bs 1 greatestLineCount (row 3) _ 35_841 (omega arith) λ count bs₁ few h₁. lines-more count bs₁ nodes [] (omega arith)
+  nodes-more (suc left) bs nodes h =
+      field-more bs 0 35_999_998 (row 4) _ (left * 10 + 35_851) (omega arith) λ lon bs₁ _ h₁.
+      field-more bs₁ 0 18_000_000 (row 4) _ (left * 10 + 35_846) (omega arith) λ lat bs₂ _ h₂.
+      nodes-more left bs₂ (nodes ++ record { lon = lon; lat = lat } ∷ []) h₂
+
+-- Five bytes to each of 1 + 512 × 2 + 1 + 1,024 × 7 numbers: no map has more bytes.
+abbrev pub mapBytesAtMost : ℕ
+mapBytesAtMost = 40_970
+
+decode-more : (bs more : List ℕ) → mapBytesAtMost < length bs → decode (bs ++ more) ≡ decode bs
+unfolding decode
+decode-more bs more h =
+    field-more more bs 2 greatestNodeCount (row 3) _ 40_966 (omega arith) λ count bs₁ few h₁. nodes-more more count bs₁ [] (omega arith)
+
+-- ---- the cut
+
+put-together : (n : ℕ) (l : List ℕ) → take n l ++ drop n l ≡ l
+put-together zero l = refl
+put-together (suc n) [] = refl
+put-together (suc n) (x ∷ l) = ap (λ (t : List ℕ). x ∷ t) (put-together n l)
+
+-- Map bytes that are cut at any limit above that are answered as the whole.
+pub map-cut : (limit : ℕ) (bs : List ℕ) → mapBytesAtMost < limit → decode (take limit bs) ≡ decode bs
+map-cut limit bs h = go (ltb (length bs) limit) refl
+  where
+    go : (t : Bool) → ltb (length bs) limit ≡ t → decode (take limit bs) ≡ decode bs
+    go true t = ap decode (take-all limit bs (omega (arith, ltb-true (length bs) limit t)))
+    go false t =
+        let long : limit ≤ length bs = ltb-false (length bs) limit t in
+        sym (decode-more (take limit bs) (drop limit bs) (omega (arith, length-take-le limit bs long))) ∙ ap decode (put-together limit bs)
+
+-- And so are the bytes of a reference that are cut at any limit above 459: both are too long.
+too-long : (bs : List ℕ) → longestReference < length bs → parse bs ≡ ParseAnswer.refused (row 12)
+unfolding parse
+too-long bs h = rw (le-ltb (length bs) shortestReference (omega arith), lt-ltb longestReference (length bs) h) refl
+
+pub reference-cut : (limit : ℕ) (bs : List ℕ) → longestReference < limit → parse (take limit bs) ≡ parse bs
+reference-cut limit bs h = go (ltb (length bs) limit) refl
+  where
+    go : (t : Bool) → ltb (length bs) limit ≡ t → parse (take limit bs) ≡ parse bs
+    go true t = ap parse (take-all limit bs (omega (arith, ltb-true (length bs) limit t)))
+    go false t =
+        let long : limit ≤ length bs = ltb-false (length bs) limit t in
+        too-long (take limit bs) (omega (arith, length-take-le limit bs long)) ∙ sym (too-long bs (omega (arith, h, long)))
