@@ -19,5 +19,6 @@ pub mod Opened
 pub mod Once
 pub mod Calls
 pub mod Answering
+pub mod Text
 pub mod Demand3
 pub mod Cases

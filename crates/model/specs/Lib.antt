@@ -16,5 +16,6 @@ pub mod Work
 pub mod Opening
 pub mod Outcome
 pub mod Call
+pub mod Text
 pub mod Host
 pub mod Demand3
