@@ -1,7 +1,7 @@
 -- Laws of the text that the program prints: digits read back give the number, so that no two numbers print alike; how long a text is at most; and an answer
 -- and the line buffer tell the outcome of the call.
 use Prim.Native.Nat.{ℕ, zero, suc, _+_, _*_, _-_, _/_, _%_, _^_, _≤_, _<_}
-use mathlib.Core.Path.{_≡_, refl, sym, _∙_, ap, ap₂}
+use mathlib.Core.Path.{_≡_, refl, sym, _∙_, ap}
 use mathlib.Core.Bool.{Bool, true, false}
 use mathlib.Core.List.{List, [], _∷_, _++_}
 use native.Mathlib.Omega.{arith}
@@ -13,12 +13,13 @@ use borrow.Author.Tests.{ltb-true, ltb-false, lt-ltb, le-ltb}
 use mathlib.Core.Logic.{_⊎_, inl, inr, ⊎-elim}
 use Rattle.model.specs.declared.Span.{Span}
 use Rattle.model.specs.declared.ReadAnswer.{ReadAnswer}
-use Rattle.model.specs.declared.ReadAnswer.the-variants as Reader
-use Rattle.model.specs.Work.{placed}
+use Rattle.model.specs.Work.{workLength, placed}
 use Rattle.model.specs.Call.{ReadAnswers, linesAfter}
 use Rattle.model.specs.Refusal.{Refused, row, rowAt}
 use Rattle.model.specs.Outcome.{ReadOutcome, read}
-use Rattle.model.specs.Text.{digits, mostDigits, decimal, numbered, each, acceptance, refusal, text, linesWord, posWord, negWord, refusedWord, space, rowEnd, told}
+use Rattle.model.proofs.Once.{reads-once}
+use Rattle.model.specs.Text.{digits, decimal, numbered, each, acceptance, refusal, text, linesWord, posWord, negWord, refusedWord, space, rowEnd, told, printedLines, Prints}
+use Rattle.model.specs.declared.ReadAnswer.the-variants as Reader
 
 -- The two cases of a number: its last digit alone, or the digits of its tens before it.
 module _ (most x : ℕ) where
@@ -135,3 +136,7 @@ unfolding told linesAfter placed
 told-outcome before after (ReadAnswers.lines {ls} {pos} {neg}) e =
     ap (λ (ns : List ℕ). read ns pos neg) (ap (take (length ls)) e ∙ take-at ls (drop (length ls) before) (length ls) refl)
 told-outcome before after ReadAnswers.refusal e = refl
+
+-- The program prints one thing for the bytes of two files.
+pub prints-once : {mb ref one other : List ℕ} → Prints mb ref one → Prints mb ref other → one ≡ other
+prints-once {mb} {ref} p q = p .bytes-are ∙ ap text (reads-once mb ref printedLines workLength (p .reads) (q .reads)) ∙ sym (q .bytes-are)

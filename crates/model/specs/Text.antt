@@ -1,14 +1,16 @@
 -- The text that the program prints for an outcome of the reader, byte by byte (paper 01, "The tie at the ridge").
 use Prim.Native.Nat.{ℕ, zero, suc, _+_, _/_, _%_}
+use mathlib.Core.Path.{_≡_}
 use mathlib.Core.Bool.{true, false}
 use mathlib.Core.List.{List, [], _∷_, _++_}
 use lib.ListN.{length, take}
 use lib.Dec.{ltb}
 use Rattle.model.specs.declared.Span.{Span}
 use Rattle.model.specs.declared.ReadAnswer.{ReadAnswer}
-use Rattle.model.specs.declared.ReadAnswer.the-variants as Reader
 use Rattle.model.specs.Refusal.{Refused, row, rowAt, refusalOf}
-use Rattle.model.specs.Outcome.{ReadOutcome, read}
+use Rattle.model.specs.Work.{workLength}
+use Rattle.model.specs.Outcome.{ReadOutcome, read, Reads}
+use Rattle.model.specs.declared.ReadAnswer.the-variants as Reader
 
 -- A number in decimal digits, at most `most` of them: those of its tens, then the last. The digit 0 is byte 48.
 unfoldable pub digits : ℕ → ℕ → List ℕ
@@ -72,6 +74,15 @@ refusal (rowAt n k) = numbered refusedWord n ++ numbered space k
 unfoldable pub text : ReadOutcome → List ℕ
 text (read ls pos neg) = acceptance (length ls) pos neg ++ each rowEnd ls ++ rowEnd
 text (ReadOutcome.refused r) = refusal r ++ rowEnd
+
+-- "The program reads map.bin and ref.bin, has a line buffer of 1,024 numbers, and prints": the bytes for those of the two files.
+abbrev pub printedLines : ℕ
+printedLines = 1_024
+
+pub record Prints (mb ref bytes : List ℕ) : Type 0 where
+  pub outcome : ReadOutcome
+  pub reads : Reads mb ref workLength printedLines outcome
+  pub bytes-are : bytes ≡ text outcome
 
 -- The outcome that an answer of the reader tells, with the line buffer as the call left it.
 unfoldable pub told : ReadAnswer → List ℕ → ReadOutcome

@@ -2,14 +2,14 @@
 use Prim.Native.Nat.{ℕ}
 use mathlib.Core.Path.{_≡_, refl}
 use mathlib.Core.List.{List, [], _∷_}
-use Rattle.model.specs.declared.Span.{Span}
-use Rattle.model.specs.Refusal.{row, rowAt}
-use Rattle.model.specs.Outcome.{ReadOutcome, read}
-use Rattle.model.specs.Text.{decimal, text}
+use native.Mathlib.Omega.{arith}
+use Rattle.model.specs.Work.{workLength}
+use Rattle.model.specs.Refusal.{row}
+use Rattle.model.specs.Outcome.{ReadOutcome}
+use Rattle.model.specs.Text.{decimal, text, printedLines, Prints}
 use Rattle.model.proofs.Cases.Computing.{computing}
-
-abbrev span : ℕ → ℕ → Span
-span least greatest = record { least = least; greatest = greatest }
+use Rattle.model.proofs.Cases.Ridge.{mapBytes, threeFrom500, twoPoints}
+use Rattle.model.proofs.Cases.RidgeCalls.{three-from-500, two-points}
 
 -- lines 2 pos 500 503 neg 0 0, then a row with 0 and a row with 1.
 abbrev linesAtTheRidge : List ℕ
@@ -30,8 +30,8 @@ abbrev mapRefused : List ℕ
 mapRefused = 114 ∷ 101 ∷ 102 ∷ 117 ∷ 115 ∷ 101 ∷ 100 ∷ 32 ∷ 50 ∷ 10 ∷ []
 
 pub record Texts : Type 0 where
-  pub lines : text (read (0 ∷ 1 ∷ []) (span 500 503) (span 0 0)) ≡ linesAtTheRidge
-  pub tie : text (ReadOutcome.refused (rowAt 18 0)) ≡ tieAtTheRidge
+  pub lines : Prints mapBytes threeFrom500 linesAtTheRidge
+  pub tie : Prints mapBytes twoPoints tieAtTheRidge
   pub map-refused : text (ReadOutcome.refused (row 2)) ≡ mapRefused
   pub number-0 : decimal 0 ≡ 48 ∷ []
   pub number-10 : decimal 10 ≡ 49 ∷ 48 ∷ []
@@ -43,8 +43,8 @@ pub texts : Texts
 unfolding computing
 texts =
     record {
-      lines = refl;
-      tie = refl;
+      lines = record { outcome = _; reads = three-from-500 workLength printedLines (omega arith) (omega arith); bytes-are = refl };
+      tie = record { outcome = _; reads = two-points workLength printedLines (omega arith); bytes-are = refl };
       map-refused = refl;
       number-0 = refl;
       number-10 = refl;
