@@ -49,16 +49,15 @@ kept at bs l =
     (λ h. ap length (put-outside at bs l h))
     (below-or-not at (length l))
 
-module _ {at : ℕ} {bs before after : List ℕ} {end : ℕ} (p : Put at bs before after end) where
-  pub put-keeps : length after ≡ length before
-  put-keeps = ap length (p .buffer-after) ∙ kept at bs before
+module _ {at : ℕ} {bs before after : List ℕ} {end : ℕ} where
+  -- The first two say the others.
+  put-of : after ≡ putAt at (take (length before - at) bs) before → end ≡ min (at + length bs) (length before) → Put at bs before after end
+  put-of e n =
+      let within : end ≤ length after = omega (arith, n, ap length e ∙ kept at bs before) in
+      record { buffer-after = e; end-is = n; within = within; counts = sym (length-take-le end after within) }
 
-  pub put-within : end ≤ length after
-  put-within = omega (arith, p .end-is, put-keeps)
-
-  -- The part of the buffer that holds the text, as it is lent.
-  pub put-counts : end ≡ length (take end after)
-  put-counts = sym (length-take-le end after put-within)
+  pub put-keeps : Put at bs before after end → length after ≡ length before
+  put-keeps p = ap length (p .buffer-after) ∙ kept at bs before
 
 -- The same bytes, told otherwise.
 pub put-same : {at : ℕ} {bs cs before after : List ℕ} {end : ℕ} → bs ≡ cs → Put at bs before after end → Put at cs before after end
@@ -67,10 +66,7 @@ put-same {at} {before = before} {after = after} {end = end} e p = subst (λ (k :
 -- Nothing put.
 pub put-nothing : (at : ℕ) (l : List ℕ) (end : ℕ) → end ≡ min at (length l) → Put at [] l l end
 put-nothing at l end e =
-    record {
-      buffer-after = sym (ap (λ (k : List ℕ). putAt at k l) (take-nil (length l - at)) ∙ put-none at l);
-      end-is = omega (arith, e);
-    }
+    put-of (sym (ap (λ (k : List ℕ). putAt at k l) (take-nil (length l - at)) ∙ put-none at l)) (omega (arith, e))
   where
     take-nil : (k : ℕ) → _≡_ {A = List ℕ} (take k []) []
     take-nil k = take-all k [] (omega arith)
@@ -78,10 +74,9 @@ put-nothing at l end e =
 -- One run of bytes behind another.
 pub put-both : {at m n : ℕ} {v w a b c : List ℕ} → Put at v a b m → Put m w b c n → Put at (v ++ w) a c n
 put-both {at} {m} {n} {v} {w} {a} {b} {c} p q =
-    record {
-      buffer-after = q .buffer-after ∙ ⊎-elim over whole (below-or-not (length a) (at + length v));
-      end-is = omega (arith, p .end-is, q .end-is, put-keeps p, length-append v w);
-    }
+    put-of
+    (q .buffer-after ∙ ⊎-elim over whole (below-or-not (length a) (at + length v)))
+    (omega (arith, p .end-is, q .end-is, put-keeps p, length-append v w))
   where
     -- The first run fills the buffer.
     over : length a < at + length v → putAt m (take (length b - m) w) b ≡ putAt at (take (length a - at) (v ++ w)) a
@@ -117,10 +112,7 @@ put-more from i bs l h fits =
 pub put-fitting : (at from count : ℕ) (bs before after : List ℕ) → from ≡ min at (length before) → count ≡ min (length bs) (length before - from) →
     after ≡ putAt from (take count bs) before → Put at bs before after (from + count)
 put-fitting at from count bs before after start size e =
-    record {
-      buffer-after = e ∙ ⊎-elim inside outside (below-or-not at (length before));
-      end-is = omega (arith, start, size);
-    }
+    put-of (e ∙ ⊎-elim inside outside (below-or-not at (length before))) (omega (arith, start, size))
   where
     inside : at < length before → putAt from (take count bs) before ≡ putAt at (take (length before - at) bs) before
     inside h =
