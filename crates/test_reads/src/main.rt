@@ -27,19 +27,20 @@ fn count_of(answer: ReadAnswer) -> usize {
 }
 
 // Puts an answer's first row and, where it hands back lines, a sum over them; a count beyond the buffer shows by itself.
-fn put_sum(answer: ReadAnswer, lines: &[u32], count: usize, row: &mut [u8]) -> usize {
+fn put_sum(answer: ReadAnswer, lines: &[u32], row: &mut [u8]) -> usize {
     let end = put_head(answer, row, 0);
-    let ReadAnswer::Read(_, _, _) = answer else {
+    let ReadAnswer::Read(count, _, _) = answer else {
         return end;
     };
-    put_number(b" sum ", sum_of(lines, 0, count, 0), row, end)
+    let handed_back = lesser(count, lines.len());
+    put_number(b" sum ", sum_of(lines, 0, handed_back, 0), row, end)
 }
 
 // Prints a row.
 fn show_row(answer: ReadAnswer, work: &[u32], lines: &[u32]) {
     let mut row = [0; ROW];
     let count = lesser(count_of(answer), lines.len());
-    let sum = put_sum(answer, lines, count, &mut row);
+    let sum = put_sum(answer, lines, &mut row);
     let state = put_work(work, &mut row, sum);
     let rest = put_rest(is_kept(lines, count), &mut row, state);
     let end = put(b"\n", &mut row, rest);

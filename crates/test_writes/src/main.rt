@@ -38,10 +38,11 @@ fn count_of(answer: WriteAnswer) -> usize {
 }
 
 // Puts an answer and, where it hands back bytes, a sum over them; a count beyond the buffer shows by itself.
-fn put_written(answer: WriteAnswer, bytes: &[u8], handed_back: usize, row: &mut [u8]) -> usize {
+fn put_written(answer: WriteAnswer, bytes: &[u8], row: &mut [u8]) -> usize {
     match answer {
         WriteAnswer::Written(count) => {
             let end = put_number(b"bytes ", count as u64, row, 0);
+            let handed_back = lesser(count, bytes.len());
             put_number(b" sum ", sum_of_bytes(bytes, handed_back), row, end)
         }
         WriteAnswer::Refused(why) => put_number(b"refused ", number_of(why) as u64, row, 0),
@@ -52,7 +53,7 @@ fn put_written(answer: WriteAnswer, bytes: &[u8], handed_back: usize, row: &mut 
 fn show_call(answer: WriteAnswer, work: &[u32], bytes: &[u8]) {
     let mut row = [0; ROW];
     let count = lesser(count_of(answer), bytes.len());
-    let written = put_written(answer, bytes, count, &mut row);
+    let written = put_written(answer, bytes, &mut row);
     let state = put_work(work, &mut row, written);
     let end = put_rest(bytes_kept(bytes, count), &mut row, state);
     hand_over(&row[..end]);
