@@ -109,8 +109,8 @@ put-more from i bs l h fits =
     ∙ ap (λ (k : List ℕ). putAt from k l) (sym (ap (λ (k : ℕ). take k bs) (add-one i) ∙ take-suc bs i 0 h))
 
 -- As many bytes as fit, from where the buffer ends at most.
-pub put-fitting : (at from count : ℕ) (bs before after : List ℕ) → from ≡ min at (length before) → count ≡ min (length bs) (length before - from) →
-    after ≡ putAt from (take count bs) before → Put at bs before after (from + count)
+pub put-fitting : (at from count : ℕ) (bs before after : List ℕ) → from ≡ min at (length before) →
+    count ≡ min (length bs) (length before - from) → after ≡ putAt from (take count bs) before → Put at bs before after (from + count)
 put-fitting at from count bs before after start size e =
     put-of (e ∙ ⊎-elim inside outside (below-or-not at (length before))) (omega (arith, start, size))
   where

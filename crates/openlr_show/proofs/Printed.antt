@@ -23,18 +23,19 @@ front : (n : ℕ) (s before after : List ℕ) → n ≡ length s → after ≡ p
 unfolding placed
 front n s before after size e = ap (take n) e ∙ take-at s (drop (length s) before) n (sym size)
 
-pub made : {mb ref work lines work′ lines′ before after : List ℕ} {a : ReadAnswer} {n : ℕ} → length work ≡ workLength → length lines ≡ printedLines →
-    length lines′ ≡ printedLines → ReadCall mb ref work lines a work′ lines′ → greatestText ≤ length before →
-    Put 0 (text (told a lines′)) before after n → Made mb ref after n
+pub made : {mb ref work lines work′ lines′ before after : List ℕ} {a : ReadAnswer} {n : ℕ} →
+    length work ≡ workLength → length lines ≡ printedLines → length lines′ ≡ printedLines →
+    ReadCall mb ref work lines a work′ lines′ → greatestText ≤ length before → Put 0 (text (told a lines′)) before after n → Made mb ref after n
 made {mb} {ref} {work} {lines} {work′} {lines′} {before} {after} {a} {n} full room room′ call long p =
     let answered = call .called .answered in
+    let asked = subst (λ (k : ℕ). Reads mb ref k (length lines) (answered .outcome)) full (answered .asked) in
     let whole = put-whole p (omega (arith, told-most a lines′)) in
     record {
       counts = (p .within, p .counts);
       prints =
           record {
             outcome = answered .outcome;
-            reads = subst (λ (k : ℕ). Reads mb ref workLength k (answered .outcome)) room (subst (λ (k : ℕ). Reads mb ref k (length lines) (answered .outcome)) full (answered .asked));
+            reads = subst (λ (k : ℕ). Reads mb ref workLength k (answered .outcome)) room asked;
             bytes-are =
                 front n (text (told a lines′)) before after (whole .0) (whole .1)
                 ∙ ap text (told-outcome lines lines′ (answered .answers) (answered .buffer-after));

@@ -6,7 +6,7 @@ use model::limits::WORK_LENGTH;
 use reader::read;
 ghost use Prim.Native.Nat.{_≤_};
 ghost use lib.ListN.{length};
-ghost use Rattle.openlr_show.specs.Made.{Made, greatestText};
+ghost use Rattle.openlr_show.specs.Made.{Made, Shown, greatestText};
 
 // How many numbers the line buffer has.
 const PRINTED_LINES: usize = 1_024;
@@ -22,6 +22,15 @@ fn make_text(map: &[u8], reference: &[u8], text: &mut [u8]) -> usize
     put_answer(answer, &lines, text)
 }
 
+// Hands what is printed for a map and a reference to the system, whole and once: how many bytes it is known to have taken.
+fn show(map: &[u8], reference: &[u8]) -> usize
+    ensures { λ r. ⌜ Shown (now (map .entry)) (now (reference .entry)) r ⌝ }
+{
+    let mut text = io::large_buffer();
+    let length = make_text(map, reference, &mut text);
+    hand_over(&text[..length])
+}
+
 // A file that is longer than its buffer is cut, and still gets the answer of its whole contents.
 // A map that is read to its end has 17,412 bytes at most: 2 for each count, 8 for each of 512 nodes, 13 for each of 1,024 lines. So in 65,536 bytes there
 // is a faulty number that starts before byte 17,412, or there are bytes left over. A number that goes on to the end of the buffer has over 5 bytes, and is
@@ -29,13 +38,7 @@ fn make_text(map: &[u8], reference: &[u8], text: &mut [u8]) -> usize
 fn main() {
     let mut map = io::large_buffer();
     let mut reference = [0; 512];
-    let mut text = io::large_buffer();
     let map_length = load(b"map.bin", &mut map);
     let reference_length = load(b"ref.bin", &mut reference);
-    let length = make_text(
-        &map[..map_length],
-        &reference[..reference_length],
-        &mut text,
-    );
-    hand_over(&text[..length]);
+    show(&map[..map_length], &reference[..reference_length]);
 }

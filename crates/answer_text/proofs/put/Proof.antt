@@ -53,7 +53,10 @@ loop-again c =
     let l = c .before .before .loop in
     let a = c .before .before .before .before .before .before .before .args in
     let from = c .before .before .before .before .lesser .result in
-    (omega arith, l .inv .1, l .inv .2, simp length-set (l .inv .3), ap (λ (d : List ℕ). set d (from + l .i) (getD (a .bytes .now) (l .i) 0)) (l .inv .4) ∙ put-more from (l .i) (a .bytes .now) (a .buffer .now) (omega (arith, l .inv .2)) (omega (arith, l .inv .1, l .inv .2)))
+    let before = a .buffer .now in
+    let stored = ap (λ (d : List ℕ). set d (from + l .i) (getD (a .bytes .now) (l .i) 0)) (l .inv .4) in
+    let more = put-more from (l .i) (a .bytes .now) before (omega (arith, l .inv .2)) (omega (arith, l .inv .1, l .inv .2)) in
+    (omega arith, l .inv .1, l .inv .2, simp length-set (l .inv .3), stored ∙ more)
 
 add-result : tie.Need-add-result Inv-loop μ-loop
 add-result c = search needs
@@ -68,7 +71,8 @@ returns c =
     let from = c .before .before .before .lesser .result in
     let count = c .before .before .lesser2 .result in
     let all : l .i ≡ count = omega arith in
-    put-fitting (a .at) from count (a .bytes .now) (a .buffer .now) (l .buffer) (l .inv .1) (l .inv .2) (l .inv .4 ∙ ap (λ (k : ℕ). putAt from (take k (a .bytes .now)) (a .buffer .now)) all)
+    let whole = l .inv .4 ∙ ap (λ (k : ℕ). putAt from (take k (a .bytes .now)) (a .buffer .now)) all in
+    put-fitting (a .at) from count (a .bytes .now) (a .buffer .now) (l .buffer) (l .inv .1) (l .inv .2) whole
 
 pub put-spec : {M : Type 1} → statement M
 put-spec =

@@ -53,13 +53,13 @@ same-length c = search needs
 returns : tie.Need-returns
 unfolding acceptance
 returns c =
-    put-both
-    (put-both
-    (put-both
-    (put-both (c .before .before .before .before .before .before .before .before .before .before .before .before .before .before .before .before .before .before .before .before .before .before .before .before .before .before .put-number .ensures) (c .before .before .before .before .before .before .before .before .before .before .before .before .before .before .before .before .before .before .before .before .put-number2 .ensures))
-    (c .before .before .before .before .before .before .before .before .before .before .before .before .before .before .put-number3 .ensures))
-    (c .before .before .before .before .before .before .before .before .put-number4 .ensures))
-    (c .before .before .put-number5 .ensures)
+    let fifth = c .before .before in
+    let fourth = fifth .before .before .before .before .before .before in
+    let third = fourth .before .before .before .before .before .before in
+    let second = third .before .before .before .before .before .before in
+    let first = second .before .before .before .before .before .before in
+    let spans = put-both (put-both (first .put-number .ensures) (second .put-number2 .ensures)) (third .put-number3 .ensures) in
+    put-both (put-both spans (fourth .put-number4 .ensures)) (fifth .put-number5 .ensures)
 
 pub put-acceptance-spec : {M : Type 1} → statement M
 put-acceptance-spec =

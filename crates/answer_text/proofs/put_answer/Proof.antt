@@ -49,18 +49,28 @@ same-length c = search needs
 
 returns : tie.Need-returns
 returns c =
+    let end = c .before .before in
+    let rows = end .before .before .before .before .before in
+    let head = rows .before .before .before .before .before .before in
+    let counted = head .before .before in
+    let known = counted .before .before in
+    let start = known .before .before .before .before in
     put-same
-    (accepted-text (c .before .before .before .before .before .before .before .before .before .before .before .before .before .before .before .before .before .before .before .before .before .args .lines .now) (c .before .before .before .before .before .before .before .before .before .before .before .before .before .before .before .before .before .answer .given .1) (c .before .before .before .before .before .before .before .before .before .before .before .before .before .before .before .lesser .ensures))
-    (put-both (put-both (c .before .before .before .before .before .before .before .before .before .before .before .before .before .put-acceptance .ensures) (c .before .before .before .before .before .before .before .put-each .ensures)) (c .before .before .put .ensures))
+    (accepted-text (start .args .lines .now) (known .answer .given .1) (counted .lesser .ensures))
+    (put-both (put-both (head .put-acceptance .ensures) (rows .put-each .ensures)) (end .put .ensures))
 
 same-length-2 : tie.Need-same-length-2
 same-length-2 c = search needs
 
 returns-2 : tie.Need-returns-2
 returns-2 c =
+    let end = c .before .before in
+    let row = end .before .before .before .before .before in
+    let known = row .before .before .before in
+    let start = known .before .before .before .before in
     put-same
-    (refused-text (c .before .before .before .before .before .before .before .before .before .before .before .before .before .before .args .lines .now) (c .before .before .before .before .before .before .before .before .before .before .answer2 .given .1))
-    (put-both (c .before .before .before .before .before .before .before .put-refusal .ensures) (c .before .before .put2 .ensures))
+    (refused-text (start .args .lines .now) (known .answer2 .given .1))
+    (put-both (row .put-refusal .ensures) (end .put2 .ensures))
 
 pub put-answer-spec : {M : Type 1} → statement M
 put-answer-spec =

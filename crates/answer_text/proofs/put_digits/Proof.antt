@@ -12,7 +12,8 @@ use Rattle.model.specs.Text as Text
 use Rattle.answer_text.proofs.put_digits.Tie as tie
 
 abbrev Inv-loop : tie.InvT-loop
-Inv-loop number digits₀ rest₀ i₀ digits rest i = (i ≤ mostDigits) × (length digits ≡ length digits₀) × (Text.digits i rest ++ drop i digits ≡ decimal number)
+Inv-loop number digits₀ rest₀ i₀ digits rest i =
+    (i ≤ mostDigits) × (length digits ≡ length digits₀) × (Text.digits i rest ++ drop i digits ≡ decimal number)
 
 abbrev μ-loop : tie.MeasureT-loop
 μ-loop number digits₀ rest₀ i₀ digits rest i = i
@@ -20,8 +21,10 @@ abbrev μ-loop : tie.MeasureT-loop
 loop-holds : tie.Need-loop-holds Inv-loop μ-loop
 unfolding decimal
 loop-holds c =
+    let number = c .args .number in
     let all : length (c .args .digits .now) ≤ 20 = omega (arith, c .pre) in
-    (omega arith, refl, ap (λ (k : List ℕ). Text.digits 20 (c .args .number) ++ k) (drop-of-length-le (c .args .digits .now) all) ∙ append-nil (Text.digits 20 (c .args .number)))
+    let none = drop-of-length-le (c .args .digits .now) all in
+    (omega arith, refl, ap (λ (k : List ℕ). Text.digits 20 number ++ k) none ∙ append-nil (Text.digits 20 number))
 
 sub-i : tie.Need-sub-i Inv-loop μ-loop
 sub-i c = search needs
@@ -43,7 +46,8 @@ returns c =
     let l = c .before .before .loop in
     let inside : l .i - 1 < length (l .digits) = omega (arith, c .before .before .before .pre) in
     let same : suc (l .i - 1) ≡ l .i = omega arith in
-    (omega arith, digit-first (l .i - 1) (l .rest) (l .digits) inside (omega arith) ∙ ap (λ (k : ℕ). Text.digits k (l .rest) ++ drop k (l .digits)) same ∙ l .inv .2)
+    let first = digit-first (l .i - 1) (l .rest) (l .digits) inside (omega arith) in
+    (omega arith, first ∙ ap (λ (k : ℕ). Text.digits k (l .rest) ++ drop k (l .digits)) same ∙ l .inv .2)
 
 loop-less : tie.Need-loop-less Inv-loop μ-loop
 loop-less c = search needs
@@ -53,7 +57,8 @@ loop-again c =
     let l = c .before .before .loop in
     let inside : l .i - 1 < length (l .digits) = omega (arith, c .before .before .before .pre) in
     let same : suc (l .i - 1) ≡ l .i = omega arith in
-    (omega arith, simp length-set (l .inv .1), digit-more (l .i - 1) (l .rest) (l .digits) inside (omega arith) ∙ ap (λ (k : ℕ). Text.digits k (l .rest) ++ drop k (l .digits)) same ∙ l .inv .2)
+    let more = digit-more (l .i - 1) (l .rest) (l .digits) inside (omega arith) in
+    (omega arith, simp length-set (l .inv .1), more ∙ ap (λ (k : ℕ). Text.digits k (l .rest) ++ drop k (l .digits)) same ∙ l .inv .2)
 
 same-length-2 : tie.Need-same-length-2 Inv-loop μ-loop
 same-length-2 c = search needs

@@ -13,7 +13,8 @@ use Rattle.answer_text.proofs.put_each.Statement.{statement}
 use Rattle.answer_text.proofs.put_each.Tie as tie
 
 abbrev Inv-loop : tie.InvT-loop
-Inv-loop word numbers buffer₀ at end₀ i₀ buffer end i = (i ≤ length numbers) × (length buffer ≡ length buffer₀) × Put at (each word (take i numbers)) buffer₀ buffer end
+Inv-loop word numbers buffer₀ at end₀ i₀ buffer end i =
+    (i ≤ length numbers) × (length buffer ≡ length buffer₀) × Put at (each word (take i numbers)) buffer₀ buffer end
 
 abbrev μ-loop : tie.MeasureT-loop
 μ-loop word numbers buffer₀ at end₀ i₀ buffer end i = length numbers - i
@@ -23,7 +24,9 @@ lesser-requires c κs = search needs
 
 loop-holds : tie.Need-loop-holds Inv-loop μ-loop
 unfolding each
-loop-holds c = let a = c .before .before .before .before .args in (omega arith, refl, put-nothing (a .at) (a .buffer .now) (c .lesser .result) (c .lesser .ensures))
+loop-holds c =
+    let a = c .before .before .before .before .args in
+    (omega arith, refl, put-nothing (a .at) (a .buffer .now) (c .lesser .result) (c .lesser .ensures))
 
 mul-put-number : tie.Need-mul-put-number Inv-loop μ-loop
 mul-put-number c = search needs

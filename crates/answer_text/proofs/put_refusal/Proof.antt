@@ -62,9 +62,12 @@ same-length c = search needs
 returns : tie.Need-returns
 unfolding refusalOf
 returns c =
+    let end = c .before .before in
+    let known = end .before .before .before .before in
+    let number = known .before .before .before .before in
     put-same
-    (with-place (c .before .before .before .before .before .before .before .before .before .before .before .before .number-of .ensures) (ap refusalOf (c .before .before .before .before .before .before .why .given .1)))
-    (put-both (c .before .before .before .before .before .before .before .before .before .before .put-number .ensures) (c .before .before .put-number2 .ensures))
+    (with-place (number .before .before .number-of .ensures) (ap refusalOf (known .why .given .1)))
+    (put-both (number .put-number .ensures) (end .put-number2 .ensures))
 
 same-length-2 : tie.Need-same-length-2
 same-length-2 c = search needs
@@ -72,9 +75,12 @@ same-length-2 c = search needs
 returns-2 : tie.Need-returns-2
 unfolding refusalOf
 returns-2 c =
+    let end = c .before .before in
+    let known = end .before .before .before .before in
+    let number = known .before .before .before .before in
     put-same
-    (with-place (c .before .before .before .before .before .before .before .before .before .before .before .before .number-of .ensures) (ap refusalOf (c .before .before .before .before .before .before .why2 .given .1)))
-    (put-both (c .before .before .before .before .before .before .before .before .before .before .put-number .ensures) (c .before .before .put-number3 .ensures))
+    (with-place (number .before .before .number-of .ensures) (ap refusalOf (known .why2 .given .1)))
+    (put-both (number .put-number .ensures) (end .put-number3 .ensures))
 
 same-length-3 : tie.Need-same-length-3
 same-length-3 c = search needs
@@ -82,18 +88,23 @@ same-length-3 c = search needs
 returns-3 : tie.Need-returns-3
 unfolding refusalOf
 returns-3 c =
+    let end = c .before .before in
+    let known = end .before .before .before .before in
+    let number = known .before .before .before .before in
     put-same
-    (with-place (c .before .before .before .before .before .before .before .before .before .before .before .before .number-of .ensures) (ap refusalOf (c .before .before .before .before .before .before .why3 .given .1)))
-    (put-both (c .before .before .before .before .before .before .before .before .before .before .put-number .ensures) (c .before .before .put-number4 .ensures))
+    (with-place (number .before .before .number-of .ensures) (ap refusalOf (known .why3 .given .1)))
+    (put-both (number .put-number .ensures) (end .put-number4 .ensures))
 
 same-length-4 : tie.Need-same-length-4
 same-length-4 c = search needs
 
 returns-4 : tie.Need-returns-4
 returns-4 c =
+    let number = c .before .before .before in
+    let start = number .before .before .before .before .before in
     put-same
-    (ap (numbered refusedWord) (c .before .before .before .before .before .number-of .ensures) ∙ without-place (c .before .before .before .before .before .before .before .before .args .why) (c .match .keys4))
-    (c .before .before .before .put-number .ensures)
+    (ap (numbered refusedWord) (number .before .before .number-of .ensures) ∙ without-place (start .args .why) (c .match .keys4))
+    (number .put-number .ensures)
 
 pub put-refusal-spec : {M : Type 1} → statement M
 put-refusal-spec =

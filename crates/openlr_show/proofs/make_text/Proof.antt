@@ -28,9 +28,12 @@ same-length c = search needs
 
 returns : tie.Need-returns
 returns c =
-    let answered = c .before .before .before .before .before .before .before .read in
-    let room : length (answered .last .1 .1 .1 .0) ≡ printedLines = omega (arith, answered .kept .1 .1 .1 .0) in
-    made (zeros 12_288) (zeros 1_024) room (answered .ensures) (c .before .before .before .before .before .before .before .before .before .before .before .before .before .pre) (c .before .before .put-answer .ensures)
+    let end = c .before .before in
+    let answered = end .before .before .before .before .before in
+    let start = answered .before .before .before .before .before .before in
+    let told = answered .read in
+    let room : length (told .last .1 .1 .1 .0) ≡ printedLines = omega (arith, told .kept .1 .1 .1 .0) in
+    made (zeros 12_288) (zeros 1_024) room (told .ensures) (start .pre) (end .put-answer .ensures)
 
 pub make-text-spec : {M : Type 1} → statement M
 make-text-spec =
