@@ -1,10 +1,12 @@
 // Marks that a test program puts into the buffers that it lends, and what a call left of them.
-use libc::STDOUT_FILENO;
+use answer_text::put;
 use model::limits::WORK_LENGTH;
 ghost use mathlib.Core.Path.{_≡_};
 ghost use lib.ListN.{length};
 ghost use Rattle.buffers.specs.Decides.{Decides};
+ghost use Rattle.answer_text.specs.Put.{Put};
 ghost use Rattle.marks.specs.Marks.{markOf, byteMarkOf, Marked, Cleared};
+ghost use Rattle.marks.specs.Shown.{Shown, WorkText, restText};
 
 // What stands at place `i` of a buffer before a call. It is no line's number and not 0, and numbers next to each other differ.
 fn mark(i: usize) -> u32
@@ -85,21 +87,25 @@ pub fn is_cleared(work: &[u32]) -> bool
     is_kept(work, WORK_LENGTH)
 }
 
-pub fn show_work(work: &[u32]) {
+// Puts what the work area tells behind a call: where the text ends.
+pub fn put_work(work: &[u32], buffer: &mut [u8], at: usize) -> usize
+    ensures { λ r. ⌜ Shown (WorkText (now (work .entry))) at (now (buffer .entry)) (now (buffer .exit)) r ⌝ }
+{
     if is_kept(work, 0) {
-        io::write_all(STDOUT_FILENO, b" work kept");
-    } else if is_cleared(work) {
-        io::write_all(STDOUT_FILENO, b" work cleared");
-    } else {
-        io::write_all(STDOUT_FILENO, b" work changed");
+        return put(b" work kept", buffer, at);
     }
+    if is_cleared(work) {
+        return put(b" work cleared", buffer, at);
+    }
+    put(b" work changed", buffer, at)
 }
 
-// Whether the rest of a buffer, behind what a call hands back in it, is as it was.
-pub fn show_rest(kept: bool) {
+// Puts whether the rest of a buffer, behind what a call hands back in it, is as it was.
+pub fn put_rest(kept: bool, buffer: &mut [u8], at: usize) -> usize
+    ensures { λ r. ⌜ Put at (restText kept) (now (buffer .entry)) (now (buffer .exit)) r ⌝ }
+{
     if kept {
-        io::write_all(STDOUT_FILENO, b" rest kept");
-    } else {
-        io::write_all(STDOUT_FILENO, b" rest changed");
+        return put(b" rest kept", buffer, at);
     }
+    put(b" rest changed", buffer, at)
 }

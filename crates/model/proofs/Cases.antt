@@ -10,6 +10,7 @@ pub mod Ridge
 pub mod Encoded
 pub mod Tie
 pub mod RidgeCalls
+pub mod Texts
 pub mod WrongWriters
 pub mod WrongReaders
 pub mod Fields

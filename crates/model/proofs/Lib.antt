@@ -21,6 +21,7 @@ pub mod Rows
 pub mod Once
 pub mod Calls
 pub mod Answering
+pub mod Text
 pub mod Demand3
 pub mod CallsOnce
 pub mod HostDemand3

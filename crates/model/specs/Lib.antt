@@ -16,6 +16,7 @@ pub mod Work
 pub mod Opening
 pub mod Outcome
 pub mod Call
+pub mod Text
 pub mod Host
 pub mod Demand3
 pub mod HostDemand3

@@ -2,6 +2,7 @@
 // count of lines and the lines themselves. What it prints is held to what the unrelated implementation says (oracle/pack.py).
 use cases::Part;
 use cases::word_at;
+use console::hand_over;
 use console::print;
 use console::print_each;
 use fields::leg::Arrival;
@@ -12,7 +13,6 @@ use fields::leg::Verdict;
 use fields::leg::longest_leg;
 use legs::ends::both;
 use legs::from_line;
-use libc::STDOUT_FILENO;
 use model::limits::WORK_LENGTH;
 use model::number_of;
 use opening::Opened;
@@ -67,7 +67,7 @@ fn leg_of(words: &[u8]) -> Leg {
 fn print_verdict(found: Verdict) {
     match found {
         Verdict::Unread => {
-            io::write_all(STDOUT_FILENO, b"none");
+            hand_over(b"none");
         }
         Verdict::One(reading) => {
             print(b"one ", reading.first as u64);
@@ -76,7 +76,7 @@ fn print_verdict(found: Verdict) {
             print(b" ", reading.count as u64);
         }
         Verdict::Several => {
-            io::write_all(STDOUT_FILENO, b"several");
+            hand_over(b"several");
         }
     }
 }
@@ -151,7 +151,7 @@ fn show_leg(work: &mut [u32], nodes: u32, lines: usize, leg: Leg)
     };
     let mut out = [0; MAP_LINES];
     let n = write_reading(work, lines, leg, reading, &mut out);
-    io::write_all(STDOUT_FILENO, b":");
+    hand_over(b":");
     print_each(b" ", &out[..n]);
 }
 
@@ -187,7 +187,7 @@ fn run(bytes: &[u8], work: &mut [u32])
             map_to = middle;
         }
         show(&bytes[map_from..map_to], &bytes[start..to], work);
-        io::write_all(STDOUT_FILENO, b"\n");
+        hand_over(b"\n");
     }
 }
 

@@ -2,10 +2,10 @@
 // What it prints is held to what the unrelated implementation says (oracle/pack.py).
 use cases::Part;
 use cases::sum_of;
+use console::hand_over;
 use console::print;
 use depot_map::MapRead;
 use depot_map::read_map;
-use libc::STDOUT_FILENO;
 use model::limits::WORK_LENGTH;
 use model::number_of;
 use work_area::LINE_NUMBERS;
@@ -32,7 +32,7 @@ fn show(map: &[u8], work: &mut [u32])
             print(b"refused ", number_of(why) as u64);
         }
     }
-    io::write_all(STDOUT_FILENO, b"\n");
+    hand_over(b"\n");
 }
 
 fn run(bytes: &[u8], work: &mut [u32])

@@ -1,18 +1,22 @@
 // Reads the references of cases.bin, each on its own map, and prints a row for each: the answer, a sum over the lines handed back, what the call left of
 // the work area, and whether the rest of the line buffer is as it was. What it prints is held to what the unrelated implementation says (oracle/pack.py).
+use answer_text::put;
+use answer_text::put_head;
+use answer_text::put_number;
 use buffers::lesser;
 use cases::Part;
 use cases::sum_of;
 use cases::word_at;
-use console::print;
-use console::show;
-use libc::STDOUT_FILENO;
+use console::hand_over;
 use marks::fill;
 use marks::is_kept;
-use marks::show_rest;
-use marks::show_work;
+use marks::put_rest;
+use marks::put_work;
 use model::ReadAnswer;
 use reader::read;
+
+// More bytes than a row has: 118 for the answer's first row, 25 for the sum, 13 for each of the last two.
+const ROW: usize = 192;
 
 // How many lines an answer hands back.
 fn count_of(answer: ReadAnswer) -> usize {
@@ -22,16 +26,25 @@ fn count_of(answer: ReadAnswer) -> usize {
     }
 }
 
-// Prints a row. The sum is over the lines handed back; a count beyond the buffer shows by itself.
+// Puts an answer's first row and, where it hands back lines, a sum over them; a count beyond the buffer shows by itself.
+fn put_sum(answer: ReadAnswer, lines: &[u32], row: &mut [u8]) -> usize {
+    let end = put_head(answer, row, 0);
+    let ReadAnswer::Read(count, _, _) = answer else {
+        return end;
+    };
+    let handed_back = lesser(count, lines.len());
+    put_number(b" sum ", sum_of(lines, 0, handed_back, 0), row, end)
+}
+
+// Prints a row.
 fn show_row(answer: ReadAnswer, work: &[u32], lines: &[u32]) {
-    show(answer);
+    let mut row = [0; ROW];
     let count = lesser(count_of(answer), lines.len());
-    if let ReadAnswer::Read(_, _, _) = answer {
-        print(b" sum ", sum_of(lines, 0, count, 0));
-    }
-    show_work(work);
-    show_rest(is_kept(lines, count));
-    io::write_all(STDOUT_FILENO, b"\n");
+    let sum = put_sum(answer, lines, &mut row);
+    let state = put_work(work, &mut row, sum);
+    let rest = put_rest(is_kept(lines, count), &mut row, state);
+    let end = put(b"\n", &mut row, rest);
+    hand_over(&row[..end]);
 }
 
 // Fills the buffers, reads into them and prints the row.

@@ -2,6 +2,7 @@
 // Tables 72, 92 and 93 put it; then the fields that the values of Tables 72 to 74 give. The file stdout has what the tables print.
 use buffers::bytes::at2;
 use buffers::bytes::at3;
+use console::hand_over;
 use console::load;
 use console::print;
 use fields::coordinate::latitude_code;
@@ -12,7 +13,6 @@ use fields::leg::Attributes;
 use fields::leg::distance;
 use fields::leg::sector;
 use fields::offset::offset_byte;
-use libc::STDOUT_FILENO;
 use model::number_of;
 use references::leg::leg_at;
 use references::reference::Form;
@@ -37,7 +37,7 @@ const LATITUDE_2: u32 = 9_000_000 + 4_960_398;
 const LATITUDE_3: u32 = 9_000_000 + 4_960_305;
 
 fn write(word: &[u8]) {
-    io::write_all(STDOUT_FILENO, word);
+    hand_over(word);
 }
 
 fn print_tenths(word: &[u8], n: u64) {
@@ -133,7 +133,9 @@ fn show_offset(word: &[u8], offset: Offset) {
     write(word);
     match offset {
         Offset::Absent => write(b" no offset available"),
-        Offset::Byte(byte) => print(b" byte ", byte as u64),
+        Offset::Byte(byte) => {
+            print(b" byte ", byte as u64);
+        }
     }
 }
 
@@ -159,7 +161,9 @@ fn show(bytes: &[u8]) {
             show_offset(b"\nTable 93: positive", positive_offset(bytes, points));
             show_offset(b"\nTable 93: negative", negative_offset(bytes, points));
         }
-        Form::Refused(why) => print(b"refused ", number_of(why) as u64),
+        Form::Refused(why) => {
+            print(b"refused ", number_of(why) as u64);
+        }
     }
 }
 

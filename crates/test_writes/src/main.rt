@@ -1,25 +1,30 @@
 // Writes the stretches of cases.bin, each on its own map, and prints a row for each: the answer, a sum over the bytes handed back, what the call left of
 // the work area, and whether the rest of the byte buffer is as it was. Where bytes were written, the row goes on with what the reader answers to exactly
 // those. What it prints is held to what the unrelated implementation says (oracle/pack.py).
+use answer_text::put;
+use answer_text::put_head;
+use answer_text::put_number;
 use buffers::lesser;
 use buffers::words::take_words;
 use cases::Part;
 use cases::sum_of;
 use cases::sum_of_bytes;
 use cases::word_at;
-use console::print;
-use console::show;
-use libc::STDOUT_FILENO;
+use console::hand_over;
 use marks::bytes_kept;
 use marks::fill;
 use marks::fill_bytes;
-use marks::show_rest;
-use marks::show_work;
+use marks::put_rest;
+use marks::put_work;
 use model::ReadAnswer;
 use model::WriteAnswer;
 use model::number_of;
 use reader::read;
 use writer::write;
+ghost use Rattle.io.specs.Counts.{Counts};
+
+// More bytes than a part of a row has: 6 for a word, 118 for an answer's first row, 25 for a sum, 13 for each of the last two.
+const ROW: usize = 192;
 
 // How many bytes an answer hands back.
 fn count_of(answer: WriteAnswer) -> usize {
@@ -29,33 +34,47 @@ fn count_of(answer: WriteAnswer) -> usize {
     }
 }
 
-fn show_answer(answer: WriteAnswer) {
+// Puts an answer and, where it hands back bytes, a sum over them; a count beyond the buffer shows by itself.
+fn put_written(answer: WriteAnswer, bytes: &[u8], row: &mut [u8]) -> usize {
     match answer {
-        WriteAnswer::Written(count) => print(b"bytes ", count as u64),
-        WriteAnswer::Refused(why) => print(b"refused ", number_of(why) as u64),
+        WriteAnswer::Written(count) => {
+            let end = put_number(b"bytes ", count as u64, row, 0);
+            let handed_back = lesser(count, bytes.len());
+            put_number(b" sum ", sum_of_bytes(bytes, handed_back), row, end)
+        }
+        WriteAnswer::Refused(why) => put_number(b"refused ", number_of(why) as u64, row, 0),
     }
 }
 
-// Prints a row's first part. The sum is over the bytes handed back; a count beyond the buffer shows by itself.
+// Prints a row's first part.
 fn show_call(answer: WriteAnswer, work: &[u32], bytes: &[u8]) {
-    show_answer(answer);
+    let mut row = [0; ROW];
     let count = lesser(count_of(answer), bytes.len());
-    if let WriteAnswer::Written(_) = answer {
-        print(b" sum ", sum_of_bytes(bytes, count));
-    }
-    show_work(work);
-    show_rest(bytes_kept(bytes, count));
+    let written = put_written(answer, bytes, &mut row);
+    let state = put_work(work, &mut row, written);
+    let end = put_rest(bytes_kept(bytes, count), &mut row, state);
+    hand_over(&row[..end]);
 }
 
-// Prints what the reader answers to bytes that the writer wrote, and a sum over the lines.
+// Puts what the reader answers to bytes that the writer wrote and, where it hands back lines, a sum over them.
+fn put_read(answer: ReadAnswer, lines: &[u32], row: &mut [u8]) -> usize
+    ensures { λ r. ⌜ Counts r (now (row .exit)) ⌝ }
+{
+    let start = put(b" read ", row, 0);
+    let end = put_head(answer, row, start);
+    let ReadAnswer::Read(count, _, _) = answer else {
+        return end;
+    };
+    let handed_back = lesser(count, lines.len());
+    put_number(b" sum ", sum_of(lines, 0, handed_back, 0), row, end)
+}
+
+// Prints a row's second part: what the reader answers to bytes that the writer wrote.
 fn show_read(map: &[u8], reference: &[u8], work: &mut [u32], lines: &mut [u32]) {
+    let mut row = [0; ROW];
     let answer = read(map, reference, work, lines);
-    io::write_all(STDOUT_FILENO, b" read ");
-    show(answer);
-    if let ReadAnswer::Read(count, _, _) = answer {
-        let handed_back = lesser(count, lines.len());
-        print(b" sum ", sum_of(lines, 0, handed_back, 0));
-    }
+    let end = put_read(answer, lines, &mut row);
+    hand_over(&row[..end]);
 }
 
 // Where the writer wrote bytes: reads exactly those.
@@ -82,7 +101,7 @@ fn call(
     let answer = write(map, stretch, pos, neg, work, bytes);
     show_call(answer, work, bytes);
     read_back(map, answer, bytes, work, lines);
-    io::write_all(STDOUT_FILENO, b"\n");
+    hand_over(b"\n");
 }
 
 // Makes the call with the offsets that the numbers of the case say, and with a work area and a byte buffer of the lengths that they say.

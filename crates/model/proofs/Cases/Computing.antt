@@ -12,6 +12,7 @@ use Rattle.model.specs.Refusal.{numberOf, placeOf, refusalOf}
 use Rattle.model.specs.Locate.{seek, leg-first, arrivalBefore, legsFrom, hasCodes, locate}
 use Rattle.model.specs.Work.{cleared, placed}
 use Rattle.model.specs.Call.{linesAfter, bytesAfter}
+use Rattle.model.specs.Text.{digits, decimal, numbered, each, acceptance, refusal, text, told}
 use Rattle.model.specs.Host.{words, wordBytes, hostStretch, hostRoom, hostRead, hostWritten, hostLinesAfter, hostBytesAfter}
 
 unfoldable pub computing : Unit {0}
@@ -21,5 +22,5 @@ unfolding
     unknown gap skip remaining checkStretch bytes2 bytes3 byteP byteQ flag byteR pointBytes offsetBytes bytesOf at2 at3 attributes pointAt
     pointsAt positive negative offsetAt pointCount referenceAt spareBits flags parse joined fromNode toNode arrivalOf legOf firstLeg lastLeg
     pointOf pointsOf offsetOf referenceOf stretchBytes numberOf placeOf refusalOf seek leg-first arrivalBefore legsFrom hasCodes locate cleared placed
-    linesAfter bytesAfter words wordBytes hostStretch hostRoom hostRead hostWritten hostLinesAfter hostBytesAfter
+    linesAfter bytesAfter digits decimal numbered each acceptance refusal text told words wordBytes hostStretch hostRoom hostRead hostWritten hostLinesAfter hostBytesAfter
 computing = tt

@@ -87,11 +87,11 @@ part-show-end-2 c = omega (arith, second (c .before .before .before .before))
 show-requires : tie.Need-show-requires Inv-loop μ-loop
 show-requires c κs = omega (arith, c .before .before .before .before .before .before .before .before .before .before .before .before .before .before .loop .inv .1, c .before .before .before .before .before .before .before .before .before .before .before .before .before .before .loop .inv .2)
 
-slice-aggregate-write-all : tie.Need-slice-aggregate-write-all Inv-loop μ-loop
-slice-aggregate-write-all c = search needs
+slice-aggregate-hand-over : tie.Need-slice-aggregate-hand-over Inv-loop μ-loop
+slice-aggregate-hand-over c = search needs
 
-write-all-requires : tie.Need-write-all-requires Inv-loop μ-loop
-write-all-requires c κs = search needs
+hand-over-requires : tie.Need-hand-over-requires Inv-loop μ-loop
+hand-over-requires c κs = search needs
 
 loop-less : tie.Need-loop-less Inv-loop μ-loop
 loop-less c = omega (arith, first (c .before .before .before .before .before .before .before .before .before .before .before), second (c .before .before .before .before .before .before .before .before .before .before .before))
@@ -126,7 +126,7 @@ run-spec =
     part-show-start-2
     part-show-end-2
     show-requires
-    slice-aggregate-write-all
-    write-all-requires
+    slice-aggregate-hand-over
+    hand-over-requires
     loop-less
     loop-again)

@@ -27,11 +27,11 @@ slice-aggregate-write-reading c = search needs
 write-reading-requires : tie.Need-write-reading-requires
 write-reading-requires c κs = let p = c .before .before .before .before .before .before .before .before .before .before .before .pre in ((p .0, c .before .before .before .before .before .before .before .before .judge .ensures (p .0) (p .1) (p .2)), omega arith)
 
-slice-aggregate-write-all : tie.Need-slice-aggregate-write-all
-slice-aggregate-write-all c = search needs
+slice-aggregate-hand-over : tie.Need-slice-aggregate-hand-over
+slice-aggregate-hand-over c = search needs
 
-write-all-requires : tie.Need-write-all-requires
-write-all-requires c κs = search needs
+hand-over-requires : tie.Need-hand-over-requires
+hand-over-requires c κs = search needs
 
 slice-aggregate-print-each : tie.Need-slice-aggregate-print-each
 slice-aggregate-print-each c = search needs
@@ -64,8 +64,8 @@ show-leg-spec =
     returns
     slice-aggregate-write-reading
     write-reading-requires
-    slice-aggregate-write-all
-    write-all-requires
+    slice-aggregate-hand-over
+    hand-over-requires
     slice-aggregate-print-each
     array-share-prefix-out
     slice-aggregate-print-each-2

@@ -85,11 +85,11 @@ cast-print-3 c = search needs
 print-requires-4 : tie.Need-print-requires-4
 print-requires-4 c κs = search needs
 
-slice-aggregate-write-all : tie.Need-slice-aggregate-write-all
-slice-aggregate-write-all c = search needs
+slice-aggregate-hand-over : tie.Need-slice-aggregate-hand-over
+slice-aggregate-hand-over c = search needs
 
-write-all-requires : tie.Need-write-all-requires
-write-all-requires c κs = search needs
+hand-over-requires : tie.Need-hand-over-requires
+hand-over-requires c κs = search needs
 
 same-length : tie.Need-same-length
 same-length c = search needs
@@ -123,7 +123,7 @@ show-spec =
     number-of-requires
     cast-print-3
     print-requires-4
-    slice-aggregate-write-all
-    write-all-requires
+    slice-aggregate-hand-over
+    hand-over-requires
     same-length
     returns)

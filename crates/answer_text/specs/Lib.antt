@@ -1,0 +1,2 @@
+-- What is said of text put into a buffer.
+pub mod Put

@@ -1,0 +1,2 @@
+-- What is said of bytes handed to the system.
+pub mod Handed

@@ -1,0 +1,47 @@
+-- `put_rest` meets its contract: one of two texts.
+use mathlib.Core.Path.{sym, ap}
+use Rattle.answer_text.proofs.Putting.{put-same}
+use Rattle.marks.specs.Shown.{restText}
+use native.Mathlib.Omega.{arith}
+use borrow.Author.Needs.{needs}
+use Rattle.marks.proofs.put_rest.Statement.{statement}
+use Rattle.marks.proofs.put_rest.Tie as tie
+
+slice-aggregate-put : tie.Need-slice-aggregate-put
+slice-aggregate-put c = search needs
+
+put-requires : tie.Need-put-requires
+put-requires c κs = search needs
+
+same-length : tie.Need-same-length
+same-length c = search needs
+
+returns : tie.Need-returns
+unfolding restText
+returns c = put-same (sym (ap restText (c .before .before .before .before .before .if1 .taken))) (c .before .before .put .ensures)
+
+slice-aggregate-put-2 : tie.Need-slice-aggregate-put-2
+slice-aggregate-put-2 c = search needs
+
+put-requires-2 : tie.Need-put-requires-2
+put-requires-2 c κs = search needs
+
+same-length-2 : tie.Need-same-length-2
+same-length-2 c = search needs
+
+returns-2 : tie.Need-returns-2
+unfolding restText
+returns-2 c = put-same (sym (ap restText (c .before .before .before .before .before .if1 .left))) (c .before .before .put2 .ensures)
+
+pub put-rest-spec : {M : Type 1} → statement M
+put-rest-spec =
+    tie.close
+    (tie.spec
+    slice-aggregate-put
+    put-requires
+    same-length
+    returns
+    slice-aggregate-put-2
+    put-requires-2
+    same-length-2
+    returns-2)

@@ -1,0 +1,27 @@
+-- What a test program prints of the buffers behind a call.
+use Prim.Native.Nat.{ℕ}
+use mathlib.Core.Bool.{Bool, true, false}
+use mathlib.Core.List.{List, [], _∷_}
+use lib.ListN.{length}
+use Rattle.answer_text.specs.Put.{Put}
+use Rattle.marks.specs.Marks.{markOf, Marked, Cleared}
+
+-- The texts " work kept", " work cleared" and " work changed", and when each is the one.
+pub data WorkText (work : List ℕ) : List ℕ → Type 0 where
+  kept : Marked markOf work 0 (length work) →
+      WorkText work (32 ∷ 119 ∷ 111 ∷ 114 ∷ 107 ∷ 32 ∷ 107 ∷ 101 ∷ 112 ∷ 116 ∷ [])
+  cleared : (Marked markOf work 0 (length work) → ⊥) → Cleared work →
+      WorkText work (32 ∷ 119 ∷ 111 ∷ 114 ∷ 107 ∷ 32 ∷ 99 ∷ 108 ∷ 101 ∷ 97 ∷ 114 ∷ 101 ∷ 100 ∷ [])
+  changed : (Marked markOf work 0 (length work) → ⊥) → (Cleared work → ⊥) →
+      WorkText work (32 ∷ 119 ∷ 111 ∷ 114 ∷ 107 ∷ 32 ∷ 99 ∷ 104 ∷ 97 ∷ 110 ∷ 103 ∷ 101 ∷ 100 ∷ [])
+
+-- The texts " rest kept" and " rest changed".
+unfoldable pub restText : Bool → List ℕ
+restText true = 32 ∷ 114 ∷ 101 ∷ 115 ∷ 116 ∷ 32 ∷ 107 ∷ 101 ∷ 112 ∷ 116 ∷ []
+restText false = 32 ∷ 114 ∷ 101 ∷ 115 ∷ 116 ∷ 32 ∷ 99 ∷ 104 ∷ 97 ∷ 110 ∷ 103 ∷ 101 ∷ 100 ∷ []
+
+-- A text that is one of some, put into a buffer.
+pub record Shown (Texts : List ℕ → Type 0) (at : ℕ) (before after : List ℕ) (end : ℕ) : Type 0 where
+  pub text : List ℕ
+  pub is-one : Texts text
+  pub put : Put at text before after end

@@ -1,0 +1,2 @@
+-- Laws of the text that the program makes.
+pub mod Printed

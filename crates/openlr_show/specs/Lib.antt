@@ -1,0 +1,2 @@
+-- What is said of the text that the program makes.
+pub mod Made
