@@ -1,5 +1,5 @@
 // An answer as the bytes that the program prints, put into a lent buffer. What does not fit is left out.
-use buffers::words::lesser;
+use buffers::lesser;
 use model::ReadAnswer;
 use model::Refusal;
 use model::Span;
