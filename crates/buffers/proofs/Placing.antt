@@ -4,13 +4,19 @@ use mathlib.Core.Path.{_≡_, refl, sym, _∙_, ap, ap₂}
 use mathlib.Core.List.{List, [], _∷_, _++_, append-assoc}
 use native.Mathlib.Numerals.{add-one}
 use native.Mathlib.Omega.{arith}
-use lib.ListN.{length, take, drop, set, length-append, take-append-drop}
+use lib.ListN.{length, take, drop, set, length-append, take-append-drop, length-drop}
 use lib.Seq.{length-take-le, take-at, drop-at, drop-drop, set-split}
 use Rattle.model.specs.Reference.{bytes2, bytes3}
 use Rattle.model.specs.Work.{placed}
 use Rattle.buffers.specs.Placed.{putAt}
 
 module _ (at : ℕ) (vs l : List ℕ) (fits : at + length vs ≤ length l) where
+  pub put-length : length (putAt at vs l) ≡ length l
+  unfolding putAt
+  put-length =
+      let k = length-take-le at l (omega arith) in
+      simp (length-append, length-drop) (omega arith)
+
   -- The front, and what comes after it.
   split : putAt at vs l ≡ (take at l ++ vs) ++ drop (at + length vs) l
   unfolding putAt
