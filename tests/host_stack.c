@@ -91,12 +91,17 @@ static void read_most(void) {
     for (uint32_t i = 0; i < 1024; i++) EXPECT(line_buffer[4 * i] == i % 16 && line_buffer[4 * i + 1] == 0);
 }
 
-/* A chain of 64 lines, of which no two fit one leg: 64 legs and both offsets. The bytes are read back. */
-static void write_most_legs(void) {
+/* A map with a chain of 64 lines of one length, all of it marked. */
+static void put_chain(uint32_t length) {
     put_nodes();
-    for (uint32_t i = 0; i < 64; i++) put_line(i, i + 1, 76000, 3);
+    for (uint32_t i = 0; i < 64; i++) put_line(i, i + 1, length, 3);
     put_other_lines(64);
     put_stretch(64);
+}
+
+/* A chain of which no two lines fit one leg: 64 legs and both offsets. The bytes are read back. */
+static void write_most_legs(void) {
+    put_chain(76000);
     pos = neg = 38000;
     run("openlr_write, 64 legs", write_once);
     EXPECT(written.refusal == 0 && written.byte_count == OPENLR_LONGEST_REFERENCE && byte_buffer[457] == 0x80 && byte_buffer[458] == 0x80);
@@ -107,12 +112,9 @@ static void write_most_legs(void) {
     for (uint32_t i = 0; i < 64; i++) EXPECT(line_buffer[4 * i] == i);
 }
 
-/* A chain of 64 short lines: every part of it is the only way, so that all 2,080 legs are tested. Two points are enough. */
+/* A chain of short lines: every part of it is the only way, so that all 2,080 legs are tested. Two points are enough. */
 static void write_most_tests(void) {
-    put_nodes();
-    for (uint32_t i = 0; i < 64; i++) put_line(i, i + 1, 1000, 3);
-    put_other_lines(64);
-    put_stretch(64);
+    put_chain(1000);
     pos = neg = 0;
     run("openlr_write, one leg of 64 lines", write_once);
     EXPECT(written.refusal == 0 && written.byte_count == 16 && byte_buffer[9] == 64000 / 586);

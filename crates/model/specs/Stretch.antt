@@ -61,5 +61,6 @@ checkStretch m s =
     (cond (gap m (s .lines)) (refused (row 8))
     (cond (leb (total m (s .lines)) (s .pos + s .neg)) (refused (row 9)) (remains (remaining m s))))
 
+-- A stretch by its parts, as a caller gives them: the lines, the positive and the negative offset.
 abbrev pub stretchOf : List ℕ → ℕ → ℕ → Stretch
 stretchOf lines pos neg = record { lines = lines; pos = pos; neg = neg }
