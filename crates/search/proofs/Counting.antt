@@ -12,13 +12,14 @@ use lib.Seq.{getD-set-same}
 use Rattle.model.specs.Lines.{lineAt, Follows}
 use Rattle.buffers.specs.Kept.{Kept}
 use Rattle.search.specs.Ways.{line, Reached}
-use Rattle.search.specs.Steps.{Task, Pending, noteAt, Leads, Backed, Counted, Underway, weight, Stepped, Lowered}
+use Rattle.search.specs.Steps.{Task, Pending, noteAt, Leads, Backed, Counted, Underway, weight, Stepped, Lowered, Calm}
 use Rattle.search.proofs.Follows.{known}
 use Rattle.buffers.proofs.Kept.{kept-none, kept-then, kept-within, at-set, kept-set}
 use Rattle.search.proofs.Reached.{sum-le, sum-less, reached-le, count-le, listing-same}
 use Rattle.buffers.proofs.Cases.{le-or-lt, here-or}
 use Rattle.work_area.proofs.Holding.{held-kept, few}
 use Rattle.search.proofs.Frame.{chained-kept}
+use Rattle.search.proofs.Calm.{calm-kept}
 
 -- What is taken into account stays so where its two lengths and its note stay.
 pub counted-same : {m : Map} {c limit l j : ℕ} {w v : List ℕ} → lengthTo v l ≡ lengthTo w l → lengthTo v j ≡ lengthTo w j →
@@ -255,6 +256,12 @@ module _ {q : Task} {n c limit count l y : ℕ} {w : List ℕ} (g : Underway q n
       (λ j j< near.
       rw (same-note j)
       (backed-less (g .held) (λ k k<. omega (arith, same-length g kept k k<)) (same-length g kept j j<) (g .backed j j< near)))
+
+  pub awake-now : predecessor awoken l < pendingWeight
+  awake-now = let h = g .held in let n≤ = few h in omega (arith, getD-set-same w (predecessorsFrom + l) y 0 (omega arith))
+
+  pub calm-awake : {resume : ℕ} → Calm n resume w awoken resume
+  calm-awake = calm-kept g kept (cells (λ k b. k < n → b / pendingWeight ≤ predecessor w k / pendingWeight) (λ k<. omega arith) (λ k o k<. omega arith))
 
   pub lighter : Pending w l → weight awoken n < weight w n
   lighter waits =

@@ -13,13 +13,14 @@ use native.Mathlib.Decide.{ℕ-discrete}
 use lib.ListN.{getD}
 use Rattle.model.specs.Lines.{lineAt, Follows}
 use Rattle.buffers.specs.Kept.{Kept}
-use Rattle.search.specs.Steps.{Task, task, Pending, noteAt, Leads, Backed, Notes, Counted, Underway, Stepped, Reset, Begun, Noted, TieNoted, Lowered, Relaxed, Ahead, WentOn, weight}
+use Rattle.search.specs.Steps.{Task, task, Pending, noteAt, Leads, Backed, Notes, Counted, Underway, Stepped, Reset, Begun, Noted, TieNoted, Lowered, Calm, Relaxed, Ahead, WentOn, weight}
 use Rattle.search.proofs.Plain.{way-one, way-more, total-more, total-one}
 use Rattle.search.proofs.Follows.{known, meets}
 use Rattle.buffers.proofs.Kept.{kept-then, kept-within}
 use Rattle.buffers.proofs.Cases.{le-or-lt, here-or}
 use Rattle.work_area.proofs.Holding.{held-kept, few}
 use Rattle.search.proofs.Leaving.{latest-le, latest-hit, latest-all}
+use Rattle.search.proofs.Calm.{calm-kept}
 use Rattle.search.proofs.Counting.{counted-same, stepped-none, stepped-then, lowered, renoted, same-length, backed-less}
 
 -- No line is reached.
@@ -207,6 +208,9 @@ module _ {q : Task} {n c limit count l j : ℕ} {w : List ℕ} (g : Underway q n
 
     tied-same : {k : ℕ} → k < n → Tie (q .map) v k j → Tie (q .map) w k j
     tied-same k< u = record { known = u .known; follows = u .follows; equal = omega (arith, u .equal, same _ k<, same j j<) }
+
+    pub calm-tied : {resume : ℕ} → Calm n resume w v resume
+    calm-tied = calm-kept g kept (λ k k<. omega (arith, waiting k k<))
 
     pub tied : Relaxed q n c limit l j w v count
     tied =

@@ -25,7 +25,7 @@ module _ {q : Task} {n c limit count place : ℕ} {w : List ℕ} (g : Underway q
   still l l< near =
       let a = g .listing .every l l< (omega (arith, g .small)) in
       let e : listed w (a .0) - 1 ≡ l = omega (arith, a .2) in
-      subst (λ (k : ℕ). predecessor w k < pendingWeight) e (s .none end (a .0) (a .1))
+      subst (λ (k : ℕ). predecessor w k < pendingWeight) e (s .passed (a .0) (omega (arith, a .1)) (a .1))
 
   all : (l j : ℕ) → l < n → lengthTo w l ≤ limit → Follows (q .map) l j → Counted (q .map) c limit l j w
   all l j l< near f = g .counted l j l< near (still l l< near) f

@@ -7,6 +7,7 @@ pub mod Places
 pub mod Leaving
 pub mod Resetting
 pub mod Lowering
+pub mod Calm
 pub mod Counting
 pub mod Going
 pub mod Lengths

@@ -93,10 +93,14 @@ pub record Begun (m : Map) (lines class first limit : ℕ) (w v : List ℕ) (r :
   pub waits : (i : ℕ) → i < r → Pending v (listed v i - 1)
   pub kept : Kept searchFrom nearestFrom w v
 
--- The line at place `r` is pending; or `r` is past the list, and none on it does.
+-- On the list of `count` lines none is pending before place `place`.
+abbrev pub Passed : ℕ → ℕ → List ℕ → Type 0
+Passed place count w = (i : ℕ) → i < place → i < count → predecessor w (listed w i - 1) < pendingWeight
+
+-- Place `r` has the first pending line of the list; or `r` is past the list, and none on it is.
 pub record Sought (count : ℕ) (w : List ℕ) (r : ℕ) : Type 0 where
   pub waits : r < count → Pending w (listed w r - 1)
-  pub none : count ≤ r → (i : ℕ) → i < count → predecessor w (listed w i - 1) < pendingWeight
+  pub passed : Passed r count w
 
 -- `r` is `x` with line `l` noted.
 pub record Noted (x l r : ℕ) : Type 0 where
@@ -124,6 +128,17 @@ pub record Lowered (j note count x : ℕ) (w v : List ℕ) (r : ℕ) : Type 0 wh
   pub new : far ≤ lengthTo w j → (r ≡ count + 1) × (listed v count ≡ j + 1)
   pub kept : Kept searchFrom nearestFrom w v
 
+-- Line `j` is lowered, and where the list is looked through from place `r` on, instead of `resume`, it is not missed: it is new, or was pending.
+pub record ResumesAfter (j resume : ℕ) (w : List ℕ) (r : ℕ) : Type 0 where
+  pub earlier : r ≤ resume
+  pub waits : 0 < r → lengthTo w j < far → Pending w j
+
+-- The list is looked through from place `r` on, instead of `resume`. What stood on it before that place stands there still, and is pending only where it was.
+pub record Calm (lines resume : ℕ) (w v : List ℕ) (r : ℕ) : Type 0 where
+  pub earlier : r ≤ resume
+  pub stays : (i : ℕ) → i < r → i < lines → 0 < listed w i → listed v i ≡ listed w i
+  pub waits : (i : ℕ) → i < r → i < lines → 0 < listed w i → Pending v (listed w i - 1) → Pending w (listed w i - 1)
+
 -- Line `l` is taken into account at line `j`.
 pub record Relaxed (q : Task) (lines class limit l j : ℕ) (w v : List ℕ) (r : ℕ) : Type 0 where
   pub step : Stepped q lines class limit w v r
@@ -141,3 +156,9 @@ pub record Ahead (m : Map) (lines l : ℕ) (w : List ℕ) (r : ℕ) : Type 0 whe
 pub record WentOn (q : Task) (lines class limit l : ℕ) (w v : List ℕ) (r : ℕ) : Type 0 where
   pub step : Stepped q lines class limit w v r
   pub less : Pending w l → weight v lines < weight w lines
+
+-- The search expanded line `l`, where that was pending, and it is pending no longer.
+pub record Expanded (q : Task) (lines class limit l resume : ℕ) (w v : List ℕ) (r place : ℕ) : Type 0 where
+  pub went : WentOn q lines class limit l w v r
+  pub still : predecessor v l < pendingWeight
+  pub calm : Calm lines resume w v place

@@ -47,7 +47,8 @@ pub fn search(work: &mut [u32], lines: usize, first: usize, class: u32, limit: u
     let mut count = begin(work, lines, first, class, limit);
     let mut place: usize = 0;
     while place < count {
-        count = relax_from(work, lines, place, count, class, limit);
-        place = first_pending(work, lines, count);
+        let list = relax_from(work, lines, place, count, class, limit);
+        count = list.count;
+        place = first_pending(work, lines, list);
     }
 }

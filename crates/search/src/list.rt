@@ -12,7 +12,14 @@ ghost use Rattle.model.specs.Work.{workLength};
 ghost use Rattle.search.specs.Area.{far, several, Chained, Listing, lengthTo};
 ghost use Prim.Native.Nat.{_≤_, _<_};
 ghost use lib.ListN.{length};
-ghost use Rattle.search.specs.Steps.{Reset, Sought, Lowered};
+ghost use Rattle.search.specs.Steps.{Reset, Lowered, ResumesAfter, Passed, Sought};
+
+// How many lines are on the list, and the place from which the search looks it through for a pending line once it has gone along it: past every place, or 0
+// once a line that was expanded is lowered again.
+pub struct ReachedLines {
+    pub count: usize,
+    pub resume: usize,
+}
 
 // Resets what the last search found: no line is reached, and the list is empty.
 pub fn reset(work: &mut [u32], lines: usize)
@@ -49,18 +56,33 @@ pub fn lower(work: &mut [u32], j: usize, note: u32, count: usize, to: u32) -> us
     count + 1
 }
 
-// The place of the first pending line of the list; `count` where there is none.
-pub fn first_pending(work: &[u32], lines: usize, count: usize) -> usize
-    requires { ⌜ (lines ≤ greatestLineCount) × (workLength ≤ length (now work)) × Listing (now work) lines count ⌝ }
-    ensures { λ r. ⌜ Sought count (now (work .entry)) r ⌝ }
+// The place, `resume` so far, from which the search looks for a pending line, once the length to line `j` is lowered.
+pub fn resume_after(work: &[u32], j: usize, resume: usize) -> usize
+    requires { ⌜ (j < greatestLineCount) × (workLength ≤ length (now work)) ⌝ }
+    ensures { λ r. ⌜ ResumesAfter j resume (now (work .entry)) r ⌝ }
 {
-    let mut i = 0;
-    while i < count {
+    if FAR <= work[LENGTHS + j] {
+        return resume;
+    }
+    if work[PREDECESSORS + j] < PENDING_WEIGHT {
+        return 0;
+    }
+    resume
+}
+
+// The place of the first pending line of the list; the count of its lines where there is none.
+pub fn first_pending(work: &[u32], lines: usize, list: ReachedLines) -> usize
+    requires { ⌜ (lines ≤ greatestLineCount) × (workLength ≤ length (now work)) × Listing (now work) lines (list .count) ⌝ }
+    requires { ⌜ Passed (list .resume) (list .count) (now work) ⌝ }
+    ensures { λ r. ⌜ Sought (list .count) (now (work .entry)) r ⌝ }
+{
+    let mut i = list.resume;
+    while i < list.count {
         let l = line_at(work, i) - 1;
         if PENDING_WEIGHT <= work[PREDECESSORS + l] {
             return i;
         }
         i += 1;
     }
-    count
+    list.count
 }

@@ -6,11 +6,14 @@ use crate::cells::PENDING_WEIGHT;
 use crate::cells::SEVERAL;
 use crate::cells::by_way_of;
 use crate::cells::line_at;
+use crate::list::ReachedLines;
 use crate::list::lower;
+use crate::list::resume_after;
 use buffers::wide;
 use work_area::END;
 use work_area::FRC;
 use work_area::LENGTHS;
+use work_area::MAP_LINES;
 use work_area::PREDECESSORS;
 use work_area::field;
 ghost use Rattle.work_area.specs.Area.{Held};
@@ -19,7 +22,7 @@ ghost use Rattle.model.specs.Work.{workLength};
 ghost use Rattle.search.specs.Area.{Chained, listed};
 ghost use Prim.Native.Nat.{_-_, _≤_, _<_};
 ghost use lib.ListN.{length};
-ghost use Rattle.search.specs.Steps.{Task, Underway, Noted, TieNoted, Relaxed, Ahead, WentOn};
+ghost use Rattle.search.specs.Steps.{Task, Underway, Noted, TieNoted, Relaxed, Calm, Ahead, Expanded, WentOn, Passed};
 
 // `x` with line `l` noted.
 fn note(x: u32, l: usize) -> u32
@@ -46,40 +49,43 @@ fn record_tie(work: &mut [u32], l: usize, j: usize)
     work[PREDECESSORS + j] = x / PENDING_WEIGHT * PENDING_WEIGHT + noted;
 }
 
-// Takes line `l` into account at line `j`, where that can follow it: how many lines are on the list now.
+// Takes line `l` into account at line `j`, where that can follow it: the list now.
 fn relax(
     work: &mut [u32],
     lines: usize,
     l: usize,
     j: usize,
-    count: usize,
+    list: ReachedLines,
     class: u32,
     limit: u32,
-) -> usize
+) -> ReachedLines
     requires { ⌜ (l < lines) × (j < lines) ⌝ }
-    requires { ⌜ ((q : Task) × Underway q lines class limit count (now work)) ⌝ }
-    ensures { λ r. ⌜ ((q : Task) → Underway q lines class limit count (now (work .entry))
-        → Relaxed q lines class limit l j (now (work .entry)) (now (work .exit)) r) ⌝ }
+    requires { ⌜ ((q : Task) × Underway q lines class limit (list .count) (now work)) ⌝ }
+    ensures { λ r. ⌜ ((q : Task) → Underway q lines class limit (list .count) (now (work .entry))
+        → Relaxed q lines class limit l j (now (work .entry)) (now (work .exit)) (r .count)
+        × Calm lines (list .resume) (now (work .entry)) (now (work .exit)) (r .resume)) ⌝ }
 {
     if !follows(work, lines, l, j) {
-        return count;
+        return list;
     }
     let length = by_way_of(work, l, j);
     let found = wide(work[LENGTHS + j]);
     if found < length {
-        return count;
+        return list;
     }
     if found == length {
         record_tie(work, l, j);
-        return count;
+        return list;
     }
     if class < field(work, j, FRC) {
-        return count;
+        return list;
     }
     if wide(limit) < length {
-        return count;
+        return list;
     }
-    lower(work, j, (l + 1) as u32, count, length as u32)
+    let resume = resume_after(work, j, list.resume);
+    let count = lower(work, j, (l + 1) as u32, list.count, length as u32);
+    ReachedLines { count, resume }
 }
 
 // The adjacency list to expand line `l` over: 1 + its first line, or 0 where there is none or where line `l` is not pending.
@@ -94,22 +100,22 @@ fn ahead(work: &[u32], lines: usize, l: usize) -> usize
     first_leaving(work, lines, wide(field(work, l, END)))
 }
 
-// Takes line `l` into account at each line ahead of it, and then it is pending no longer: how many lines are on the list now.
+// Takes line `l` into account at each line ahead of it, and then it is pending no longer: the list now.
 fn relax_all(
     work: &mut [u32],
     lines: usize,
     l: usize,
-    count: usize,
+    list: ReachedLines,
     class: u32,
     limit: u32,
-) -> usize
+) -> ReachedLines
     requires { ⌜ l < lines ⌝ }
-    requires { ⌜ ((q : Task) × Underway q lines class limit count (now work)) ⌝ }
-    ensures { λ r. ⌜ ((q : Task) → Underway q lines class limit count (now (work .entry))
-        → WentOn q lines class limit l (now (work .entry)) (now (work .exit)) r) ⌝ }
+    requires { ⌜ ((q : Task) × Underway q lines class limit (list .count) (now work)) ⌝ }
+    ensures { λ r. ⌜ ((q : Task) → Underway q lines class limit (list .count) (now (work .entry))
+        → Expanded q lines class limit l (list .resume) (now (work .entry)) (now (work .exit)) (r .count) (r .resume)) ⌝ }
 {
     let mut at = ahead(work, lines, l);
-    let mut reached = count;
+    let mut reached = list;
     while 0 < at {
         reached = relax(work, lines, l, at - 1, reached, class, limit);
         at = next_leaving(work, lines, at);
@@ -126,15 +132,19 @@ pub fn relax_from(
     count: usize,
     class: u32,
     limit: u32,
-) -> usize
-    requires { ⌜ from < count ⌝ }
+) -> ReachedLines
+    requires { ⌜ (from < count) × Passed from count (now work) ⌝ }
     requires { ⌜ ((q : Task) × Underway q lines class limit count (now work)) ⌝ }
     ensures { λ r. ⌜ ((q : Task) → Underway q lines class limit count (now (work .entry))
-        → WentOn q lines class limit (listed (now (work .entry)) from - 1) (now (work .entry)) (now (work .exit)) r) ⌝ }
+        → WentOn q lines class limit (listed (now (work .entry)) from - 1) (now (work .entry)) (now (work .exit)) (r .count)
+        × Passed (r .resume) (r .count) (now (work .exit))) ⌝ }
 {
     let mut i = from;
-    let mut reached = count;
-    while i < reached {
+    let mut reached = ReachedLines {
+        count,
+        resume: MAP_LINES,
+    };
+    while i < reached.count {
         let l = line_at(work, i) - 1;
         reached = relax_all(work, lines, l, reached, class, limit);
         i += 1;

@@ -34,28 +34,29 @@ loop-holds : tie.Need-loop-holds Inv-loop μ-loop
 loop-holds c =
     let p = c .before .before .before .before .before .pre in
     let b = c .before .before .begin .ensures (p .0) (p .1) (p .2) in
-    (record { waits = λ z. b .waits 0 z; none = λ z i i<. absurd (omega arith) }, λ q g. stepped-none g)
+    (record { waits = λ z. b .waits 0 z; passed = λ i i< c<. absurd (omega arith) }, λ q g. stepped-none g)
 
 relax-from-requires : tie.Need-relax-from-requires Inv-loop μ-loop
-relax-from-requires c κs = (c .before .loop-test .taken, state (c .before))
+relax-from-requires c κs = ((c .before .loop-test .taken, c .before .before .loop .inv .0 .passed), state (c .before))
 
 first-pending-requires : tie.Need-first-pending-requires Inv-loop μ-loop
 first-pending-requires c κs =
     let s = state (c .before .before .before .before .before) in
-    let g = c .before .before .before .relax-from .ensures (s .0) (s .1) .step .underway in
-    (few (g .held), g .held .full, g .listing)
+    let r = c .before .before .before .relax-from .ensures (s .0) (s .1) in
+    let g = r .0 .step .underway in
+    ((few (g .held), g .held .full, g .listing), r .1)
 
 loop-less : tie.Need-loop-less Inv-loop μ-loop
 loop-less c =
     let s = state (c .before .before .before .before .before .before) in
-    c .before .before .before .before .relax-from .ensures (s .0) (s .1) .less (c .before .before .before .before .before .before .before .loop .inv .0 .waits (c .before .before .before .before .before .before .loop-test .taken))
+    c .before .before .before .before .relax-from .ensures (s .0) (s .1) .0 .less (c .before .before .before .before .before .before .before .loop .inv .0 .waits (c .before .before .before .before .before .before .loop-test .taken))
 
 loop-again : tie.Need-loop-again Inv-loop μ-loop
 loop-again c = (
   c .first-pending .ensures,
   λ q g.
       let s = c .before .before .before .before .before .before .before .loop .inv .1 q g in
-      stepped-then s (c .before .before .before .before .relax-from .ensures q (s .underway) .step),
+      stepped-then s (c .before .before .before .before .relax-from .ensures q (s .underway) .0 .step),
 )
 
 same-length : tie.Need-same-length Inv-loop μ-loop

@@ -2,7 +2,8 @@
 use borrow.Author.Tests.{not-true, not-false}
 use Rattle.search.proofs.Reached.{count-le, room-left}
 use Rattle.work_area.proofs.Holding.{few}
-use Rattle.search.proofs.Going.{apart, nearer, tied, shut, beyond, brought-down}
+use Rattle.search.proofs.Calm.{calm-none, calm-lowered}
+use Rattle.search.proofs.Going.{apart, nearer, tied, calm-tied, shut, beyond, brought-down}
 use native.Mathlib.Omega.{arith}
 use borrow.Author.Needs.{needs}
 use Rattle.search.proofs.relax.relax.Statement.{statement}
@@ -18,7 +19,7 @@ returns : tie.Need-returns
 returns c =
     λ q g.
     let p = c .before .before .before .before .pre .0 in
-    apart g (p .0) (p .1) (rw (not-true (c .before .follows .result) (c .if1 .taken)) at (c .before .follows .ensures (q .map) (g .held)))
+    (apart g (p .0) (p .1) (rw (not-true (c .before .follows .result) (c .if1 .taken)) at (c .before .follows .ensures (q .map) (g .held))), calm-none)
 
 by-way-of-requires : tie.Need-by-way-of-requires
 by-way-of-requires c κs = search needs
@@ -45,7 +46,7 @@ returns-2 c =
     let x = c .before .before .before .by-way-of .ensures in
     let y = c .before .wide .ensures in
     let t = c .if2 .taken in
-    nearer g (p .0) (p .1) (omega arith)
+    (nearer g (p .0) (p .1) (omega arith), calm-none)
 
 record-tie-requires : tie.Need-record-tie-requires
 record-tie-requires c κs = search needs
@@ -61,7 +62,7 @@ returns-3 c =
     let y = c .before .before .before .before .before .before .wide .ensures in
     let t = c .before .before .before .before .if3 .taken in
     let f = rw (not-false (c .before .before .before .before .before .before .before .before .before .before .before .follows .result) (c .before .before .before .before .before .before .before .before .before .before .if1 .left)) at (c .before .before .before .before .before .before .before .before .before .before .before .follows .ensures (q .map) (g .held)) in
-    tied g (p .0) (p .1) f (omega arith) (c .before .before .record-tie .ensures)
+    (tied g (p .0) (p .1) f (omega arith) (c .before .before .record-tie .ensures), calm-tied g (p .0) (p .1) f (omega arith) (c .before .before .record-tie .ensures))
 
 field-requires : tie.Need-field-requires
 field-requires c κs = search needs
@@ -79,7 +80,7 @@ returns-4 c =
     let low = c .before .before .before .before .if2 .left in
     let other = c .before .before .before .if3 .left in
     let t = c .if4 .taken in
-    shut g (p .0) (p .1) (omega (arith, other)) (omega arith)
+    (shut g (p .0) (p .1) (omega (arith, other)) (omega arith), calm-none)
 
 wide-requires-2 : tie.Need-wide-requires-2
 wide-requires-2 c κs = search needs
@@ -97,7 +98,10 @@ returns-5 c =
     let low = c .before .before .before .before .before .before .if2 .left in
     let other = c .before .before .before .before .before .if3 .left in
     let t = c .if5 .taken in
-    beyond g (p .0) (p .1) (omega (arith, other)) (omega arith)
+    (beyond g (p .0) (p .1) (omega (arith, other)) (omega arith), calm-none)
+
+resume-after-requires : tie.Need-resume-after-requires
+resume-after-requires c κs = search needs
 
 add-lower : tie.Need-add-lower
 add-lower c = search needs
@@ -110,7 +114,7 @@ cast-lower-2 c = search needs
 
 lower-requires : tie.Need-lower-requires
 lower-requires c κs =
-    let p = c .before .before .before .before .before .before .before .before .before .before .before .before .before .before .before .before .pre in
+    let p = c .before .before .before .before .before .before .before .before .before .before .before .before .before .before .before .before .before .before .pre in
     let g = p .1 .1 in
     let h = g .held in
     let n≤ = few h in
@@ -122,17 +126,17 @@ same-length-6 c = search needs
 returns-6 : tie.Need-returns-6
 returns-6 c =
     λ q g.
-    let p = c .before .before .before .before .before .before .before .before .before .before .before .before .before .before .before .before .before .before .before .pre .0 in
-    let x = c .before .before .before .before .before .before .before .before .before .before .before .before .before .by-way-of .ensures in
-    let y = c .before .before .before .before .before .before .before .before .before .before .before .wide .ensures in
-    let z = c .before .before .before .before .before .before .before .field .ensures in
-    let u = c .before .before .before .before .before .wide2 .ensures in
-    let low = c .before .before .before .before .before .before .before .before .before .before .if2 .left in
-    let other = c .before .before .before .before .before .before .before .before .before .if3 .left in
-    let ok = c .before .before .before .before .before .before .if4 .left in
-    let near = c .before .before .before .before .if5 .left in
-    let f = rw (not-false (c .before .before .before .before .before .before .before .before .before .before .before .before .before .before .before .before .follows .result) (c .before .before .before .before .before .before .before .before .before .before .before .before .before .before .before .if1 .left)) at (c .before .before .before .before .before .before .before .before .before .before .before .before .before .before .before .before .follows .ensures (q .map) (g .held)) in
-    brought-down g (p .0) (p .1) x f (omega arith) (omega (arith, other)) (omega arith) (c .before .before .lower .ensures)
+    let p = c .before .before .before .before .before .before .before .before .before .before .before .before .before .before .before .before .before .before .before .before .before .pre .0 in
+    let x = c .before .before .before .before .before .before .before .before .before .before .before .before .before .before .before .by-way-of .ensures in
+    let y = c .before .before .before .before .before .before .before .before .before .before .before .before .before .wide .ensures in
+    let z = c .before .before .before .before .before .before .before .before .before .field .ensures in
+    let u = c .before .before .before .before .before .before .before .wide2 .ensures in
+    let low = c .before .before .before .before .before .before .before .before .before .before .before .before .if2 .left in
+    let other = c .before .before .before .before .before .before .before .before .before .before .before .if3 .left in
+    let ok = c .before .before .before .before .before .before .before .before .if4 .left in
+    let near = c .before .before .before .before .before .before .if5 .left in
+    let f = rw (not-false (c .before .before .before .before .before .before .before .before .before .before .before .before .before .before .before .before .before .before .follows .result) (c .before .before .before .before .before .before .before .before .before .before .before .before .before .before .before .before .before .if1 .left)) at (c .before .before .before .before .before .before .before .before .before .before .before .before .before .before .before .before .before .before .follows .ensures (q .map) (g .held)) in
+    (brought-down g (p .0) (p .1) x f (omega arith) (omega (arith, other)) (omega arith) (c .before .before .lower .ensures), calm-lowered g (c .before .before .lower .ensures) (c .before .before .before .before .resume-after .ensures))
 
 pub relax-spec : {M : Type 1} → statement M
 relax-spec =
@@ -157,6 +161,7 @@ relax-spec =
     wide-requires-2
     same-length-5
     returns-5
+    resume-after-requires
     add-lower
     cast-lower
     cast-lower-2

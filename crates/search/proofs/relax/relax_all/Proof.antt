@@ -3,9 +3,10 @@ use lib.ListN.{length}
 use Prim.Native.Nat.{_-_}
 use mathlib.Core.Path.{_≡_, refl, _∙_}
 use Rattle.model.specs.Lines.{lineAt}
-use Rattle.search.specs.Steps.{Task, Underway, Relaxed}
+use Rattle.search.specs.Steps.{Task, Underway, Relaxed, Calm}
 use Rattle.search.proofs.Leaving.{latest-le}
-use Rattle.search.proofs.Counting.{stepped-then, awake, lighter}
+use Rattle.search.proofs.Counting.{stepped-then, awake, awake-now, calm-awake, lighter}
+use Rattle.search.proofs.Calm.{calm-none, calm-then}
 use Rattle.search.proofs.Going.{Along, along-start, along-step}
 use native.Mathlib.Omega.{arith}
 use borrow.Author.Needs.{needs}
@@ -13,19 +14,20 @@ use Rattle.search.proofs.relax.relax_all.Statement.{statement}
 use Rattle.search.proofs.relax.relax_all.Tie as tie
 
 abbrev Inv-loop : tie.InvT-loop
-Inv-loop work₀ lines l count class limit at₀ reached₀ work at reached =
-    (length work ≡ length work₀) × ((q : Task) → Underway q lines class limit count work₀ → Along q lines class limit l work₀ work at reached)
+Inv-loop work₀ lines l class limit at₀ reached₀ work at reached =
+    (length work ≡ length work₀) × ((q : Task) → Underway q lines class limit (reached₀ .count) work₀ → Along q lines class limit l work₀ work at (reached .count) × Calm lines (reached₀ .resume) work₀ work (reached .resume))
 
 abbrev μ-loop : tie.MeasureT-loop
-μ-loop work₀ lines l count class limit at₀ reached₀ work at reached = at
+μ-loop work₀ lines l class limit at₀ reached₀ work at reached = at
 
 -- What a call does.
 relaxed : (c : tie.After-relax Inv-loop μ-loop) (q : Task) →
     let a = c .before .before .before .before .before .before .before .args in
     let k = c .before .before .before .loop in
-    Underway q (a .lines) (a .class) (a .limit) (a .count) (a .work .now) →
-    Relaxed q (a .lines) (a .class) (a .limit) (a .l) (k .at - 1) (k .work) (c .relax .last .0) (c .relax .result)
-relaxed c q g = c .relax .ensures q (c .before .before .before .loop .inv .1 q g .step .underway)
+    Underway q (a .lines) (a .class) (a .limit) (a .list .count) (a .work .now) →
+    Relaxed q (a .lines) (a .class) (a .limit) (a .l) (k .at - 1) (k .work) (c .relax .last .0) (c .relax .result .count) ×
+    Calm (a .lines) (k .reached .resume) (k .work) (c .relax .last .0) (c .relax .result .resume)
+relaxed c q g = c .relax .ensures q (c .before .before .before .loop .inv .1 q g .0 .step .underway)
 
 ahead-requires : tie.Need-ahead-requires Inv-loop μ-loop
 ahead-requires c κs = let p = c .before .before .pre in let g = p .1 .1 in (p .0, (_, g .held, g .chained))
@@ -33,7 +35,7 @@ ahead-requires c κs = let p = c .before .before .pre in let g = p .1 .1 in (p .
 loop-holds : tie.Need-loop-holds Inv-loop μ-loop
 loop-holds c = (
   refl,
-  λ q g. along-start g (c .before .before .before .pre .0) (c .ahead .ensures (q .map) (g .held) (g .chained)),
+  λ q g. (along-start g (c .before .before .before .pre .0) (c .ahead .ensures (q .map) (g .held) (g .chained)), calm-none),
 )
 
 sub-relax : tie.Need-sub-relax Inv-loop μ-loop
@@ -42,15 +44,15 @@ sub-relax c = search needs
 relax-requires : tie.Need-relax-requires Inv-loop μ-loop
 relax-requires c κs =
     let p = c .before .before .before .before .before .before .pre in
-    let k = c .before .before .loop .inv .1 (p .1 .0) (p .1 .1) in
+    let k = c .before .before .loop .inv .1 (p .1 .0) (p .1 .1) .0 in
     let i = k .inside in
     (search needs, (p .1 .0, k .step .underway))
 
 next-leaving-requires : tie.Need-next-leaving-requires Inv-loop μ-loop
 next-leaving-requires c κs =
     let p = c .before .before .before .before .before .before .before .before .before .before .pre in
-    let g = relaxed (c .before .before .before) (p .1 .0) (p .1 .1) .step .underway in
-    let k = c .before .before .before .before .before .before .loop .inv .1 (p .1 .0) (p .1 .1) in
+    let g = relaxed (c .before .before .before) (p .1 .0) (p .1 .1) .0 .step .underway in
+    let k = c .before .before .before .before .before .before .loop .inv .1 (p .1 .0) (p .1 .1) .0 in
     let i = k .inside in
     (search needs, (_, g .held, g .chained))
 
@@ -58,7 +60,7 @@ loop-less : tie.Need-loop-less Inv-loop μ-loop
 loop-less c =
     let p = c .before .before .before .before .before .before .before .before .before .before .before .pre in
     let q = p .1 .0 in
-    let g = relaxed (c .before .before .before .before) q (p .1 .1) .step .underway in
+    let g = relaxed (c .before .before .before .before) q (p .1 .1) .0 .step .underway in
     let t = c .before .before .before .before .before .before .loop-test .taken in
     let e = c .next-leaving .ensures _ (g .held) (g .chained) in
     let j = c .before .before .before .before .before .before .before .loop .at - 1 in
@@ -69,8 +71,9 @@ loop-again c = (
   c .before .before .before .before .relax .kept .0 ∙ c .before .before .before .before .before .before .before .loop .inv .0,
   λ q g.
       let p = relaxed (c .before .before .before .before) q g in
-      let h = p .step .underway in
-      along-step (c .before .before .before .before .before .before .before .loop .inv .1 q g) (c .before .before .before .before .before .before .loop-test .taken) p (c .next-leaving .ensures _ (h .held) (h .chained)),
+      let h = p .0 .step .underway in
+      let k = c .before .before .before .before .before .before .before .loop .inv .1 q g in
+      (along-step (k .0) (c .before .before .before .before .before .before .loop-test .taken) (p .0) (c .next-leaving .ensures _ (h .held) (h .chained)), calm-then (k .1) (p .1)),
 )
 
 add-work : tie.Need-add-work Inv-loop μ-loop
@@ -97,12 +100,17 @@ same-length c = search needs
 returns : tie.Need-returns Inv-loop μ-loop
 returns c =
     λ q g.
-    let k = c .before .before .loop .inv .1 q g in
+    let s = c .before .before .loop .inv .1 q g in
+    let k = s .0 in
     let l = c .before .before .before .before .before .before .pre .0 in
     let a = awake (k .step .underway) l refl (λ j near f. k .counted j (let t = c .before .loop-test .left in omega arith) near f) in
     record {
-      step = stepped-then (k .step) a;
-      less = λ y. omega (arith, k .step .lighter, lighter (k .step .underway) l refl (k .waits y));
+      went = record {
+        step = stepped-then (k .step) a;
+        less = λ y. omega (arith, k .step .lighter, lighter (k .step .underway) l refl (k .waits y));
+      };
+      still = awake-now (k .step .underway) l refl;
+      calm = calm-then (s .1) (calm-awake (k .step .underway) l refl);
     }
 
 pub relax-all-spec : {M : Type 1} → statement M
