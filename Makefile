@@ -1,9 +1,10 @@
-# `make` reads the ridge example, `make test` runs the gate, `make bench` measures against plain Rust (`make bench ROWS=read`: of one kind),
+# `make` reads the ridge example, `make ridge-ban` the one with a turn banned, `make test` runs the gate,
+# `make bench` measures against plain Rust (`make bench ROWS=read`: of one kind),
 # `make count` counts the proved writer's searches and leg tests, `make host` runs a C host on the ridge, `make test-host` tests the C functions,
 # `make test-plain` tests plain Rust and holds it to the stored cases,
 # `make differential` holds the C functions to plain Rust (`make differential CALLS=1000000 SEED=2`),
 # `make counts` counts definitions, code, proofs and tests, `make figures` makes docs/FIGURES.md anew.
-.PHONY: ridge test bench count archive host test-host test-plain differential counts figures
+.PHONY: ridge ridge-ban test bench count archive host test-host test-plain differential counts figures
 .DELETE_ON_ERROR:
 
 CALLS = 400000
@@ -21,6 +22,9 @@ SOURCES := crates.txt $(shell find crates -name '*.rt' -o -name '*.antt')
 
 ridge: target/bin/openlr_show
 	cd examples/ridge && ../../target/bin/openlr_show
+
+ridge-ban: target/bin/openlr_show
+	cd examples/ridge_ban && ../../target/bin/openlr_show
 
 target/bin/openlr_show: $(SOURCES)
 	rt check openlr_show >&2

@@ -23,14 +23,16 @@ INTRODUCTION = """\
 ## Calls
 
 Each row is the mean over up to eight inputs of the best of many rounds, in microseconds; the proved function and plain Rust take turns in one process. The maps
-have 512 nodes and about 1,024 lines. Plain Rust is that of `bench/src`, written for speed. A ratio below 1 says that the proved function is faster.
+have 512 nodes and about 1,024 lines, and no banned turns but where a row names them: 512 spread over the map, or all at the junction with most turns, where
+they are listed many times. Plain Rust is that of `bench/src`, written for speed. A ratio below 1 says that the proved function is faster.
 Readings of over 2,304 lines are made twice; a C host's lists have 1,024 at most, so those rows are left out of the aim of 1.2.
 """
 
 SEARCHES = """\
 ## Searches
 
-One search from a first line up to a limit, against four plain ones: proved µs / plain µs = ratio. The last two maps are made against the search.
+One search from a first line up to a limit, against three plain ones: proved µs / plain µs = ratio. The last three maps are made against the search. Reader
+and writer in plain Rust use the heap of nodes and lines.
 """
 
 EFFORT = """\

@@ -22,17 +22,18 @@ extern "C" {
 #endif
 
 /* Goes up by 1 with each change that a host has to know of: of the map's bytes, of a refusal's number or condition, of a struct or a function, or of the unit.
-   Version 1: lengths and offsets are in decimetres, in the map's bytes as in the calls. A version with another unit has another OPENLR_UNITS_PER_METRE too. */
-#define OPENLR_VERSION 1
+   Version 1: lengths and offsets are in decimetres, in the map's bytes as in the calls. A version with another unit has another OPENLR_UNITS_PER_METRE too.
+   Version 2: banned turns. Every map has a count of bans after its lines, and so a map of version 1 is refused with 2; refusals 21 to 23 are new. */
+#define OPENLR_VERSION 2
 #define OPENLR_UNITS_PER_METRE 10
 
 /* The most that there can be, for buffers that are never too short. */
-#define OPENLR_LONGEST_MAP 17412     /* Bytes of a map: 512 nodes of 8, 1,024 lines of 13, and two counts of 2. */
+#define OPENLR_LONGEST_MAP 19462     /* Bytes of a map that is not refused: 512 nodes of 8, 1,024 lines of 13, 512 bans of 4, and three counts of 2. */
 #define OPENLR_LONGEST_REFERENCE 459 /* Bytes of a reference: 1 and a first point of 9, 63 middle points of 7, a last one of 6, and two offsets of 1. */
 #define OPENLR_MOST_LINES 1024       /* Lines that openlr_read hands back, each in four bytes. */
 
-/* Bytes of stack that a thread needs for a call of either function: 96 KiB, of which a call takes up to 69. */
-#define OPENLR_LEAST_STACK 98304
+/* Bytes of stack that a thread needs for a call of either function: 104 KiB, of which a call takes up to 77. */
+#define OPENLR_LEAST_STACK 106496
 
 /* Why a call is refused. Each is given when its condition holds and none above it does; for 2 to 5 the first faulty number in the map decides instead.
    openlr_refusal_sentence below has the conditions, and docs/FORMAT.md an example of each. A later version may have further numbers. */
@@ -44,9 +45,11 @@ enum openlr_refusal {
     OPENLR_MAP_COORDINATE = 4,
     OPENLR_MAP_LINE = 5,
     OPENLR_EQUAL_CODES = 6,
+    OPENLR_MAP_BAN = 23,
     /* The writer. */
     OPENLR_STRETCH_LINES = 7,
     OPENLR_STRETCH_GAP = 8,
+    OPENLR_STRETCH_BAN = 21,
     OPENLR_STRETCH_OFFSETS = 9,
     OPENLR_NO_CHOICE = 10,
     OPENLR_BYTES_SHORT = 11,
@@ -58,6 +61,7 @@ enum openlr_refusal {
     OPENLR_NO_NODE = 16,          /* `place` is the point. */
     OPENLR_NO_READING = 17,       /* `place` is the leg. */
     OPENLR_SEVERAL_READINGS = 18, /* `place` is the leg. */
+    OPENLR_JOINED_BAN = 22,
     OPENLR_NO_OFFSET = 19,
     OPENLR_LINES_SHORT = 20
 };
@@ -103,12 +107,14 @@ static inline const char *openlr_refusal_sentence(uint32_t refusal) {
     case 0: return "";
     case OPENLR_WORK_AREA_SHORT: return "the work area is too short";
     case OPENLR_MAP_NUMBER: return "the map ends early, has a number too large or not in its shortest form, or has bytes left over";
-    case OPENLR_MAP_COUNT: return "the map's count of nodes is not 2 to 512, or its count of lines is not 1 to 1,024";
+    case OPENLR_MAP_COUNT: return "the map's count of nodes is not 2 to 512, its count of lines is not 1 to 1,024, or its count of bans is over 512";
     case OPENLR_MAP_COORDINATE: return "a coordinate of the map is outside its range";
     case OPENLR_MAP_LINE: return "a field of one of the map's lines is outside its range, or a line ends at the node where it starts";
     case OPENLR_EQUAL_CODES: return "two nodes of the map have the same pair of codes";
+    case OPENLR_MAP_BAN: return "a ban of the map names no line, or its second line does not start where its first ends";
     case OPENLR_STRETCH_LINES: return "the stretch has no line, over 64 lines or a line that the map has not, or its count of bytes is no multiple of four";
     case OPENLR_STRETCH_GAP: return "a line of the stretch does not end where the next one starts";
+    case OPENLR_STRETCH_BAN: return "a line of the stretch is banned straight after the one before it";
     case OPENLR_STRETCH_OFFSETS: return "the two offsets together are not below the length of the stretch";
     case OPENLR_NO_CHOICE: return "no choice of points is usable for the stretch";
     case OPENLR_BYTES_SHORT: return "the byte buffer is shorter than the reference";
@@ -119,6 +125,7 @@ static inline const char *openlr_refusal_sentence(uint32_t refusal) {
     case OPENLR_NO_NODE: return "a point of the reference has no node on the map";
     case OPENLR_NO_READING: return "a leg of the reference has no reading on the map";
     case OPENLR_SEVERAL_READINGS: return "a leg of the reference has several readings on the map";
+    case OPENLR_JOINED_BAN: return "two legs of the reference meet in a banned turn of the map";
     case OPENLR_NO_OFFSET: return "no offset gives a flagged offset byte, or the two least offsets reach the total length";
     case OPENLR_LINES_SHORT: return "the line buffer is shorter than the list of lines, or the list has over 1,024 lines";
     default: return "unknown refusal";

@@ -10,13 +10,13 @@ from legs import Leg, LegSearch, Readings, describe_leg, list_length
 from outcome import RefusedCall
 from read_recipes import READ_RECIPES, read_outcome
 from recipes import any_sample
-from sample_maps import full_size_sample, random_walk
+from sample_maps import Sample, chain_of_blocks, chain_of_ties, full_size_sample, other_first_line_sample, other_way, pairs_of, random_walk
 from write_recipes import WRITE_RECIPES, write_outcome
 
 
 @dataclass(frozen=True)
 class MapCase:
-    """Expected: the map itself, or a refusal from 2 to 6."""
+    """Expected: the map itself, or a refusal from 2 to 6, or 23."""
     label: str
     map_bytes: bytes
     expected: object
@@ -53,13 +53,13 @@ def random_source(kind, seed, index):
 
 
 def good_map(rng, turn):
-    sample = full_size_sample(rng) if turn % 20 == 19 else any_sample(rng, turn)
+    sample = full_size_sample(rng, turn // 12) if turn % 12 == 11 else any_sample(rng, turn)
     return sample.label, map_to_bytes(sample.depot_map)
 
 
 def damaged_map(refusal):
     def recipe(rng, turn):
-        sample = full_size_sample(rng) if turn % 50 == 49 else any_sample(rng, turn)
+        sample = full_size_sample(rng, turn // 50 + 2) if turn % 50 == 49 else any_sample(rng, turn)
         damage = map_damage(sample.depot_map, refusal, turn)
         return damage.label, damage.apply(sample.depot_map)
     return recipe
@@ -84,6 +84,7 @@ MAP_RECIPES = {
     "refusal 4": damaged_map(4),
     "refusal 5": damaged_map(5),
     "refusal 6": damaged_map(6),
+    "refusal 23": damaged_map(23),
 }
 
 
@@ -135,8 +136,26 @@ def leg_to_other_node(rng, turn):
 
 
 def leg_on_full_map(rng, turn):
-    sample = full_size_sample(rng)
+    sample = full_size_sample(rng, turn)
     return sample, stretch_leg(rng, sample)
+
+
+def leg_with_other_way_banned(rng, turn):
+    """A tie, or two ways of which one is shorter, with a turn of the one or of the other banned, or of both."""
+    depot_map, legs = chain_of_ties(1, (0,) if turn % 2 else ())
+    own, other = pairs_of(legs[0]), pairs_of(other_way(legs[0]))
+    bans = [other[:1], other[1:], own, own + other[:1]][turn // 2 % 4]
+    depot_map = replace(depot_map, bans=tuple(bans))
+    return Sample("two ways", depot_map, legs[0]), describe_leg(depot_map, legs[0], turn // 8 % 2 == 1)
+
+
+def leg_around_the_block(rng, turn):
+    """A banned turn with no way around, one or two; every fifth time with another first line that goes around."""
+    if turn % 5 == 4:
+        sample = other_first_line_sample(rng)
+        return sample, describe_leg(sample.depot_map, sample.stretch, rng.random() < 0.5)
+    depot_map, legs = chain_of_blocks([turn % 5 % 3])
+    return Sample("block", depot_map, legs[0]), describe_leg(depot_map, legs[0], rng.random() < 0.5)
 
 
 LEG_RECIPES = {
@@ -146,6 +165,8 @@ LEG_RECIPES = {
     "marks changed": leg_with_other_marks,
     "end changed": leg_to_other_node,
     "full size": leg_on_full_map,
+    "turn banned": leg_with_other_way_banned,
+    "around the block": leg_around_the_block,
 }
 
 

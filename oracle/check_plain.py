@@ -101,7 +101,7 @@ def write_rows(program, calls):
 def stored_row(row):
     """What a row says of the answer. The rest is about memory and sums that the plain implementation does not have."""
     row = re.sub(r" work (kept|cleared) rest kept", "", row)
-    row = re.sub(r"^(nodes \d+ lines \d+) sum \d+$", r"\1", row)
+    row = re.sub(r"^(nodes \d+ lines \d+) bans \d+ sum \d+$", r"\1", row)
     return re.sub(r"^one .*:", "one", row)
 
 

@@ -7,9 +7,11 @@ import random
 import subprocess
 import sys
 import tempfile
+from dataclasses import replace
 from pathlib import Path
 
-from depot_map import map_numbers, map_to_bytes, numbers_to_bytes
+from depot_map import (GREATEST_LATITUDE, GREATEST_LONGITUDE, LARGEST_NUMBER, MOST_BANS, MOST_LINES, MOST_NODES, DepotMap, Line, Node, map_numbers,
+                       map_to_bytes, numbers_to_bytes)
 from read_recipes import around, bytes_of_legs, longest_reference
 from sample_maps import ridge_map
 from show import shown
@@ -19,8 +21,28 @@ from test_scope_paper import RIDGE, THREE_POINTS, THREE_POINTS_OFFSET_500, TWO_P
 FAR = 200_000
 
 
-def ridge_with_last_number(number):
-    return numbers_to_bytes(map_numbers(ridge_map())[:-1] + [number])
+def ridge_with_count_of_bans(number, *pairs):
+    return numbers_to_bytes(map_numbers(ridge_map())[:-1] + [number, *pairs])
+
+
+def longest_map():
+    """Every number as long as it can be in a map that is accepted. Up to three lines join the same two nodes; D tells them apart."""
+    nodes = tuple(Node(GREATEST_LONGITUDE - 100 * number, GREATEST_LATITUDE) for number in range(MOST_NODES))
+    ring = 384
+    lines = tuple(Line(128 + number % ring, 128 + (number + 1) % ring, 150_000 - 586 * (number // ring), 7, 7, 359, 359) for number in range(MOST_LINES))
+    bans = tuple((first, first + 1) for first in range(128, 128 + MOST_BANS))
+    return DepotMap(nodes, lines, bans)
+
+
+def longest_maps():
+    """The longest map that is accepted, and one as long as can be whose pairs name no line: refusal 23, and 2 where a byte is left over."""
+    depot_map = longest_map()
+    longest, reference = map_to_bytes(depot_map), bytes_of_legs(depot_map, [(1_000,)])
+    yield "longest map", {"map.bin": longest, "ref.bin": reference}
+    yield "longest map and a byte", {"map.bin": longest + b"\x00", "ref.bin": reference}
+    wrong_pairs = map_to_bytes(replace(depot_map, bans=((LARGEST_NUMBER, LARGEST_NUMBER),) * MOST_BANS))
+    yield "longest map with wrong pairs", {"map.bin": wrong_pairs, "ref.bin": reference}
+    yield "longest map with wrong pairs and a byte", {"map.bin": wrong_pairs + b"\x00", "ref.bin": reference}
 
 
 def ring_reading(line_count):
@@ -44,9 +66,14 @@ def folders():
     yield "no map", {"ref.bin": THREE_POINTS}
     yield "no reference", {"map.bin": RIDGE}
     yield "bytes left over", {"map.bin": RIDGE + bytes(FAR), "ref.bin": THREE_POINTS}
-    yield "fault before the bytes left over", {"map.bin": ridge_with_last_number(360) + bytes(FAR)}
+    yield "fault before the bytes left over", {"map.bin": ridge_with_count_of_bans(513) + bytes(FAR)}
     yield "number without an end", {"map.bin": b"\xff" * FAR}
-    yield "last number without an end", {"map.bin": ridge_with_last_number(b"\x80" * FAR)}
+    yield "last count without an end", {"map.bin": ridge_with_count_of_bans(b"\x80" * FAR)}
+    yield "last number without an end", {"map.bin": ridge_with_count_of_bans(1, 0, b"\x80" * FAR)}
+    yield "the ridge with a turn banned, two points", {"map.bin": map_to_bytes(ridge_map((0, 2))), "ref.bin": TWO_POINTS}
+    yield "legs that meet in a banned turn", {"map.bin": map_to_bytes(ridge_map((0, 1))), "ref.bin": THREE_POINTS}
+    yield "a line banned after itself", {"map.bin": map_to_bytes(ridge_map((0, 0))), "ref.bin": THREE_POINTS}
+    yield from longest_maps()
     for length in (459, 460, 511, 512, 513, FAR):
         yield f"reference of {length} bytes", {"map.bin": RIDGE, "ref.bin": (THREE_POINTS + bytes(FAR))[:length]}
     yield "longest reference", longest()

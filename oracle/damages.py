@@ -1,9 +1,10 @@
 """Ways to damage a good map or a good reference, each with the refusal that must follow from the table."""
 
-from dataclasses import dataclass, field
+from dataclasses import dataclass, field, replace
+from typing import Optional
 
-from depot_map import (GREATEST_LATITUDE, GREATEST_LONGITUDE, LARGEST_NUMBER, LATITUDE_SHIFT, LONGITUDE_SHIFT,
-                       map_numbers, numbers_to_bytes, write_number)
+from depot_map import (GREATEST_LATITUDE, GREATEST_LONGITUDE, LARGEST_NUMBER, LATITUDE_SHIFT, LONGITUDE_SHIFT, MOST_BANS, MOST_LINES,
+                       joins, map_numbers, numbers_to_bytes, write_number)
 from fields import coordinate_code
 from legs import Marks, marks_arriving, marks_leaving
 from reader import point_nodes
@@ -14,14 +15,17 @@ LINE_FIELDS = ("start node", "end node", "length", "FRC", "FOW", "bearing out", 
 
 @dataclass(frozen=True)
 class MapDamage:
-    """Numbers of a map to be replaced (by a value, or by bytes in a wrong form), bytes cut off or added."""
+    """Other bans than the map's own, numbers of it to be replaced (by a value, or by bytes in a wrong form), bytes cut off or added."""
     refusal: int
     label: str
     changes: dict = field(default_factory=dict)
     cut_bytes: int = 0
     left_over: bytes = b""
+    bans: Optional[tuple] = None
 
     def apply(self, depot_map):
+        if self.bans is not None:
+            depot_map = replace(depot_map, bans=self.bans)
         numbers = map_numbers(depot_map)
         for index, replacement in self.changes.items():
             numbers[index] = replacement
@@ -45,6 +49,10 @@ def line_field_index(depot_map, line, line_field):
     return line_count_index(depot_map) + 1 + 7 * line + LINE_FIELDS.index(line_field)
 
 
+def ban_count_index(depot_map):
+    return line_field_index(depot_map, len(depot_map.lines), "start node")
+
+
 def not_shortest(number):
     """The number with a useless group of zero bits at its end."""
     shortest = write_number(number)
@@ -56,8 +64,11 @@ def form_damages(depot_map):
     numbers = map_numbers(depot_map)
     last = len(numbers) - 1
     whole = len(numbers_to_bytes(numbers))
+    bans = len(numbers_to_bytes(numbers[ban_count_index(depot_map):]))
     over = write_number(LARGEST_NUMBER + 1)
     return [
+        MapDamage(2, "ends before its count of bans", cut_bytes=bans),
+        MapDamage(2, "ends after the first number of its only ban", cut_bytes=1, bans=((0, 0),)),
         MapDamage(2, "no bytes", cut_bytes=whole),
         MapDamage(2, "ends after its first number", cut_bytes=whole - len(write_number(numbers[0]))),
         MapDamage(2, "ends one byte early", cut_bytes=1),
@@ -72,9 +83,11 @@ def form_damages(depot_map):
 
 
 def count_damages(depot_map):
-    index = line_count_index(depot_map)
+    lines, bans = line_count_index(depot_map), ban_count_index(depot_map)
     return [MapDamage(3, f"{count} nodes", {0: count}) for count in (0, 1, 513, LARGEST_NUMBER)] + [
-        MapDamage(3, f"{count} lines", {index: count}) for count in (0, 1_025, LARGEST_NUMBER)]
+        MapDamage(3, f"{count} lines", {lines: count}) for count in (0, 1_025, LARGEST_NUMBER)] + [
+        MapDamage(3, f"{count} bans", {bans: count}) for count in (513, LARGEST_NUMBER)] + [
+        MapDamage(3, "513 bans with their pairs", bans=((0, 0),) * (MOST_BANS + 1))]
 
 
 def coordinate_damages(depot_map):
@@ -128,12 +141,43 @@ def same_code_damages(depot_map):
     return damages
 
 
+def wrong_pairs(lines):
+    """Pairs that no ban may name, each with what is wrong with it. Some name lines that join, but for bits above a line number's."""
+    last = len(lines) - 1
+    yield "names no line first", (last + 1, 0)
+    yield "names no line second", (last, last + 1)
+    for pair in ((LARGEST_NUMBER, 0), (0, LARGEST_NUMBER), (LARGEST_NUMBER, LARGEST_NUMBER)):
+        yield "names the largest number", pair
+    yield "first line and itself", (0, 0)
+    yield "last line and itself", (last, last)
+    joined = next(((first, second) for first in range(last + 1) for second in range(last + 1) if joins(lines, first, second)), None)
+    if joined is not None:
+        first, second = joined
+        for more in (MOST_LINES, 2 ** 16, 2 ** 31):
+            yield f"first line {more} too large", (first + more, second)
+            yield f"second line {more} too large", (first, second + more)
+    for first, second in ((0, last), (last, 0), joined[::-1] if joined else (0, 0)):
+        if first != second and not joins(lines, first, second):
+            yield "does not join", (first, second)
+
+
+def ban_damages(depot_map):
+    """Refusal 23: a wrong pair alone, before the map's own bans and after them."""
+    damages = []
+    for label, pair in wrong_pairs(depot_map.lines):
+        own = depot_map.bans[:MOST_BANS - 1]
+        places = {"only": (pair,), "first": (pair,) + own, "last": own + (pair,)}
+        damages += [MapDamage(23, f"{place} ban {label}", bans=bans) for place, bans in places.items() if own or place == "only"]
+    return damages
+
+
 def two_map_damages(depot_map):
-    """Maps with two faults: the first faulty number decides, left-over bytes come after, refusal 6 last."""
+    """Maps with two faults: the first faulty number decides, left-over bytes come after, then refusal 6, then 23."""
     numbers = map_numbers(depot_map)
     first_end = line_field_index(depot_map, 0, "end node")
     first_length = line_field_index(depot_map, 0, "length")
-    last = len(numbers) - 1
+    last_bearing = ban_count_index(depot_map) - 1
+    ban_count = last_bearing + 1
     equal_ends = depot_map.lines[0].start_node
     same_nodes = same_code_damages(depot_map)[0].changes
     return [
@@ -148,17 +192,25 @@ def two_map_damages(depot_map):
                   {first_end: equal_ends, first_length: not_shortest(numbers[first_length])}),
         MapDamage(2, "end node in a wrong form with equal ends", {first_end: not_shortest(equal_ends)}),
         MapDamage(2, "count in a wrong form and outside its range", {0: b"\x80\x00"}),
-        MapDamage(5, "wrong line field and a byte left over", {last: 360}, left_over=b"\x00"),
+        MapDamage(5, "wrong line field and a byte left over", {last_bearing: 360}, left_over=b"\x00"),
         MapDamage(3, "no lines and bytes left over", {line_count_index(depot_map): 0}, left_over=b"\x00"),
         MapDamage(2, "equal nodes and a byte left over", same_nodes, left_over=b"\x00"),
-        MapDamage(5, "equal nodes and a wrong line field", {**same_nodes, last: 360}),
+        MapDamage(5, "equal nodes and a wrong line field", {**same_nodes, last_bearing: 360}),
+        MapDamage(5, "wrong line field before a wrong count of bans", {last_bearing: 360, ban_count: 513}),
+        MapDamage(3, "wrong count of bans before a wrong form", {ban_count: 513, ban_count + 1: b"\x80\x00"}, bans=((0, 0),)),
+        MapDamage(2, "count of bans in a wrong form and outside its range", {ban_count: b"\x81\x84\x00"}),
+        MapDamage(2, "wrong pair before a wrong form", {ban_count + 3: b"\x80\x00"}, bans=((0, 0), (0, 0))),
+        MapDamage(2, "wrong pair with a number too large", {ban_count + 2: write_number(LARGEST_NUMBER + 1)}, bans=((0, 0),)),
+        MapDamage(2, "wrong pair and an early end", {ban_count: 2}, bans=((0, 0),)),
+        MapDamage(2, "wrong pair and a byte left over", left_over=b"\x00", bans=((0, 0),)),
+        MapDamage(6, "equal nodes and a wrong pair", same_nodes, bans=((0, 0),)),
     ]
 
 
 def map_damages(depot_map):
-    """All damages that are known for a map, refusals 2 to 6."""
-    return (form_damages(depot_map) + count_damages(depot_map) + coordinate_damages(depot_map)
-            + line_damages(depot_map) + same_code_damages(depot_map) + two_map_damages(depot_map))
+    """All damages that are known for a map, refusals 2 to 6 and 23."""
+    return (form_damages(depot_map) + count_damages(depot_map) + coordinate_damages(depot_map) + line_damages(depot_map)
+            + same_code_damages(depot_map) + ban_damages(depot_map) + two_map_damages(depot_map))
 
 
 def map_damage(depot_map, refusal, turn):

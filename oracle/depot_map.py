@@ -1,4 +1,4 @@
-"""The depot map: its bytes and refusals 2 to 6 (scope paper, "The depot map", "Refused, by place")."""
+"""The depot map: its bytes and refusals 2 to 6 and 23 (scope paper, "The depot map", "Refused, by place"; paper 02, "Banned turns")."""
 
 from dataclasses import dataclass
 from functools import lru_cache
@@ -13,6 +13,7 @@ GREATEST_LONGITUDE = 17_999_998
 GREATEST_LATITUDE = 9_000_000
 FEWEST_NODES, MOST_NODES = 2, 512
 FEWEST_LINES, MOST_LINES = 1, 1_024
+MOST_BANS = 512
 
 
 @dataclass(frozen=True)
@@ -36,8 +37,10 @@ class Line:
 
 @dataclass(frozen=True)
 class DepotMap:
+    """A ban is a pair of line numbers: the second is not allowed straight after the first. Bans stand as they are listed, repeated ones too."""
     nodes: tuple
     lines: tuple
+    bans: tuple = ()
 
 
 @lru_cache(maxsize=None)
@@ -79,6 +82,9 @@ def map_numbers(depot_map):
     for line in depot_map.lines:
         numbers += [line.start_node, line.end_node, line.length, line.frc, line.fow,
                     line.bearing_out, line.bearing_back]
+    numbers.append(len(depot_map.bans))
+    for ban in depot_map.bans:
+        numbers += ban
     return numbers
 
 
@@ -128,16 +134,31 @@ def _take_line(numbers, node_count):
     return Line(start_node, end_node, length, frc, fow, bearing_out, bearing_back)
 
 
+def _take_ban(numbers):
+    """Any number of 32 bits will do here: what a pair names is asked when the map is read whole."""
+    first = numbers.take(0, LARGEST_NUMBER, 2)
+    return first, numbers.take(0, LARGEST_NUMBER, 2)
+
+
+def joins(lines, first, second):
+    """Whether both are line numbers and the second line starts where the first ends."""
+    return max(first, second) < len(lines) and lines[first].end_node == lines[second].start_node
+
+
 @lru_cache(maxsize=64)
 def read_map(data):
-    """The map, or RefusedCall with 2 to 6. Maps read last are kept, since many calls are on the same map."""
+    """The map, or RefusedCall with 2 to 6 or 23. Maps read last are kept, since many calls are on the same map."""
     numbers = _NumbersInOrder(data)
     node_count = numbers.take(FEWEST_NODES, MOST_NODES, 3)
     nodes = tuple(_take_node(numbers) for _ in range(node_count))
     line_count = numbers.take(FEWEST_LINES, MOST_LINES, 3)
     lines = tuple(_take_line(numbers, node_count) for _ in range(line_count))
+    ban_count = numbers.take(0, MOST_BANS, 3)
+    bans = tuple(_take_ban(numbers) for _ in range(ban_count))
     if numbers.position != len(data):
         raise RefusedCall(2)
     if len({code_pair(node) for node in nodes}) < node_count:
         raise RefusedCall(6)
-    return DepotMap(nodes, lines)
+    if not all(joins(lines, *ban) for ban in bans):
+        raise RefusedCall(23)
+    return DepotMap(nodes, lines, bans)

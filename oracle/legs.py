@@ -1,4 +1,4 @@
-"""A leg's readings (scope paper, "What counts as a reading"), by counting and by enumeration."""
+"""A leg's readings (scope paper, "What counts as a reading"; paper 02, "Banned turns"), by counting and by enumeration."""
 
 import heapq
 from dataclasses import dataclass
@@ -34,10 +34,10 @@ class Readings:
 
 
 class LeastWay(NamedTuple):
-    """The least length of the line lists to a node, how many have it, and the last line of one of them."""
+    """The least length of the line lists to a line, how many have it, and the line before the last of one of them."""
     length: int
     count: int
-    last_line: int
+    line_before: Optional[int]
 
 
 def marks_leaving(line):
@@ -64,8 +64,42 @@ def describe_leg(depot_map, lines, is_last):
         last_marks=marks_arriving(last) if is_last else None)
 
 
+def passes_a_node_twice(depot_map, lines):
+    """Whether a list ends at a node and comes there again before its last line. Without bans no list of least length does."""
+    passed = [depot_map.lines[line].end_node for line in lines[:-1]]
+    return len(set(passed)) < len(passed)
+
+
+def has_banned_pair(depot_map, lines):
+    """Whether a line of the list stands straight after one after which it is banned."""
+    return any(pair in depot_map.bans for pair in zip(lines, lines[1:]))
+
+
+class LinesByLength:
+    """Lines that wait to be taken, each with the length of its least way."""
+
+    def __init__(self):
+        self.lengths = []
+        self.lines = {}
+
+    def add(self, length, line):
+        if length not in self.lines:
+            heapq.heappush(self.lengths, length)
+            self.lines[length] = []
+        self.lines[length].append(line)
+
+    def take_shortest(self):
+        """The least length and all lines that have it."""
+        length = heapq.heappop(self.lengths)
+        return length, self.lines.pop(length)
+
+
 class LegSearch:
-    """Counts the readings of legs on one map. Searches already made are kept."""
+    """Counts the readings of legs on one map. Searches already made are kept.
+
+    The search is over lines and not over nodes: with bans it matters by which line a node is reached, and a list of
+    least length may pass a node twice.
+    """
 
     def __init__(self, depot_map):
         self.depot_map = depot_map
@@ -74,82 +108,93 @@ class LegSearch:
         for number, line in enumerate(depot_map.lines):
             self.lines_from[line.start_node].append(number)
             self.lines_to[line.end_node].append(number)
+        self.banned_after = [set() for _ in depot_map.lines]
+        for first, second in depot_map.bans:
+            self.banned_after[second].add(first)
         self._ways = {}
 
     def readings(self, leg):
         """The readings of a leg: none, exactly one with its list, or several."""
-        found_count, found_lines = 0, None
+        found_count, found_ways, found_last_line = 0, None, None
         for first_line in self.lines_from[leg.start_node]:
             line = self.depot_map.lines[first_line]
             if marks_leaving(line) != leg.first_marks or line.frc > leg.lowest_frc:
                 continue
-            for length, count, lines in self._least_lists(leg, first_line):
+            ways = self._least_ways(first_line, leg.lowest_frc)
+            for last_line in self._last_lines(leg, ways):
                 # D is asked last: a list is first of least length, and only then has to give D.
-                if length <= LONGEST_LEG and distance_byte(length) == leg.distance_byte:
-                    found_count += count
-                    found_lines = lines
+                if distance_byte(ways[last_line].length) == leg.distance_byte:
+                    found_count += ways[last_line].count
+                    found_ways, found_last_line = ways, last_line
         if found_count == 1:
-            return Readings("one", tuple(found_lines()))
+            return Readings("one", list_to(found_ways, found_last_line))
         return Readings("several" if found_count else "none")
 
-    def _least_lists(self, leg, first_line):
-        """Length, count and a way to get one list: once for a first line, or for a first and a last line."""
-        ways = self._least_ways(first_line, leg.lowest_frc)
-        if leg.last_marks is None:
-            if leg.end_node in ways:
-                way = ways[leg.end_node]
-                yield way.length, way.count, lambda: self._list_to(ways, leg.end_node, first_line)
-            return
-        for last_line in self.lines_to[leg.end_node]:
-            line = self.depot_map.lines[last_line]
-            if marks_arriving(line) != leg.last_marks or line.frc > leg.lowest_frc:
-                continue
-            if last_line == first_line:
-                # The list of that line alone; any longer list with the same first and last line is not least.
-                yield line.length, 1, lambda: [first_line]
-            elif line.start_node in ways:
-                way = ways[line.start_node]
-                yield (way.length + line.length, way.count,
-                       lambda last=last_line, node=line.start_node:
-                       self._list_to(ways, node, first_line) + [last])
+    def _last_lines(self, leg, ways):
+        """The last lines of the lists of least length with one first line; on the last leg, with one last line too."""
+        last_lines = [line for line in self.lines_to[leg.end_node] if line in ways]
+        if leg.last_marks is not None:
+            return [line for line in last_lines if marks_arriving(self.depot_map.lines[line]) == leg.last_marks]
+        least = min((ways[line].length for line in last_lines), default=None)
+        return [line for line in last_lines if ways[line].length == least]
 
     def _least_ways(self, first_line, lowest_frc):
-        """For each node: the least way among the connected lists that start with a line and end at that node.
+        """The ways from a first line under a lowest class."""
+        if (first_line, lowest_frc) not in self._ways:
+            self._ways[first_line, lowest_frc] = self._search(first_line, lowest_frc)
+        return self._ways[first_line, lowest_frc]
 
-        Nodes are taken by rising length. A line has a length of 1 at least, so that a node's count is final
-        when the node is taken. Lists over the longest leg are not followed.
+    def _search(self, first_line, lowest_frc):
+        """For each line: the least way among the lists without a banned pair that start with a line and end with that one.
+
+        Lines are taken by rising length, those of one length together. A line has a length of 1 at least, so that all
+        lines of a length are known when they are taken. The first that are taken at a node give the lines from there
+        their least ways; a line that is banned after each of them waits for the next. Lists over the longest leg are
+        not followed.
         """
-        if (first_line, lowest_frc) in self._ways:
-            return self._ways[first_line, lowest_frc]
         map_lines = self.depot_map.lines
-        first_end = map_lines[first_line].end_node
-        ways = {first_end: LeastWay(map_lines[first_line].length, 1, first_line)}
-        waiting, taken = [(map_lines[first_line].length, first_end)], set()
-        while waiting:
-            _, node = heapq.heappop(waiting)
-            if node in taken:
-                continue
-            taken.add(node)
-            for number in self.lines_from[node]:
-                line = map_lines[number]
-                length = ways[node].length + line.length
-                if line.frc > lowest_frc or length > LONGEST_LEG:
-                    continue
-                known = ways.get(line.end_node)
-                if known is None or length < known.length:
-                    ways[line.end_node] = LeastWay(length, ways[node].count, number)
-                    heapq.heappush(waiting, (length, line.end_node))
-                elif length == known.length:
-                    ways[line.end_node] = LeastWay(length, known.count + ways[node].count, known.last_line)
-        self._ways[first_line, lowest_frc] = ways
+        ways = {first_line: LeastWay(map_lines[first_line].length, 1, None)}
+        waiting, not_reached = LinesByLength(), list(self.lines_from)
+        waiting.add(map_lines[first_line].length, first_line)
+        while waiting.lines:
+            length, taken = waiting.take_shortest()
+            for node, arrived in self._by_end_node(taken).items():
+                onward, not_reached[node] = not_reached[node], []
+                to_each = count_and_one(ways, arrived)
+                for line in onward:
+                    count, line_before = self._allowed(ways, arrived, line) if self.banned_after[line] else to_each
+                    new_length = length + map_lines[line].length
+                    if count == 0:
+                        not_reached[node].append(line)
+                    elif line not in ways and map_lines[line].frc <= lowest_frc and new_length <= LONGEST_LEG:
+                        ways[line] = LeastWay(new_length, count, line_before)
+                        waiting.add(new_length, line)
         return ways
 
-    def _list_to(self, ways, node, first_line):
-        """The line list that the least way to a node stands for, traced back to the first line."""
-        lines = [ways[node].last_line]
-        while lines[-1] != first_line:
-            lines.append(ways[self.depot_map.lines[lines[-1]].start_node].last_line)
-        return lines[::-1]
+    def _by_end_node(self, lines):
+        groups = {}
+        for line in lines:
+            groups.setdefault(self.depot_map.lines[line].end_node, []).append(line)
+        return groups
+
+    def _allowed(self, ways, arrived, line):
+        return count_and_one(ways, [before for before in arrived if before not in self.banned_after[line]])
+
+
+def count_and_one(ways, lines):
+    """How many least ways there are to some lines, all equally long, and one of the lines."""
+    count = 0
+    for line in lines:
+        count += ways[line].count
+    return count, lines[0] if lines else None
+
+
+def list_to(ways, last_line):
+    """The line list that the least way to a line stands for, traced back to the first line."""
+    lines = [last_line]
+    while ways[lines[-1]].line_before is not None:
+        lines.append(ways[lines[-1]].line_before)
+    return tuple(lines[::-1])
 
 
 def connected_lists(depot_map, leg, may_repeat=False, most_lines=None):
@@ -157,7 +202,8 @@ def connected_lists(depot_map, leg, may_repeat=False, most_lines=None):
 
     By default no list takes a line twice. Nothing of least length is lost by that: from a list that takes
     a line twice, leave out all from its first place to just before its second. What remains is connected,
-    has the same first and last line, no greater FRC, and is shorter, since lengths are 1 at least.
+    has the same first and last line, no greater FRC, no pair of neighbours that was not there before, and is
+    shorter, since lengths are 1 at least.
     """
     def extend(lines, length):
         last = depot_map.lines[lines[-1]]
@@ -168,7 +214,8 @@ def connected_lists(depot_map, leg, may_repeat=False, most_lines=None):
         if most_lines is not None and len(lines) == most_lines:
             return
         for number, line in enumerate(depot_map.lines):
-            if line.start_node == last.end_node and (may_repeat or number not in lines):
+            banned = (lines[-1], number) in depot_map.bans
+            if line.start_node == last.end_node and not banned and (may_repeat or number not in lines):
                 yield from extend(lines + (number,), length + line.length)
 
     for number, line in enumerate(depot_map.lines):

@@ -5,6 +5,7 @@ Usage: python3 oracle/pack.py [--check]. With --check nothing is written; files 
 
 import argparse
 import sys
+from dataclasses import replace
 from pathlib import Path
 
 from cases import leg_cases, map_cases, random_source, read_cases, stretch_leg, write_cases
@@ -19,7 +20,9 @@ from write_recipes import many_on_full_size, write_outcome
 
 CRATES = Path(__file__).parent.parent / "crates"
 SUM_MODULUS = 4_294_967_291
-# The lengths of the buffers that test_writes has for lines and for bytes.
+# What a program's buffer holds of cases.bin, and the lengths of the buffers that test_reads and test_writes have for the work area, for lines and for bytes.
+MOST_CASE_BYTES = 1_048_576
+WORK_ROOM, READS_LINE_ROOM = 14_340, 65_480
 WRITES_LINE_ROOM, WRITES_BYTE_ROOM = 80, 480
 
 
@@ -39,14 +42,20 @@ def number_sum(numbers):
 def map_row(outcome):
     if isinstance(outcome, Refused):
         return outcome_text(outcome)
-    nodes, lines = len(outcome.nodes), len(outcome.lines)
-    numbers = map_numbers(outcome)
-    del numbers[1 + 2 * nodes], numbers[0]
-    return f"nodes {nodes} lines {lines} sum {number_sum(numbers)}"
+    nodes, lines, bans = len(outcome.nodes), len(outcome.lines), len(outcome.bans)
+    numbers = map_numbers(replace(outcome, bans=()))
+    del numbers[-1], numbers[1 + 2 * nodes], numbers[0]
+    numbers += [number for ban in bans_by_first_line(outcome.bans) for number in ban]
+    return f"nodes {nodes} lines {lines} bans {bans} sum {number_sum(numbers)}"
+
+
+def bans_by_first_line(bans):
+    """In the order of their first lines; of one first line, those listed last come first."""
+    return sorted(reversed(bans), key=lambda ban: ban[0])
 
 
 def test_maps():
-    cases = map_cases(seed=1, count=600)
+    cases = map_cases(seed=1, count=640)
     return packed(case.map_bytes for case in cases), [map_row(case.expected) for case in cases]
 
 
@@ -77,7 +86,7 @@ def full_map_legs(maps, legs):
     parts, rows = [], []
     for turn in range(maps):
         rng = random_source("full-size legs", 1, turn)
-        sample = full_size_sample(rng)
+        sample = full_size_sample(rng, turn)
         search = LegSearch(sample.depot_map)
         for number in range(legs):
             leg = stretch_leg(rng, sample)
@@ -88,7 +97,7 @@ def full_map_legs(maps, legs):
 
 def test_legs():
     parts, rows = full_map_legs(maps=12, legs=40)
-    for case in leg_cases(seed=1, count=1_200, left_out="full size"):
+    for case in leg_cases(seed=1, count=1_280, left_out="full size"):
         parts += [case.map_bytes, leg_words(case.leg)]
         rows.append(leg_row(case.depot_map, case.expected))
     return packed(parts), rows
@@ -116,7 +125,7 @@ def full_map_reads(maps, references):
     """Inputs and outcomes of many references on each of some full-size maps, every other one with a byte changed."""
     for turn in range(maps):
         rng = random_source("full-size reads", 1, turn)
-        sample = full_size_sample(rng)
+        sample = full_size_sample(rng, turn)
         for number in range(references):
             given = until_found(lambda: composed_from(rng, sample))
             if number % 2:
@@ -137,6 +146,12 @@ def by_map(calls):
     return [call for group in groups.values() for call in group.items()]
 
 
+def check_room(calls, fits):
+    """The programs lend parts of buffers that they have."""
+    if not all(given.work_length <= WORK_ROOM and fits(given) for given, _ in calls):
+        raise RuntimeError("the program's buffers are too short for a case")
+
+
 def packed_calls(calls, subject, numbers, row):
     """A case has three parts: a map, what is read or written on it, and numbers. The last number is 1 where the map
     is that of the case before; its own part is empty then."""
@@ -151,7 +166,8 @@ def packed_calls(calls, subject, numbers, row):
 
 def test_reads():
     """The subject is a reference; the numbers are the lengths of the work area and of the line buffer."""
-    calls = [*on_small_maps(read_cases, 3_040), *full_map_reads(maps=10, references=40)]
+    calls = [*on_small_maps(read_cases, 3_008), *full_map_reads(maps=10, references=40)]
+    check_room(calls, lambda given: given.line_room <= READS_LINE_ROOM)
     return packed_calls(calls, lambda given: given.reference,
                         lambda given: [given.work_length, given.line_room], read_row)
 
@@ -168,16 +184,15 @@ def write_row(given, outcome):
 
 def full_map_writes(maps, stretches):
     for turn in range(maps):
-        for given in many_on_full_size(random_source("full-size writes", 1, turn), stretches):
+        for given in many_on_full_size(random_source("full-size writes", 1, turn), turn, stretches):
             yield given, write_outcome(given)
 
 
 def test_writes():
     """The subject is a stretch, four bytes a line; the numbers are the offsets, and the lengths of the work area and of
     the byte buffer."""
-    calls = [*on_small_maps(write_cases, 2_400), *full_map_writes(maps=10, stretches=20)]
-    if any(len(given.lines) > WRITES_LINE_ROOM or given.byte_room > WRITES_BYTE_ROOM for given, _ in calls):
-        raise RuntimeError("the program's buffers are too short for a case")
+    calls = [*on_small_maps(write_cases, 2_560), *full_map_writes(maps=10, stretches=20)]
+    check_room(calls, lambda given: len(given.lines) <= WRITES_LINE_ROOM and given.byte_room <= WRITES_BYTE_ROOM)
     return packed_calls(calls, lambda given: words(given.lines),
                         lambda given: [given.pos, given.neg, given.work_length, given.byte_room], write_row)
 
@@ -189,6 +204,8 @@ def files():
     """Each file's path and contents."""
     for name, make in PROGRAMS.items():
         data, rows = make()
+        if len(data) > MOST_CASE_BYTES:
+            raise RuntimeError(f"{len(data)} bytes are too many for {name}")
         yield CRATES / name / "data" / "cases.bin", data
         yield CRATES / name / "stdout", "".join(row + "\n" for row in rows).encode()
 

@@ -10,11 +10,13 @@ from legs import list_length
 from reader import LEAST_WORK_LENGTH, read
 from recipes import any_sample, until_found, work_area_exactly_enough, work_area_too_short
 from reference import last_point_position, p_byte_positions, put_together
-from sample_maps import SMALL_SAMPLES, MapBuilder, chain_of_ties, full_size_sample, random_walk
+from sample_maps import SMALL_SAMPLES, MapBuilder, chain_of_blocks, chain_of_ties, full_size_sample, other_way, pairs_of, random_walk
 from write_recipes import accepted_input, write_outcome
 from writer import reference_of_legs
 
 AMPLE_LINES = 1_024
+# 63 legs of 1,023 lines and one of 1,024.
+MOST_LINES_READ = 65_473
 
 
 @dataclass(frozen=True)
@@ -211,6 +213,29 @@ def around(node_count, leg_count):
     return builder.build(), [once] * (leg_count - 1) + [once + (beside,)]
 
 
+@lru_cache(maxsize=1)
+def around_twice(node_count, leg_count):
+    """A ring with two lines from node to node, and legs from a depot out, around by the one, around by the other, and back.
+
+    Bans leave no other way: only at the end of the first round may a leg go over into the second. A second line out of
+    the depot, with another FOW, can only be a last line. A last leg that ends with it has all lines of the map.
+    """
+    builder = MapBuilder()
+    columns = 32
+    depot, *ring = [builder.node(1_000 * (number % columns), 1_000 * (number // columns)) for number in range(node_count)]
+    length = LONGEST_LEG // (2 * node_count)
+    hops = list(zip(ring, ring[1:] + ring[:1]))
+    out = builder.line(depot, ring[0], length)
+    first_round = [builder.line(start, end, length) for start, end in hops]
+    second_round = [builder.line(start, end, length) for start, end in hops[:-1]]
+    back = builder.line(ring[-1], depot, length)
+    beside = builder.line(depot, ring[0], length, fow=4)
+    builder.bans += zip([out] + first_round, second_round + [back])
+    once = (out, *first_round, *second_round, back)
+    depot_map = builder.build()
+    return map_to_bytes(depot_map), bytes_of_legs(depot_map, [once] * (leg_count - 1) + [once + (beside,)])
+
+
 def many_lines(rng, turn):
     """More lines than a map can have: the buffer holds them exactly, one fewer, 1,024 or a few more."""
     depot_map, legs = around(rng.choice([40, 60, 100]), rng.choice([40, 64]))
@@ -221,10 +246,17 @@ def many_lines(rng, turn):
 
 
 def most_lines(rng, turn):
-    """The longest reading that there is: 64 legs around 512 nodes, and the line more."""
+    """Without bans, the longest reading that there is: 64 legs around 512 nodes, and the line more."""
     depot_map, legs = around(512, 64)
     room = (32_769, 32_768)[turn % 2]
     return f"room for {room}", ReadInput(map_to_bytes(depot_map), bytes_of_legs(depot_map, legs), line_room=room)
+
+
+def most_lines_with_bans(rng, turn):
+    """64 legs that take all lines of a map but one, the last leg that one too."""
+    map_bytes, reference = around_twice(512, 64)
+    room = (MOST_LINES_READ, MOST_LINES_READ - 1)[turn % 2]
+    return f"room for {room}", ReadInput(map_bytes, reference, line_room=room)
 
 
 def closed_loop(rng, turn):
@@ -240,14 +272,14 @@ def closed_loop(rng, turn):
 
 def offset_at_leg_end(rng, turn):
     """The least and the greatest offset byte of a leg, and offsets of 1 and of one below the leg length."""
-    lengths = [rng.choice([2, 100, 255, 256, 257, 1_000, 149_999, 150_000]) for _ in range(rng.choice([1, 2, 3]))]
+    length = [2, 100, 255, 256, 257, 1_000, 149_999, 150_000][turn % 8]
+    lengths = rng.choice([[length], [length, length], [length, 1_000, length]])
     depot_map = row_of_lines(lengths)
     good = bytes_of_legs(depot_map, [(line,) for line in range(len(lengths))])
     flags = rng.choice([0x40, 0x20, 0x60])
-    legs = [length for length, flag in ((lengths[0], 0x40), (lengths[-1], 0x20)) if flags & flag]
-    offset_bytes = bytes(rng.choice([0, 255, offset_byte(1, length), offset_byte(length - 1, length)])
-                         for length in legs)
-    reference = good[:-1] + bytes([good[-1] | flags]) + offset_bytes
+    edges = [255, 0, offset_byte(1, length), offset_byte(length - 1, length)]
+    offset_bytes = [edges[turn // 8 % 4], rng.choice(edges)][:bin(flags).count("1")]
+    reference = good[:-1] + bytes([good[-1] | flags, *offset_bytes])
     return f"lengths {lengths}", ReadInput(map_to_bytes(depot_map), reference)
 
 
@@ -294,12 +326,100 @@ def no_node_after_failed_leg(rng, turn):
             ReadInput(map_to_bytes(depot_map), replaced(reference, positions[point] - 4, b"\x7f\xff")))
 
 
+def banned_other_ways(rng, depot_map, legs):
+    """The map with the other way of each leg of chain_of_ties banned, in one of its two turns."""
+    return replace(depot_map, bans=tuple(rng.choice(pairs_of(other_way(leg))) for leg in legs))
+
+
+def tie_that_a_ban_decides(rng, turn):
+    """Legs with ties, on each of which the other way is banned."""
+    leg_count = (1, 2, 5, 64)[turn % 4]
+    depot_map, legs = chain_of_ties(leg_count, range(leg_count))
+    pos = rng.choice([0, rng.randrange(300)])
+    return f"{leg_count} legs", ReadInput(map_to_bytes(banned_other_ways(rng, depot_map, legs)), bytes_of_legs(depot_map, legs, pos))
+
+
+def around_the_block(rng, turn):
+    """Legs that each pass a node twice, and one perhaps that has several such ways or none."""
+    leg_count = (1, 2, 5, 64)[turn % 4]
+    ways_around = [1] * leg_count
+    place = rng.randrange(leg_count)
+    ways_around[place] = (1, 0, 2, 1)[turn // 4 % 4]
+    depot_map, legs = chain_of_blocks(ways_around)
+    detail = f"{ways_around[place]} ways on leg {place} of {leg_count}"
+    return detail, ReadInput(map_to_bytes(depot_map), bytes_of_legs(depot_map, legs, neg=rng.choice([0, 1, 199])))
+
+
+def leg_with_ways_around(count):
+    """A leg whose way is banned, and that has that many ways around; on the others there is one."""
+    def recipe(rng, turn):
+        leg_count = rng.randrange(1, 8)
+        place = [0, leg_count - 1, rng.randrange(leg_count)][turn % 3]
+        depot_map, legs = chain_of_blocks([count if number == place else 1 for number in range(leg_count)])
+        return f"leg {place} of {leg_count}", ReadInput(map_to_bytes(depot_map), bytes_of_legs(depot_map, legs), line_room=AMPLE_LINES * (turn % 2))
+    return recipe
+
+
+def joint_of(legs, place):
+    """The pair of lines where a leg meets the next."""
+    return legs[place][-1], legs[place + 1][0]
+
+
+def banned_joint(rng, turn):
+    """Two legs that meet in a banned turn, at the first, the last or another joint, or at all of them.
+
+    Every other time the positive offset's byte is given by no offset, or the line buffer is too short: both stand below.
+    """
+    leg_count = (2, 3, rng.randrange(4, 9), 64)[turn // 4 % 4]
+    depot_map, legs = row_of_legs(rng, [100] + [1_000] * (leg_count - 1))
+    places = [[0], [leg_count - 2], [rng.randrange(leg_count - 1)], range(leg_count - 1)][turn % 4]
+    reference = bytes_of_legs(depot_map, legs, pos=1)
+    if turn // 2 % 2:
+        reference = reference[:-1] + b"\x01"
+    depot_map = replace(depot_map, bans=tuple(joint_of(legs, place) for place in places))
+    return f"joints {list(places)[:3]} of {leg_count} legs", ReadInput(map_to_bytes(depot_map), reference, line_room=AMPLE_LINES * (turn % 2))
+
+
+def leg_behind_a_banned_joint(refusal):
+    """A banned joint, and behind it a leg with no reading or several: all legs are tried before any joint."""
+    def recipe(rng, turn):
+        leg_count = rng.randrange(3, 9)
+        place = rng.randrange(2, leg_count)
+        depot_map, legs = chain_of_ties(leg_count, (place,) if refusal == 18 else ())
+        depot_map = replace(depot_map, bans=(joint_of(legs, rng.randrange(place - 1)),))
+        reference = bytes_of_legs(depot_map, legs)
+        if refusal == 17:
+            reference = replaced(reference, p_byte_positions(len(reference))[place] + 2, b"\x01")
+        return f"leg {place} of {leg_count}", ReadInput(map_to_bytes(depot_map), reference)
+    return recipe
+
+
+def leg_read_alone(rng, turn):
+    """A tie of two lines, of which one may not come after the leg before: the ban at the joint does not decide it."""
+    depot_map, legs = chain_of_ties(2, (0,) if turn % 2 else (1,))
+    if turn % 2:
+        bans = ((other_way(legs[0])[-1], legs[1][0]),)
+    else:
+        bans = (joint_of(legs, 0),)
+    return f"tie on leg {(turn + 1) % 2}", ReadInput(map_to_bytes(replace(depot_map, bans=bans)), bytes_of_legs(depot_map, legs))
+
+
 def row_of_lines(lengths):
     builder = MapBuilder()
     nodes = builder.row_of_nodes(len(lengths) + 1)
     for start, end, length in zip(nodes, nodes[1:], lengths):
         builder.line(start, end, length)
     return builder.build()
+
+
+def row_of_legs(rng, leg_lengths):
+    """Lines in a row, one to three for each leg, and the legs."""
+    lengths, legs = [], []
+    for leg_length in leg_lengths:
+        cuts = sorted(rng.sample(range(1, leg_length), rng.randrange(3)))
+        legs.append(tuple(range(len(lengths), len(lengths) + len(cuts) + 1)))
+        lengths += [end - start for start, end in zip([0, *cuts], [*cuts, leg_length])]
+    return row_of_lines(lengths), legs
 
 
 def offset_without_span(rng, turn):
@@ -347,6 +467,9 @@ READ_RECIPES = {
     "offsets at leg ends": offset_at_leg_end,
     "many lines": many_lines,
     "most lines": most_lines,
+    "most lines with bans": most_lines_with_bans,
+    "tie that a ban decides": tie_that_a_ban_decides,
+    "around the block": around_the_block,
     "full size": full_size,
     "two faults": two_faults,
     "refusal 1": work_area_too_short(written_input, {"map_bytes": b""}, {"reference": b""}, {"line_room": 0}),
@@ -355,6 +478,7 @@ READ_RECIPES = {
     "refusal 4": damaged_map(4),
     "refusal 5": damaged_map(5),
     "refusal 6": damaged_map(6),
+    "refusal 23": damaged_map(23),
     "refusal 12": damaged_reference(12),
     "refusal 13": damaged_reference(13),
     "refusal 14": damaged_reference(14),
@@ -367,7 +491,13 @@ READ_RECIPES = {
     "refusal 17, leg 63 of 64": longest_reference_damaged(17, 63),
     "refusal 17, by marks": damaged_reference(17),
     "refusal 17, by D": leg_without_reading,
+    "refusal 17, by a ban": leg_with_ways_around(0),
+    "refusal 17, behind a banned joint": leg_behind_a_banned_joint(17),
     "refusal 18": tied_leg,
+    "refusal 18, by a ban": leg_with_ways_around(2),
+    "refusal 18, behind a banned joint": leg_behind_a_banned_joint(18),
+    "refusal 18, before a banned joint": leg_read_alone,
+    "refusal 22": banned_joint,
     "refusal 19, no offset": offset_without_span,
     "refusal 19, total reached": offsets_reach_total,
     "refusal 20": lines_too_few,

@@ -1,12 +1,12 @@
-"""The reader: map bytes and reference bytes to a stretch (scope paper, refusals 1 to 6 and 12 to 20)."""
+"""The reader: map bytes and reference bytes to a stretch (scope paper, refusals 1 to 6 and 12 to 20; paper 02, "Banned turns": 22 and 23)."""
 
 from depot_map import Node, read_map
 from fields import code_pair, offset_span
-from legs import Leg, LegSearch, Marks, list_length
+from legs import Leg, LegSearch, Marks, has_banned_pair, list_length
 from outcome import RefusedCall, StretchRead
 from reference import take_apart
 
-LEAST_WORK_LENGTH = 12_288
+LEAST_WORK_LENGTH = 14_336
 
 
 def check_work_length(work_length):
@@ -62,6 +62,12 @@ def leg_lists(depot_map, legs):
     return lists
 
 
+def check_joints(depot_map, lists):
+    """Refusal 22. A leg is read as if it stood alone, so that only the joined list shows the pairs where legs meet."""
+    if any(has_banned_pair(depot_map, before[-1:] + after[:1]) for before, after in zip(lists, lists[1:])):
+        raise RefusedCall(22)
+
+
 def flagged_span(byte, leg_length):
     """The span of an offset byte, 0 and 0 where there is none, or refusal 19."""
     if byte is None:
@@ -78,6 +84,7 @@ def _read(map_bytes, reference_bytes, work_length, line_room):
     reference = take_apart(reference_bytes)
     nodes = point_nodes(depot_map, reference)
     lists = leg_lists(depot_map, legs_of(reference, nodes))
+    check_joints(depot_map, lists)
     positive_span = flagged_span(reference.positive_byte, list_length(depot_map, lists[0]))
     negative_span = flagged_span(reference.negative_byte, list_length(depot_map, lists[-1]))
     lines = tuple(line for leg_lines in lists for line in leg_lines)

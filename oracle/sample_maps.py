@@ -1,8 +1,8 @@
 """Maps and stretches from which cases are made. Each kind makes one sort of edge common."""
 
-from dataclasses import dataclass
+from dataclasses import dataclass, replace
 
-from depot_map import GREATEST_LONGITUDE, LATITUDE_SHIFT, LONGITUDE_SHIFT, DepotMap, Line, Node
+from depot_map import GREATEST_LONGITUDE, LATITUDE_SHIFT, LONGITUDE_SHIFT, MOST_BANS, DepotMap, Line, Node
 
 NODE_STEP = 400
 
@@ -19,6 +19,7 @@ class MapBuilder:
     def __init__(self):
         self.nodes = []
         self.lines = []
+        self.bans = []
 
     def node(self, longitude, latitude):
         self.nodes.append(Node(longitude, latitude))
@@ -32,25 +33,52 @@ class MapBuilder:
         self.lines.append(Line(start, end, length, frc, fow, bearing_out, bearing_back))
         return len(self.lines) - 1
 
+    def ban(self, first, second):
+        self.bans.append((first, second))
+
     def build(self):
-        return DepotMap(tuple(self.nodes), tuple(self.lines))
+        return DepotMap(tuple(self.nodes), tuple(self.lines), tuple(self.bans))
 
 
-def random_walk(rng, depot_map, most_lines):
+def random_walk(rng, depot_map, most_lines, heed_bans=False):
     """A connected line list; it ends early where no line goes on. Lines may be taken several times."""
     walk = [rng.randrange(len(depot_map.lines))]
+    banned = set(depot_map.bans) if heed_bans else ()
     while len(walk) < most_lines:
         node = depot_map.lines[walk[-1]].end_node
-        onward = [number for number, line in enumerate(depot_map.lines) if line.start_node == node]
+        onward = [number for number, line in enumerate(depot_map.lines) if line.start_node == node and (walk[-1], number) not in banned]
         if not onward:
             break
         walk.append(rng.choice(onward))
     return tuple(walk)
 
 
-def ridge_map():
-    """The map of the scope paper's "The tie at the ridge"."""
+def joining_pairs(lines):
+    """Every pair of line numbers whose second line starts where the first ends: what a ban may name."""
+    from_node = {}
+    for number, line in enumerate(lines):
+        from_node.setdefault(line.start_node, []).append(number)
+    return [(first, second) for first, line in enumerate(lines) for second in from_node.get(line.end_node, ())]
+
+
+def pairs_of(lines):
+    """The pairs of neighbours in a line list."""
+    return list(zip(lines, lines[1:]))
+
+
+def with_bans(rng, sample, spare_stretch):
+    """The sample with no, a few or many bans in any order, some perhaps listed twice. Where that is asked, none is on its stretch."""
+    spared = pairs_of(sample.stretch) if spare_stretch else ()
+    pairs = [pair for pair in joining_pairs(sample.depot_map.lines) if pair not in spared]
+    count = rng.choice([0, 0, 1, rng.randrange(2, 5), len(pairs) // 2, len(pairs)])
+    bans = [rng.choice(pairs) for _ in range(min(count, MOST_BANS))] if pairs else []
+    return replace(sample, depot_map=replace(sample.depot_map, bans=tuple(bans)))
+
+
+def ridge_map(*bans):
+    """The map of the scope paper's "The tie at the ridge", with bans where they are given."""
     builder = MapBuilder()
+    builder.bans += bans
     for longitude, latitude in ((0, 0), (1000, 0), (1000, 1000), (2000, 0)):
         builder.node(longitude, latitude)
     builder.line(0, 1, 1000)
@@ -188,7 +216,7 @@ def chain_of_ties(leg_count, tied_legs):
     """A map and a list of legs, each a first line and one of two ways.
 
     On the tied legs the two ways have equal lengths and equal last marks. On the others the leg's own way is
-    shorter, and the other differs in its last sector, which counts on the last leg.
+    shorter, and the other differs in its last sector, which counts on the last leg. `other_way` has its lines.
     """
     builder = MapBuilder()
     row = builder.row_of_nodes(leg_count + 1)
@@ -203,6 +231,48 @@ def chain_of_ties(leg_count, tied_legs):
         else:
             builder.line(aside, row[number + 1], 101, bearing_back=0)
     return builder.build(), legs
+
+
+def other_way(leg):
+    """The list of a leg of chain_of_ties that goes the other way: its two lines stand behind those of the leg."""
+    first, direct = leg
+    return first, direct + 1, direct + 2
+
+
+def chain_of_blocks(ways_around):
+    """A map and a list of legs that cannot go straight on: the turn from a leg's first line into its last is banned.
+
+    A leg has a number of equally long ways around a block, each through the node of the turn once more. With one way
+    around the leg is that way, with several it is a tie, and with none it is the banned turn itself.
+    """
+    builder = MapBuilder()
+    row = builder.row_of_nodes(len(ways_around) + 1)
+    legs = []
+    for number, count in enumerate(ways_around):
+        turn = builder.node(NODE_STEP * number, 1_000)
+        first, last = builder.line(row[number], turn, 100), builder.line(turn, row[number + 1], 100)
+        builder.ban(first, last)
+        legs.append((first, last))
+        for way in range(count):
+            corner = builder.node(NODE_STEP * number, 2_000 + 1_000 * way)
+            legs[-1] = (first, builder.line(turn, corner, 100), builder.line(corner, turn, 100), last)
+    return builder.build(), legs
+
+
+def other_first_line_sample(rng):
+    """Two first lines with equal marks. From the second a banned turn leaves only the way around, which is as long as the first line.
+
+    So the first line is told apart by D without the ban, and not at all with it.
+    """
+    builder = MapBuilder()
+    start, end, turn, corner = builder.row_of_nodes(4)
+    around = rng.choice([200, 293, 1_000])
+    builder.line(start, end, 200 + 2 * around)
+    first, last = builder.line(start, turn, 100), builder.line(turn, end, 100)
+    builder.line(turn, corner, around)
+    builder.line(corner, turn, around)
+    builder.ban(first, last)
+    return Sample("another first line goes around", builder.build(), (0,))
 
 
 def random_sample(rng):
@@ -253,8 +323,44 @@ def dense_sample(rng):
     return Sample("two nodes, 1,024 lines", depot_map, random_walk(rng, depot_map, rng.choice([1, 4, 64])))
 
 
-def full_size_sample(rng):
-    return (dense_sample if rng.random() < 0.2 else full_sample)(rng)
+def random_pairs(rng, lines, count):
+    """Pairs of lines that join, for maps that have too many of them to list."""
+    lines_from = {}
+    for number, line in enumerate(lines):
+        lines_from.setdefault(line.start_node, []).append(number)
+    firsts = [number for number, line in enumerate(lines) if line.end_node in lines_from]
+    return [(first, rng.choice(lines_from[lines[first].end_node])) for first in rng.choices(firsts, k=count)]
+
+
+def pairs_at_a_junction(rng, lines, count):
+    """Pairs at the node where line 0 ends. Where there are fewer, they are listed several times."""
+    node = lines[0].end_node
+    arriving = [number for number, line in enumerate(lines) if line.end_node == node]
+    leaving = [number for number, line in enumerate(lines) if line.start_node == node]
+    return [(rng.choice(arriving), rng.choice(leaving)) for _ in range(count)]
+
+
+def pairs_after_a_line(rng, lines, count):
+    """Every turn out of one line, listed until there are enough pairs."""
+    first = rng.randrange(len(lines))
+    leaving = [number for number, line in enumerate(lines) if line.start_node == lines[first].end_node]
+    return [(first, leaving[number % len(leaving)]) for number in range(count)]
+
+
+FULL_SIZE_BANS = (
+    (random_pairs, 0), (random_pairs, 40), (random_pairs, MOST_BANS), (pairs_at_a_junction, MOST_BANS),
+    (pairs_after_a_line, MOST_BANS))
+
+
+def full_size_sample(rng, turn=None):
+    """A map as large as can be: without bans, with some, with the most that there can be, all of them at one junction or after one line.
+
+    The stretch heeds the bans three times out of four.
+    """
+    sample = (dense_sample if rng.random() < 0.2 else full_sample)(rng)
+    make_pairs, count = FULL_SIZE_BANS[turn % len(FULL_SIZE_BANS)] if turn is not None else rng.choice(FULL_SIZE_BANS)
+    depot_map = replace(sample.depot_map, bans=tuple(make_pairs(rng, sample.depot_map.lines, count)))
+    return replace(sample, depot_map=depot_map, stretch=random_walk(rng, depot_map, len(sample.stretch), rng.random() < 0.75))
 
 
 SMALL_SAMPLES = [smallest_sample, tie_sample, long_leg_sample, distance_edge_sample, parallel_sample,

@@ -1,16 +1,21 @@
 """The case generator: the same for the same seed, and every aim and every edge occurs."""
 
 import unittest
+from dataclasses import replace
 
 import cases
 from damages import LINE_FIELDS
-from depot_map import read_map
-from legs import Readings, list_length
-from outcome import Refused, ReferenceWritten, StretchRead
+from depot_map import map_to_bytes, read_map
+from legs import LegSearch, Readings, has_banned_pair, list_length, passes_a_node_twice
+from outcome import Refused, RefusedCall, ReferenceWritten, StretchRead
+from read_recipes import read_outcome
+from reader import check_joints, leg_lists, legs_of, point_nodes
 from reference import take_apart
+from write_recipes import write_outcome
+from writer import skip_lines
 
 # Enough for each recipe to go through its edges at least once.
-MAP_CASES, LEG_CASES, READ_CASES, WRITE_CASES = 420, 420, 740, 640
+MAP_CASES, LEG_CASES, READ_CASES, WRITE_CASES = 480, 480, 940, 832
 KINDS = (cases.map_cases, cases.leg_cases, cases.read_cases, cases.write_cases)
 
 
@@ -18,6 +23,11 @@ def refusal_in_label(label):
     """The refusal that a label promises, or None."""
     name = label.split(":")[0]
     return int(name.split()[1].rstrip(",")) if name.startswith("refusal ") else None
+
+
+def without_bans(given):
+    """The same call on the same map without its bans."""
+    return replace(given, map_bytes=map_to_bytes(replace(read_map(given.map_bytes), bans=())))
 
 
 class Determinism(unittest.TestCase):
@@ -47,9 +57,9 @@ class Coverage(unittest.TestCase):
         self.assertEqual({case.label.split(":")[0] for case in made}, set(recipes))
 
     def test_every_refusal_occurs(self):
-        self.check_refusals(self.map_cases, range(2, 7))
-        self.check_refusals(self.write_cases, range(1, 12))
-        self.check_refusals(self.read_cases, [*range(1, 7), *range(12, 21)])
+        self.check_refusals(self.map_cases, [*range(2, 7), 23])
+        self.check_refusals(self.write_cases, [*range(1, 12), 21, 23])
+        self.check_refusals(self.read_cases, [*range(1, 7), *range(12, 21), 22, 23])
 
     def test_every_number_of_readings_occurs(self):
         self.assertEqual({case.expected.how_many for case in self.leg_cases}, {"none", "one", "several"})
@@ -99,7 +109,7 @@ class Coverage(unittest.TestCase):
         long_reads = [case for case in self.read_cases if case.label.startswith(("many lines", "most lines"))]
         counts = {len(case.expected.lines) for case in long_reads if isinstance(case.expected, StretchRead)}
         self.assertGreater(min(counts), 1_024)
-        self.assertEqual(max(counts), 63 * 512 + 513)
+        self.assertEqual(sorted(counts)[-2:], [63 * 512 + 513, 63 * 1_023 + 1_024])
         self.assertIn(Refused(20), {case.expected for case in long_reads if case.given.line_room > 1_024})
 
     def test_legs_from_a_node_to_itself_are_read(self):
@@ -123,7 +133,7 @@ class Coverage(unittest.TestCase):
 
     def test_edges_of_buffers_and_work_areas(self):
         for made in (self.read_cases, self.write_cases):
-            self.assertLessEqual({12_287, 12_288}, {case.given.work_length for case in made})
+            self.assertLessEqual({14_335, 14_336}, {case.given.work_length for case in made})
         self.assertIn(0, {case.given.line_room for case in self.read_cases})
         spare_lines = {case.given.line_room - len(case.expected.lines) for case in self.read_cases
                        if isinstance(case.expected, StretchRead)}
@@ -189,6 +199,98 @@ class Coverage(unittest.TestCase):
         for _, case in made:
             self.assertEqual(len(take_apart(case.expected.reference).points), 2)
         self.assertEqual({len(case.given.lines) for _, case in made}, {2, 3, 63, 64})
+
+    def test_bans_of_maps(self):
+        maps = [case.expected for case in self.map_cases if not isinstance(case.expected, Refused)]
+        self.assertLessEqual({0, 1, 2, 512}, {len(depot_map.bans) for depot_map in maps})
+        self.assertTrue(any(0 < len(set(depot_map.bans)) < len(depot_map.bans) < 10 for depot_map in maps))
+        self.assertTrue(any(list(depot_map.bans) != sorted(depot_map.bans) for depot_map in maps))
+
+    def test_legs_that_bans_decide(self):
+        by_a_ban = {"none": 0, "one": 0, "several": 0}
+        for case in self.leg_cases:
+            free = LegSearch(replace(case.depot_map, bans=())).readings(case.leg)
+            by_a_ban[case.expected.how_many] += case.expected != free
+        self.assertGreater(min(by_a_ban.values()), 5, by_a_ban)
+
+    def test_legs_that_pass_a_node_twice(self):
+        found = [case for case in self.leg_cases if passes_a_node_twice(case.depot_map, case.expected.lines or ())]
+        self.assertEqual({case.leg.last_marks is None for case in found}, {True, False})
+
+    def read_cases_of(self, recipe):
+        return [case for case in self.read_cases if case.label.startswith(recipe + ": ")]
+
+    def test_22_stands_above_19_and_20(self):
+        free = {read_outcome(without_bans(case.given)) for case in self.read_cases_of("refusal 22")}
+        self.assertLessEqual({Refused(19), Refused(20)}, free)
+        self.assertTrue(any(isinstance(outcome, StretchRead) for outcome in free))
+
+    def test_22_occurs_at_the_ends_of_the_longest_reference(self):
+        made = self.read_cases_of("refusal 22")
+        self.assertTrue(any(len(read_map(case.given.map_bytes).lines) > len(take_apart(case.given.reference).points) for case in made))
+        joints = {case.label.split(": ")[1] for case in made}
+        self.assertLessEqual({"joints [0] of 2 legs", "joints [0] of 64 legs", "joints [62] of 64 legs"}, joints)
+
+    def test_17_and_18_occur_behind_a_banned_joint(self):
+        for number in (17, 18):
+            made = self.read_cases_of(f"refusal {number}, behind a banned joint")
+            for case in made:
+                depot_map, reference = read_map(case.given.map_bytes), take_apart(case.given.reference)
+                legs = legs_of(reference, point_nodes(depot_map, reference))[:case.expected.place]
+                with self.assertRaises(RefusedCall) as caught:
+                    check_joints(depot_map, leg_lists(depot_map, legs))
+                self.assertEqual(caught.exception.refused, Refused(22))
+            self.assertGreater(len(made), 10)
+
+    def test_readings_that_bans_decide(self):
+        for recipe, number, free_number in (("refusal 17, by a ban", 17, None), ("refusal 18, by a ban", 18, None), ("tie that a ban decides", None, 18)):
+            for case in self.read_cases_of(recipe):
+                free = read_outcome(replace(without_bans(case.given), line_room=1_024))
+                self.assertEqual((getattr(case.expected, "number", None), getattr(free, "number", None)), (number, free_number), case.label)
+
+    def test_ties_that_a_ban_at_a_joint_does_not_decide(self):
+        made = self.read_cases_of("refusal 18, before a banned joint")
+        self.assertEqual({case.expected.place for case in made}, {0, 1})
+        self.assertTrue(all(read_map(case.given.map_bytes).bans for case in made))
+
+    def test_readings_that_pass_a_node_twice(self):
+        made = self.read_cases_of("around the block")
+        accepted = [case for case in made if isinstance(case.expected, StretchRead)]
+        for case in accepted:
+            self.assertTrue(passes_a_node_twice(read_map(case.given.map_bytes), case.expected.lines[:4]))
+        self.assertIn(64 * 4, {len(case.expected.lines) for case in accepted})
+        self.assertLessEqual({17, 18}, {case.expected.number for case in made if isinstance(case.expected, Refused)})
+
+    def test_21_in_skipped_lines(self):
+        places = set()
+        for detail, case in self.write_details("refusal 21, in skipped lines"):
+            depot_map, given = read_map(case.given.map_bytes), case.given
+            remaining, _, _ = skip_lines(depot_map, given.lines, given.pos, given.neg)
+            self.assertFalse(has_banned_pair(depot_map, remaining))
+            self.assertIsInstance(write_outcome(without_bans(given)), ReferenceWritten)
+            places.add((detail.split()[0], given.pos > 0))
+        self.assertEqual(places, {("1", False), ("1", True), ("2", False), ("2", True)})
+
+    def test_21_stands_between_8_and_9(self):
+        free = {write_outcome(without_bans(case.given)) for _, case in self.write_details("refusal 21")}
+        self.assertIn(Refused(9), free)
+        self.assertIn(Refused(11), free)
+        for _, case in self.write_details("refusal 8, and a banned pair"):
+            banned = read_map(case.given.map_bytes).bans
+            self.assertTrue(len(case.given.lines) == 2 or set(banned) & set(zip(case.given.lines, case.given.lines[1:])))
+
+    def test_points_that_bans_save(self):
+        for detail, case in self.write_details("tie that a ban decides"):
+            ties_left = int(detail.split()[0])
+            self.assertEqual(len(take_apart(case.expected.reference).points), 2 + ties_left, detail)
+            self.assertGreater(len(take_apart(write_outcome(without_bans(case.given)).reference).points), 2)
+        for _, case in self.write_details("around the block"):
+            self.assertEqual(len(take_apart(case.expected.reference).points), 2)
+            self.assertTrue(passes_a_node_twice(read_map(case.given.map_bytes), case.given.lines))
+
+    def test_10_by_a_ban(self):
+        for _, case in self.write_details("refusal 10, by a ban"):
+            self.assertIsInstance(write_outcome(replace(without_bans(case.given), byte_room=459)), ReferenceWritten)
 
     def test_edges_of_leg_lengths(self):
         lengths = {list_length(case.depot_map, case.expected.lines) for case in self.leg_cases

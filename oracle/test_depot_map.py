@@ -1,18 +1,20 @@
-"""Map bytes, worked by hand, and refusals 2 to 6."""
+"""Map bytes, worked by hand, and refusals 2 to 6. Bans and refusal 23 are in test_bans.py."""
 
 import random
 import unittest
+from dataclasses import replace
 
 from damages import map_damages, not_shortest
-from depot_map import (DepotMap, Line, Node, map_numbers, map_to_bytes, numbers_to_bytes, read_map,
-                       read_number, write_number)
+from depot_map import (MOST_BANS, DepotMap, Line, Node, map_numbers, map_to_bytes, numbers_to_bytes, read_map, read_number,
+                       write_number)
 from outcome import RefusedCall
-from sample_maps import SMALL_SAMPLES, full_sample, ridge_map
+from sample_maps import SMALL_SAMPLES, full_sample, joining_pairs, ridge_map
 
 # 18,000,000 is 80 D1 CA 08, 18,001,000 is E8 D8 CA 08 and 9,000,000 is C0 A8 A5 04.
 # 1000 is E8 07, 90 is 5A and 270 is 8E 02.
 TWO_NODES = "02 80D1CA08 C0A8A504 E8D8CA08 C0A8A504"
 ONE_LINE = "01 00 01 E807 03 03 5A 8E02"
+NO_BANS = "00"
 
 
 def refusal_of(map_bytes):
@@ -52,8 +54,8 @@ class Numbers(unittest.TestCase):
 class GoodMaps(unittest.TestCase):
     def test_smallest_map_by_hand(self):
         expected = DepotMap((Node(0, 0), Node(1000, 0)), (Line(0, 1, 1000, 3, 3, 90, 270),))
-        self.assertEqual(read_map(bytes.fromhex(TWO_NODES + ONE_LINE)), expected)
-        self.assertEqual(map_to_bytes(expected), bytes.fromhex(TWO_NODES + ONE_LINE))
+        self.assertEqual(read_map(bytes.fromhex(TWO_NODES + ONE_LINE + NO_BANS)), expected)
+        self.assertEqual(map_to_bytes(expected), bytes.fromhex(TWO_NODES + ONE_LINE + NO_BANS))
 
     def test_what_is_written_is_read_back(self):
         rng = random.Random("maps")
@@ -73,7 +75,7 @@ class RefusedMaps(unittest.TestCase):
         self.assertEqual(refusal_of_hex("80 00"), 2)
         self.assertEqual(refusal_of_hex(TWO_NODES), 2)
         self.assertEqual(refusal_of_hex(TWO_NODES + "01 00 01 E807 03 03 5A 8E"), 2)
-        self.assertEqual(refusal_of_hex(TWO_NODES + ONE_LINE + "00"), 2)
+        self.assertEqual(refusal_of_hex(TWO_NODES + ONE_LINE + NO_BANS + "00"), 2)
 
     def test_refusal_3_by_hand(self):
         for count in ("00", "01", "8104"):
@@ -120,17 +122,18 @@ class RefusedMaps(unittest.TestCase):
 
     def test_left_over_bytes_come_last_but_before_refusal_6(self):
         wrong_line = TWO_NODES + "01 00 01 E807 03 03 5A E802"
-        self.assertEqual(refusal_of_hex(wrong_line + "00"), 5)
-        same_nodes = "02 80D1CA08 C0A8A504 80D1CA08 C0A8A504" + ONE_LINE
+        self.assertEqual(refusal_of_hex(wrong_line + NO_BANS + "00"), 5)
+        same_nodes = "02 80D1CA08 C0A8A504 80D1CA08 C0A8A504" + ONE_LINE + NO_BANS
         self.assertEqual(refusal_of_hex(same_nodes + "00"), 2)
         self.assertEqual(refusal_of_hex(same_nodes), 6)
 
     def test_every_known_damage_gives_its_refusal(self):
         rng = random.Random("damages")
         for make_sample in SMALL_SAMPLES:
-            depot_map = make_sample(rng).depot_map
-            for damage in map_damages(depot_map):
-                self.assertEqual(refusal_of(damage.apply(depot_map)), damage.refusal, damage.label)
+            free = make_sample(rng).depot_map
+            for depot_map in (free, replace(free, bans=tuple(joining_pairs(free.lines)[:MOST_BANS]))):
+                for damage in map_damages(depot_map):
+                    self.assertEqual(refusal_of(damage.apply(depot_map)), damage.refusal, damage.label)
 
 
 if __name__ == "__main__":

@@ -2,9 +2,10 @@
 
 import unittest
 
-from depot_map import read_map
+from depot_map import map_to_bytes, read_map
 from format_page import format_page
 from outcome import Refused
+from sample_maps import ridge_map
 from test_scope_paper import RIDGE, THREE_POINTS, THREE_POINTS_OFFSET_500, TWO_POINTS
 
 PAGE = format_page()
@@ -18,7 +19,7 @@ class FormatPage(unittest.TestCase):
 
     def test_every_refusal_has_an_example(self):
         refused = {call.answer.number for call in PAGE.calls if isinstance(call.answer, Refused)}
-        self.assertEqual(refused, set(range(1, 21)))
+        self.assertEqual(refused, set(range(1, 24)))
 
     def test_formulas(self):
         for formula in PAGE.formulas:
@@ -30,6 +31,9 @@ class FormatPage(unittest.TestCase):
     def test_bytes_of_the_ridge(self):
         names = PAGE.names
         self.assertEqual((names["ridge"], names["ref"], names["three"], names["two"]), (RIDGE, THREE_POINTS_OFFSET_500, THREE_POINTS, TWO_POINTS))
+
+    def test_bytes_of_the_ridge_with_a_turn_banned(self):
+        self.assertEqual(PAGE.names["ridge_ban"], map_to_bytes(ridge_map((0, 2))))
 
     def test_small_map(self):
         tiny = read_map(PAGE.names["tiny"])

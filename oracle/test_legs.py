@@ -2,11 +2,12 @@
 
 import random
 import unittest
+from dataclasses import replace
 
 from cases import LEG_RECIPES
 from depot_map import DepotMap, Line, Node
-from legs import Leg, LegSearch, Marks, Readings, describe_leg, readings_by_enumeration
-from sample_maps import MapBuilder, chain_sample, random_walk
+from legs import Leg, LegSearch, Marks, Readings, describe_leg, passes_a_node_twice, readings_by_enumeration
+from sample_maps import MapBuilder, chain_sample, joining_pairs, random_walk
 from test_scope_paper import row_map
 
 EAST = Marks(3, 3, 8)
@@ -20,7 +21,7 @@ def as_readings(lists):
 
 
 def random_tiny_map(rng, most_nodes, most_lines):
-    """Few values everywhere, so that ties, parallel lines and equal marks are common."""
+    """Few values everywhere, so that ties, parallel lines and equal marks are common. Three of four have bans where lines join."""
     builder = MapBuilder()
     builder.row_of_nodes(rng.randrange(2, most_nodes + 1))
     lengths = rng.choice([[1], [1, 2], [100, 200, 300], [292, 293, 586],
@@ -30,7 +31,26 @@ def random_tiny_map(rng, most_nodes, most_lines):
         start, end = rng.sample(range(len(builder.nodes)), 2)
         builder.line(start, end, rng.choice(lengths), rng.choice(classes), 3, rng.choice(bearings),
                      rng.choice(bearings))
+    share = rng.choice([0, 0.1, 0.3, 0.6])
+    builder.bans += [pair for pair in joining_pairs(builder.lines) if rng.random() < share]
     return builder.build()
+
+
+def random_knot(rng):
+    """Many lines between few nodes, all of length 1, each with a sector of its own, and many bans: a way has to go around, or is told by its ends."""
+    builder = MapBuilder()
+    builder.row_of_nodes(rng.randrange(3, 5))
+    for number in range(rng.randrange(6, 10)):
+        start, end = rng.sample(range(len(builder.nodes)), 2)
+        builder.line(start, end, 1, bearing_out=12 * number, bearing_back=12 * number)
+    builder.bans += [pair for pair in joining_pairs(builder.lines) if rng.random() < 0.4]
+    return builder.build()
+
+
+def random_bans_on_a_block(rng):
+    """Two nodes joined both ways and a node before and behind, so that a ban makes a way go back and forth."""
+    bans = [pair for pair in ((0, 1), (0, 2), (2, 3), (3, 1), (3, 2)) if rng.random() < 0.4]
+    return row_map((0, 1, 1), (1, 2, 1), (1, 3, 1), (3, 1, 1), bans=bans)
 
 
 def random_leg(rng, depot_map):
@@ -118,18 +138,33 @@ class CountingAgainstEnumeration(unittest.TestCase):
         seen = {"none": 0, "one": 0, "several": 0}
         for _ in range(4_000):
             depot_map = random_tiny_map(rng, 5, 9)
-            leg = random_leg(rng, depot_map)
-            by_counting = LegSearch(depot_map).readings(leg)
-            by_enumeration = as_readings(readings_by_enumeration(depot_map, leg))
-            self.assertEqual(by_counting, by_enumeration, (depot_map, leg))
-            seen[by_counting.how_many] += 1
+            seen[self.readings_both_ways(depot_map, random_leg(rng, depot_map)).how_many] += 1
         self.assertGreater(min(seen.values()), 400, seen)
+
+    def readings_both_ways(self, depot_map, leg):
+        by_counting = LegSearch(depot_map).readings(leg)
+        self.assertEqual(by_counting, as_readings(readings_by_enumeration(depot_map, leg)), (depot_map, leg))
+        return by_counting
+
+    def test_legs_that_bans_decide(self):
+        rng = random.Random("knots")
+        by_a_ban = {"none": 0, "one": 0, "several": 0}
+        node_twice = 0
+        for _ in range(3_000):
+            depot_map = random_knot(rng)
+            first, last = (rng.randrange(len(depot_map.lines)) for _ in range(2))
+            leg = describe_leg(depot_map, (first, last), rng.random() < 0.7)
+            readings = self.readings_both_ways(depot_map, leg)
+            by_a_ban[readings.how_many] += LegSearch(replace(depot_map, bans=())).readings(leg) != readings
+            node_twice += passes_a_node_twice(depot_map, readings.lines or ())
+        self.assertGreater(min(by_a_ban.values()), 20, by_a_ban)
+        self.assertGreater(node_twice, 40)
 
     def test_lists_that_repeat_a_line_change_nothing(self):
         # All connected lists of up to two lines more than the map has, repeated lines and all.
         rng = random.Random("repeated lines")
-        for _ in range(300):
-            depot_map = random_tiny_map(rng, 3, 4)
+        for turn in range(300):
+            depot_map = random_tiny_map(rng, 3, 4) if turn % 2 else random_bans_on_a_block(rng)
             leg = random_leg(rng, depot_map)
             most_lines = len(depot_map.lines) + 2
             self.assertEqual(sorted(readings_by_enumeration(depot_map, leg)),

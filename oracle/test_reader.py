@@ -1,8 +1,9 @@
-"""Refusals 1 to 6 and 12 to 20 of the reader by hand-made cases, their order, and what is accepted."""
+"""Refusals 1 to 6 and 12 to 20 of the reader by hand-made cases, the order of all, and what is accepted. Refusals 22 and 23 are in test_bans.py."""
 
 import itertools
 import random
 import unittest
+from dataclasses import replace
 
 from damages import reference_damages
 from depot_map import DepotMap, Line, Node, map_numbers, map_to_bytes, numbers_to_bytes, read_map
@@ -31,14 +32,14 @@ class EachRefusal(unittest.TestCase):
         self.assertEqual(read(ROW_BYTES, ROW_REFERENCE, WORK, 2), StretchRead((0, 1), (50, 50), (500, 503)))
 
     def test_1(self):
-        for work_length in (0, 12_287):
+        for work_length in (0, 14_335):
             self.check(ROW_REFERENCE, 1, work_length=work_length)
 
     def test_2_to_6(self):
         numbers = map_numbers(ROW)
         self.check(ROW_REFERENCE, 2, map_bytes=ROW_BYTES[:-1])
-        last = len(numbers) - 1
-        for index, value, refusal in ((0, 1, 3), (6, 18_000_001, 4), (last, 360, 5), (3, 18_000_001, 6)):
+        last_bearing = len(numbers) - 2
+        for index, value, refusal in ((0, 1, 3), (6, 18_000_001, 4), (last_bearing, 360, 5), (3, 18_000_001, 6)):
             self.check(ROW_REFERENCE, refusal,
                        map_bytes=numbers_to_bytes(numbers[:index] + [value] + numbers[index + 1:]))
 
@@ -115,9 +116,13 @@ class EachRefusal(unittest.TestCase):
 
 
 class OrderOfRefusals(unittest.TestCase):
-    # Faults that can be put in independently. The lesser number must be given.
-    MAP_FAULTS = {2: lambda map_bytes: map_bytes + b"\x00", 3: lambda map_bytes: b"\x01" + map_bytes[1:],
-                  5: lambda map_bytes: map_bytes[:-2] + b"\xe8\x02"}
+    # Faults that can be put in independently. The upper one in the order must be given.
+    ORDER = (1, 2, 3, 5, 23, 12, 13, 14, 15, 16, 17, 22, 19, 20)
+    LAST_BEARING = len(ROW_BYTES) - 3
+    MAP_FAULTS = {2: lambda map_bytes: map_bytes + b"\x00", 3: lambda map_bytes: changed(map_bytes, 0, 1),
+                  5: lambda map_bytes: changed(map_bytes, OrderOfRefusals.LAST_BEARING, 0xE8)}
+    # The joint of the two legs, and a line and itself.
+    BAN_FAULTS = {22: (0, 1), 23: (0, 0)}
     REFERENCE_FAULTS = {12: lambda data: data + b"\x00", 13: lambda data: changed(data, STATUS, 0x0A),
                         14: lambda data: changed(data, FIRST_P, 0x9B),
                         15: lambda data: changed(data, LAST_R, data[LAST_R] ^ 0x20),
@@ -125,18 +130,19 @@ class OrderOfRefusals(unittest.TestCase):
                         19: lambda data: changed(data, POSITIVE, 1)}
 
     def outcome(self, faults):
-        map_bytes, reference = ROW_BYTES, ROW_REFERENCE
+        map_bytes = map_to_bytes(replace(ROW, bans=tuple(self.BAN_FAULTS[number] for number in faults if number in self.BAN_FAULTS)))
+        reference = ROW_REFERENCE
         for number in faults:
             map_bytes = self.MAP_FAULTS.get(number, lambda data: data)(map_bytes)
             reference = self.REFERENCE_FAULTS.get(number, lambda data: data)(reference)
         return read(map_bytes, reference, WORK - (1 in faults), 2 - (20 in faults))
 
     def test_upper_row_of_two(self):
-        numbers = [1, *self.MAP_FAULTS, *self.REFERENCE_FAULTS, 20]
-        for pair in itertools.combinations(numbers, 2):
+        self.assertEqual(set(self.ORDER), {1, *self.MAP_FAULTS, *self.BAN_FAULTS, *self.REFERENCE_FAULTS, 20})
+        for pair in itertools.combinations(self.ORDER, 2):
             if pair in ((2, 3), (2, 5)):
                 continue  # Among 2 to 5 the first faulty number decides; left-over bytes come last.
-            self.assertEqual(self.outcome(pair).number, min(pair), pair)
+            self.assertEqual(self.outcome(pair).number, pair[0], pair)
 
     def test_left_over_bytes_come_after_other_faults_of_the_map(self):
         self.assertEqual(self.outcome((2, 3)), Refused(3))

@@ -9,7 +9,7 @@ from reader import read
 from reference import put_together
 from writer import reference_of_legs, write
 
-WORK = 12_288
+WORK = 14_336
 RIDGE_NODES = (Node(0, 0), Node(1000, 0), Node(1000, 1000), Node(2000, 0))
 RIDGE_LINES = (Line(0, 1, 1000, 3, 3, 90, 270), Line(1, 3, 1000, 3, 3, 90, 270),
                Line(1, 2, 500, 3, 3, 0, 180), Line(2, 3, 500, 3, 3, 135, 272))
@@ -19,11 +19,11 @@ THREE_POINTS_OFFSET_500 = bytes.fromhex("0B 000000 000000 1B 68 01 03E8 0000 1B 
 TWO_POINTS = bytes.fromhex("0B 000000 000000 1B 68 03 07D0 0000 1B 18")
 
 
-def row_map(*lines):
-    """Nodes at longitude 0, 1000, 2000, ..., and lines between them as (start, end, length)."""
+def row_map(*lines, bans=()):
+    """Nodes at longitude 0, 1000, 2000, ..., lines between them as (start, end, length), and banned pairs of lines."""
     last = max(max(line[:2]) for line in lines)
     nodes = tuple(Node(1000 * number, 0) for number in range(last + 1))
-    return DepotMap(nodes, tuple(Line(start, end, length, 3, 3, 90, 270) for start, end, length in lines))
+    return DepotMap(nodes, tuple(Line(start, end, length, 3, 3, 90, 270) for start, end, length in lines), tuple(bans))
 
 
 class TieAtTheRidge(unittest.TestCase):

@@ -1,13 +1,16 @@
-"""The files of the ridge example, and what is printed for them."""
+"""The files of the ridge examples, and what is printed for them."""
 
 import unittest
 from pathlib import Path
 
+from depot_map import map_to_bytes
+from sample_maps import ridge_map
 from show import shown
-from test_scope_paper import RIDGE, THREE_POINTS_OFFSET_500
+from test_scope_paper import RIDGE, THREE_POINTS_OFFSET_500, TWO_POINTS
 
 ROOT = Path(__file__).parent.parent
 FOLDER = ROOT / "examples" / "ridge"
+BAN_FOLDER = ROOT / "examples" / "ridge_ban"
 PROGRAM = ROOT / "crates" / "openlr_show"
 
 
@@ -24,6 +27,15 @@ class RidgeExample(unittest.TestCase):
 
     def test_missing_files_count_as_empty(self):
         self.assertEqual(shown(FOLDER / "nothing here"), "refused 2")
+
+
+class RidgeExampleWithABan(unittest.TestCase):
+    def test_files_are_the_ridge_with_a_turn_banned_and_its_two_point_bytes(self):
+        self.assertEqual((BAN_FOLDER / "map.bin").read_bytes(), map_to_bytes(ridge_map((0, 2))))
+        self.assertEqual((BAN_FOLDER / "ref.bin").read_bytes(), TWO_POINTS)
+
+    def test_printed(self):
+        self.assertEqual(shown(BAN_FOLDER), "lines 2 pos 0 0 neg 0 0\n0\n1")
 
 
 if __name__ == "__main__":

@@ -64,7 +64,7 @@ class BinaryExample(unittest.TestCase):
         reference = bytearray(EXAMPLE)
         reference[6], reference[14] = 0xF4, 0x2B
         # Byte 68 on 5,610: 68 x 5,610 / 256 is 1,490.2 and 69 x 5,610 / 256 is 1,512.07.
-        self.assertEqual(read(map_to_bytes(DepotMap(nodes, lines)), bytes(reference), 12_288, 2),
+        self.assertEqual(read(map_to_bytes(DepotMap(nodes, lines)), bytes(reference), 14_336, 2),
                          StretchRead((0, 1), (1_491, 1_512), (0, 0)))
 
 

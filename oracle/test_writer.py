@@ -25,7 +25,7 @@ class EachRefusal(unittest.TestCase):
         self.assertEqual(write(map_bytes, lines, pos, neg, work_length, byte_room), Refused(refusal))
 
     def test_1(self):
-        self.check([0], 1, work_length=12_287)
+        self.check([0], 1, work_length=14_335)
         self.check([], 1, work_length=0, map_bytes=b"")
 
     def test_7(self):

@@ -4,15 +4,17 @@ from dataclasses import dataclass, replace
 from functools import lru_cache
 
 from damages import map_damage
-from depot_map import LARGEST_NUMBER, map_to_bytes
+from depot_map import LARGEST_NUMBER, joins, map_to_bytes, read_map
 from legs import list_length
 from outcome import ReferenceWritten
 from reader import LEAST_WORK_LENGTH
-from recipes import any_sample, until_found, work_area_exactly_enough, work_area_too_short
-from sample_maps import NODE_STEP, MapBuilder, far_sample, full_size_sample, random_walk, ring_sample
+from recipes import any_sample, sample_with_free_stretch, until_found, work_area_exactly_enough, work_area_too_short
+from sample_maps import (NODE_STEP, SMALL_SAMPLES, MapBuilder, chain_of_blocks, far_sample, full_size_sample, other_first_line_sample,
+                         pairs_of, random_walk, ring_sample)
 from writer import MOST_STRETCH_LINES, write
 
 AMPLE_BYTES = 459
+RING_TURN = SMALL_SAMPLES.index(ring_sample)
 
 
 @dataclass(frozen=True)
@@ -50,7 +52,7 @@ def edge_offsets(rng, depot_map, stretch):
 def accepted_input(rng, turn):
     """A sample's name and an input that the writer accepts, with offsets where they are accepted too."""
     def attempt():
-        sample = any_sample(rng, turn)
+        sample = sample_with_free_stretch(rng, turn)
         map_bytes = map_to_bytes(sample.depot_map)
         for pos, neg in (edge_offsets(rng, sample.depot_map, sample.stretch), (0, 0)):
             given = WriteInput(map_bytes, sample.stretch, pos, neg)
@@ -73,7 +75,7 @@ def offsets_at_edges(rng, turn):
 
 def skipped_lines(rng, turn):
     """Offsets that cover the first or the last lines whole, and leave exactly one line where possible."""
-    sample = ring_sample(rng) if turn % 2 else any_sample(rng, turn)
+    sample = any_sample(rng, RING_TURN if turn % 2 else turn)
     kept = rng.randrange(len(sample.stretch))
     before, after = sample.stretch[:kept], sample.stretch[kept + 1:]
     room = sample.depot_map.lines[sample.stretch[kept]].length - 1
@@ -100,12 +102,12 @@ def full_size(rng, turn):
     return sample.label, WriteInput(map_to_bytes(sample.depot_map), sample.stretch, pos, neg)
 
 
-def many_on_full_size(rng, count):
-    """Inputs on one full-size map: walks of 1 to 64 lines, every other one with offsets."""
-    depot_map = full_size_sample(rng).depot_map
+def many_on_full_size(rng, turn, count):
+    """Inputs on one full-size map: walks of 1 to 64 lines, every other one with offsets, every fifth without heed of bans."""
+    depot_map = full_size_sample(rng, turn).depot_map
     map_bytes = map_to_bytes(depot_map)
     for number in range(count):
-        lines = random_walk(rng, depot_map, rng.choice([1, 2, 4, 8, 16, MOST_STRETCH_LINES]))
+        lines = random_walk(rng, depot_map, rng.choice([1, 2, 4, 8, 16, MOST_STRETCH_LINES]), number % 5 > 0)
         pos, neg = edge_offsets(rng, depot_map, lines) if number % 2 else (0, 0)
         yield WriteInput(map_bytes, lines, pos, neg)
 
@@ -172,8 +174,72 @@ def broken_joint(rng, turn):
     return f"{place} joint", WriteInput(map_to_bytes(sample.depot_map), lines, pos)
 
 
-def offsets_too_large(rng, turn):
+def banned_pair(rng, turn):
+    """A ban on the first, the last or another pair of the stretch, or on all. Offsets may be too large and the buffer too short: both stand below."""
+    sample = until_found(lambda: with_two_lines(rng, rng.randrange(1_000)))
+    pairs = pairs_of(sample.stretch)
+    bans = [pairs[:1], pairs[-1:], [rng.choice(pairs)], pairs][turn % 4]
+    depot_map = replace(sample.depot_map, bans=tuple(bans))
+    pos, neg = [(0, 0), (LARGEST_NUMBER, 0), (0, LARGEST_NUMBER), edge_offsets(rng, depot_map, sample.stretch)][turn // 4 % 4]
+    return sample.label, WriteInput(map_to_bytes(depot_map), sample.stretch, pos, neg, byte_room=AMPLE_BYTES * (turn // 2 % 2))
+
+
+def with_two_lines(rng, turn):
     sample = any_sample(rng, turn)
+    return sample if len(sample.stretch) > 1 else None
+
+
+def banned_pair_skipped(rng, turn):
+    """An offset covers the banned pair whole, at the start or at the end, or its outer line alone."""
+    builder = MapBuilder()
+    count = (3, 4, 64)[turn % 3]
+    nodes = builder.row_of_nodes(count + 1)
+    lengths = [rng.choice([1, 2, 1_000]) for _ in range(count)]
+    lines = tuple(builder.line(start, end, length) for start, end, length in zip(nodes, nodes[1:], lengths))
+    skipped = 1 + turn // 6 % 2
+    if turn // 3 % 2:
+        builder.ban(*lines[:2])
+        pos, neg = sum(lengths[:skipped]), 0
+    else:
+        builder.ban(*lines[-2:])
+        pos, neg = 0, sum(lengths[-skipped:])
+    return f"{skipped} lines of the pair skipped", WriteInput(map_to_bytes(builder.build()), lines, pos, neg)
+
+
+def broken_joint_and_banned_pair(rng, turn):
+    """A ban on every pair of the stretch that joins, and one that does not."""
+    label, given = broken_joint(rng, turn)
+    depot_map = read_map(given.map_bytes)
+    bans = tuple(pair for pair in pairs_of(given.lines) if joins(depot_map.lines, *pair))
+    return label, replace(given, map_bytes=map_to_bytes(replace(depot_map, bans=bans)))
+
+
+def tie_that_a_ban_decides(rng, turn):
+    """Hops with ties, on each of which the other way is banned, but for one now and then: two points will do, or one point more is needed."""
+    builder = MapBuilder()
+    hops = hops_with_two_ways(rng, builder, (1, 2, 5, 32)[turn % 4], [2, 586, 1_000])
+    own, other = zip(*(rng.sample(ways, 2) for ways in hops))
+    left = turn // 4 % 2
+    builder.bans += rng.sample(other, len(hops) - left)
+    lines = tuple(line for way in own for line in way)
+    return f"{left} ties left of {len(hops)}", WriteInput(map_to_bytes(builder.build()), lines)
+
+
+def around_the_block(rng, turn):
+    """A stretch that passes nodes twice, since turns are banned."""
+    blocks = (1, 2, 5, 16)[turn % 4]
+    depot_map, legs = chain_of_blocks([1] * blocks)
+    lines = tuple(line for leg in legs for line in leg)
+    return f"{blocks} blocks", WriteInput(map_to_bytes(depot_map), lines, pos=rng.choice([0, 1, 99]))
+
+
+def no_usable_choice_by_a_ban(rng, turn):
+    sample = other_first_line_sample(rng)
+    return sample.label, WriteInput(map_to_bytes(sample.depot_map), sample.stretch, byte_room=turn % 459)
+
+
+def offsets_too_large(rng, turn):
+    sample = sample_with_free_stretch(rng, turn)
     total = list_length(sample.depot_map, sample.stretch)
     part = rng.randrange(total + 1)
     pairs = [(total, 0), (0, total), (part, total - part), (part, total - part + 1), (LARGEST_NUMBER, 0),
@@ -207,20 +273,26 @@ def no_usable_choice(rng, turn):
     return "equal lines side by side", WriteInput(map_to_bytes(builder.build()), lines, byte_room=turn % 459)
 
 
-def point_in_mid_leg(rng, turn):
-    """Hops with two ways of equal marks and lengths, over a node each: only a point there tells them apart."""
-    builder = MapBuilder()
-    row = builder.row_of_nodes(2 + turn % 4)
-    stretch = []
+def hops_with_two_ways(rng, builder, hop_count, totals):
+    """For each hop the lines of two ways of equal marks and lengths, over a node each: only a point there tells them apart."""
+    row = builder.row_of_nodes(hop_count + 1)
+    hops = []
     for start, end in zip(row, row[1:]):
-        total = rng.choice([2, 586, 1_000, 149_999, 150_000])
-        first_lengths = [rng.randrange(1, total) for _ in range(2)]
+        total = rng.choice(totals)
         ways = []
-        for side, first_length in enumerate(first_lengths):
+        for side in range(2):
+            first_length = rng.randrange(1, total)
             middle = builder.node(NODE_STEP * start + NODE_STEP // 2, 1_000 * (side + 1))
             ways.append((builder.line(start, middle, first_length), builder.line(middle, end, total - first_length)))
-        stretch += rng.choice(ways)
-    return f"{len(row) - 1} hops", WriteInput(map_to_bytes(builder.build()), tuple(stretch))
+        hops.append(ways)
+    return hops
+
+
+def point_in_mid_leg(rng, turn):
+    builder = MapBuilder()
+    hops = hops_with_two_ways(rng, builder, 1 + turn % 4, [2, 586, 1_000, 149_999, 150_000])
+    stretch = tuple(line for ways in hops for line in rng.choice(ways))
+    return f"{len(hops)} hops", WriteInput(map_to_bytes(builder.build()), stretch)
 
 
 def legs_at_longest(rng, turn):
@@ -296,15 +368,22 @@ WRITE_RECIPES = {
     "differences at the ends of 16 bits": differences_at_ends,
     "all but one line skipped": all_but_one_line_skipped,
     "fewest points": fewest_points,
+    "tie that a ban decides": tie_that_a_ban_decides,
+    "around the block": around_the_block,
     "refusal 1": work_area_too_short(accepted_input, {"map_bytes": b""}, {"lines": ()}, {"byte_room": 0}),
     "refusal 2": damaged_map(2),
     "refusal 3": damaged_map(3),
     "refusal 4": damaged_map(4),
     "refusal 5": damaged_map(5),
     "refusal 6": damaged_map(6),
+    "refusal 23": damaged_map(23),
     "refusal 7": no_such_lines,
     "refusal 8": broken_joint,
+    "refusal 8, and a banned pair": broken_joint_and_banned_pair,
+    "refusal 21": banned_pair,
+    "refusal 21, in skipped lines": banned_pair_skipped,
     "refusal 9": offsets_too_large,
     "refusal 10": no_usable_choice,
+    "refusal 10, by a ban": no_usable_choice_by_a_ban,
     "refusal 11": bytes_too_few,
 }

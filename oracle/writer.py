@@ -1,8 +1,8 @@
-"""The writer: map bytes and a stretch to reference bytes (scope paper, refusals 1 to 11)."""
+"""The writer: map bytes and a stretch to reference bytes (scope paper, refusals 1 to 11; paper 02, "Banned turns": 21 and 23)."""
 
 from depot_map import read_map
 from fields import LONGEST_LEG, code_pair, differences, differences_fit, offset_byte
-from legs import LegSearch, Readings, describe_leg, list_length
+from legs import LegSearch, Readings, describe_leg, has_banned_pair, list_length
 from outcome import ReferenceWritten, RefusedCall
 from reader import check_work_length
 from reference import Point, Reference, put_together
@@ -11,13 +11,15 @@ MOST_STRETCH_LINES = 64
 
 
 def check_stretch(depot_map, lines, positive_offset, negative_offset):
-    """Refusals 7 to 9, which look at the stretch as given."""
+    """Refusals 7, 8, 21 and 9, in this order. They look at the stretch as given."""
     known = all(0 <= line < len(depot_map.lines) for line in lines)
     if not 1 <= len(lines) <= MOST_STRETCH_LINES or not known:
         raise RefusedCall(7)
     for line, next_line in zip(lines, lines[1:]):
         if depot_map.lines[line].end_node != depot_map.lines[next_line].start_node:
             raise RefusedCall(8)
+    if has_banned_pair(depot_map, lines):
+        raise RefusedCall(21)
     if positive_offset + negative_offset >= list_length(depot_map, lines):
         raise RefusedCall(9)
 

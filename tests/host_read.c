@@ -76,6 +76,36 @@ static void refusals(void) {
     EXPECT(a.refusal == 2 && a.place == 0);
 }
 
+/* On the ridge with one ban: what the two-point bytes and the three-point bytes of lines 0 and 1 give, and how many lines where they are read. */
+static void on_banned_ridge(uint8_t first, uint8_t second, uint32_t two_points, uint32_t three_points, uint32_t line_count, const uint8_t *lines) {
+    static const uint8_t two[] = {0x0B, 0, 0, 0, 0, 0, 0, 0x1B, 0x68, 0x03, 0x07, 0xD0, 0, 0, 0x1B, 0x18};
+    static const uint8_t three[] = {0x0B, 0, 0, 0, 0, 0, 0, 0x1B, 0x68, 0x01, 0x03, 0xE8, 0, 0, 0x1B, 0x68, 0x01, 0x03, 0xE8, 0, 0, 0x1B, 0x18};
+    uint8_t map[BANNED_RIDGE_BYTES], line_buffer[64];
+    put_banned_ridge(map, first, second);
+    memset(line_buffer, UNTOUCHED, sizeof line_buffer);
+    struct openlr_reading a = openlr_read(map, sizeof map, two, sizeof two, line_buffer, sizeof line_buffer);
+    EXPECT(a.refusal == two_points && a.place == 0 && a.line_count == (two_points == 0 ? line_count : 0));
+    for (uint32_t i = 0; i < a.line_count; i++) EXPECT(line_buffer[4 * i] == lines[i] && line_buffer[4 * i + 1] == 0);
+    EXPECT(untouched(line_buffer, 4 * a.line_count, sizeof line_buffer));
+    memset(line_buffer, UNTOUCHED, sizeof line_buffer);
+    a = openlr_read(map, sizeof map, three, sizeof three, line_buffer, sizeof line_buffer);
+    EXPECT(a.refusal == three_points && a.place == 0 && a.line_count == (three_points == 0 ? 2u : 0u));
+    EXPECT(untouched(line_buffer, 4 * a.line_count, sizeof line_buffer));
+}
+
+/* No turn over the ridge, from line 0 into line 2: lines 0 and 1 are left, with two points too. No turn from line 0 into line 1: two points are the way over
+   the ridge, and the two legs of the three-point bytes meet in the banned turn (22). Pairs that name no line, or lines that do not join: 23. */
+static void bans(void) {
+    static const uint8_t straight[] = {0, 1}, over_the_ridge[] = {0, 2, 3};
+    on_banned_ridge(0, 2, 0, 0, 2, straight);
+    on_banned_ridge(2, 3, 0, 0, 2, straight);
+    on_banned_ridge(0, 1, 0, 22, 3, over_the_ridge);
+    on_banned_ridge(0, 4, 23, 23, 0, NULL);
+    on_banned_ridge(4, 0, 23, 23, 0, NULL);
+    on_banned_ridge(1, 0, 23, 23, 0, NULL);
+    on_banned_ridge(0, 0, 23, 23, 0, NULL);
+}
+
 /* More than 1,024 lines' room serves no more lines, and no more bytes are touched. */
 static void large_buffer(void) {
     static const uint8_t reference[] = {0x0B, 0, 0, 0, 0, 0, 0, 0x1B, 0x68, 0x01, 0x03, 0xE8, 0, 0, 0x1B, 0x68, 0x01, 0x03, 0xE8, 0, 0, 0x1B, 0x18};
@@ -104,6 +134,7 @@ static void null_slices(void) {
 int main(void) {
     both_offsets();
     refusals();
+    bans();
     large_buffer();
     null_slices();
     puts("openlr_read: as a C program expects");

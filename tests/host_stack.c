@@ -1,12 +1,13 @@
-/* Both functions in a thread with a stack of just OPENLR_LEAST_STACK bytes, on full-size maps and on the calls that take most: 64 legs, 64 lines, 1,024 lines
-   read. Prints how much of the stack was used, the thread's own part with it. It is compiled without sanitizers, which need more stack. */
+/* Both functions in a thread with a stack of just OPENLR_LEAST_STACK bytes, on full-size maps with 512 bans and on the calls that take most: 64 legs, 64 lines,
+   1,024 lines read, in many legs and in one. Prints how much of the stack was used, the thread's own part with it. It is compiled without sanitizers, which
+   need more stack. */
 #define _DEFAULT_SOURCE
 #include "ridge.h"
 
 #include <pthread.h>
 #include <sys/mman.h>
 
-enum { NODES = 512, LINES = 1024, GUARD = 65536, UNUSED = 0xA5 };
+enum { NODES = 512, LINES = 1024, BANS = 512, GUARD = 65536, UNUSED = 0xA5 };
 
 static uint8_t map[OPENLR_LONGEST_MAP], given[OPENLR_LONGEST_REFERENCE], line_buffer[4 * OPENLR_MOST_LINES], byte_buffer[OPENLR_LONGEST_REFERENCE];
 static size_t map_len, given_len;
@@ -34,11 +35,18 @@ static void put_nodes(void) {
     put_number(LINES);
 }
 
-/* Lines `from` to 1,023: there and back between nodes next to each other from node 15 on. They are of another form, and no leg below is shorter by them. */
+/* Lines `from` to 1,023: there and back between nodes next to each other from node 15 on. They are of another form, and no leg below is shorter by them.
+   Turning back at the second node is banned, there and there again until there are 512 bans. `from` is even. */
 static void put_other_lines(uint32_t from) {
     for (uint32_t i = from; i < LINES; i++) {
         uint32_t node = 15 + i / 2 % (NODES - 16);
         put_line(node + i % 2, node + 1 - i % 2, 20000, 5);
+    }
+    put_number(BANS);
+    for (uint32_t i = 0; i < BANS; i++) {
+        uint32_t line = from + 2 * i % (LINES - from);
+        put_number(line);
+        put_number(line + 1);
     }
 }
 
@@ -91,6 +99,28 @@ static void read_most(void) {
     for (uint32_t i = 0; i < 1024; i++) EXPECT(line_buffer[4 * i] == i % 16 && line_buffer[4 * i + 1] == 0);
 }
 
+/* Node 0, and around the others two lines from node to node: 1 to 511 the one time, 512 to 1,021 the other. Line 0 leads there, line 1,022 back, and line 1,023
+   there again with another form. Bans leave one way from line 0 to that last line: all 1,024 lines, 149,504 decimetres. D is 255. Node 1 is 100 to the east. */
+static void read_longest_leg(void) {
+    static const uint8_t reference[] = {0x0B, 0, 0, 0, 0, 0, 0, 0x1B, 0x6C, 0xFF, 0, 0x64, 0, 0, 0x1D, 0x1C};
+    put_nodes();
+    put_line(0, 1, 146, 3);
+    for (uint32_t i = 0; i < 511; i++) put_line(1 + i, 1 + (i + 1) % 511, 146, 3);
+    for (uint32_t i = 0; i < 510; i++) put_line(1 + i, 2 + i, 146, 3);
+    put_line(511, 0, 146, 3);
+    put_line(0, 1, 146, 5);
+    put_number(BANS);
+    for (uint32_t i = 0; i < BANS; i++) {
+        put_number(i % 511);
+        put_number(512 + i % 511);
+    }
+    memcpy(given, reference, sizeof reference);
+    given_len = sizeof reference;
+    run("openlr_read, one leg of 1,024 lines", read_once);
+    EXPECT(reading.refusal == 0 && reading.line_count == 1024);
+    for (uint32_t i = 0; i < 1024; i++) EXPECT(line_buffer[4 * i] == i % 256 && line_buffer[4 * i + 1] == i / 256);
+}
+
 /* A map with a chain of 64 lines of one length, all of it marked. */
 static void put_chain(uint32_t length) {
     put_nodes();
@@ -133,6 +163,11 @@ static void longest_map(void) {
         const uint32_t numbers[] = {128 + i % 384, 128 + (i + 1) % 384, 150000 - i / 384 * 586, 7, 7, 359, 359};
         for (int k = 0; k < 7; k++) put_number(numbers[k]);
     }
+    put_number(BANS);
+    for (uint32_t i = 0; i < BANS; i++) {
+        put_number(128 + i);
+        put_number(129 + i);
+    }
     EXPECT(map_len == OPENLR_LONGEST_MAP);
     put_stretch(1);
     given[0] = 1;
@@ -147,6 +182,7 @@ static void longest_map(void) {
 
 int main(void) {
     read_most();
+    read_longest_leg();
     write_most_legs();
     write_most_tests();
     longest_map();

@@ -77,6 +77,33 @@ static void refusals(void) {
     EXPECT(a.refusal == 2 && a.byte_count == 0);
 }
 
+/* On the ridge with one ban: the answer for a stretch, and the two-point bytes where it is written. */
+static void on_banned_ridge(uint8_t first, uint8_t second, const uint8_t *stretch, size_t length, uint32_t pos, uint32_t number) {
+    static const uint8_t two[] = {0x0B, 0, 0, 0, 0, 0, 0, 0x1B, 0x68, 0x03, 0x07, 0xD0, 0, 0, 0x1B, 0x18};
+    uint8_t map[BANNED_RIDGE_BYTES], byte_buffer[OPENLR_LONGEST_REFERENCE];
+    put_banned_ridge(map, first, second);
+    memset(byte_buffer, UNTOUCHED, sizeof byte_buffer);
+    struct openlr_written a = openlr_write(map, sizeof map, stretch, length, pos, 0, byte_buffer, sizeof byte_buffer);
+    EXPECT(a.refusal == number && a.byte_count == (number == 0 ? sizeof two : 0));
+    EXPECT(memcmp(byte_buffer, two, a.byte_count) == 0 && untouched(byte_buffer, a.byte_count, sizeof byte_buffer));
+}
+
+/* With the turn from line 0 into line 2 banned, two points are enough for lines 0 and 1; the way over the ridge is refused (21), also where an offset drops
+   line 0 or is too large. With the turn into line 1 banned it is the other way round. Pairs that name no line, or lines that do not join: 23, before 7. */
+static void bans(void) {
+    static const uint8_t straight[] = {0, 0, 0, 0, 1, 0, 0, 0}, over_the_ridge[] = {0, 0, 0, 0, 2, 0, 0, 0, 3, 0, 0, 0};
+    on_banned_ridge(0, 2, straight, sizeof straight, 0, 0);
+    on_banned_ridge(0, 2, over_the_ridge, sizeof over_the_ridge, 0, 21);
+    on_banned_ridge(0, 2, over_the_ridge, sizeof over_the_ridge, 1000, 21);
+    on_banned_ridge(0, 2, over_the_ridge, sizeof over_the_ridge, 2000, 21);
+    on_banned_ridge(2, 3, over_the_ridge, sizeof over_the_ridge, 1500, 21);
+    on_banned_ridge(0, 1, over_the_ridge, sizeof over_the_ridge, 0, 0);
+    on_banned_ridge(0, 1, straight, sizeof straight, 0, 21);
+    on_banned_ridge(0, 4, straight, sizeof straight, 0, 23);
+    on_banned_ridge(1, 0, straight, sizeof straight, 0, 23);
+    on_banned_ridge(3, 3, straight, 0, 0, 23);
+}
+
 /* A slice of no bytes may be NULL, whichever and however many are. The first that is missing decides. */
 static void null_slices(void) {
     static const uint8_t stretch[] = {0, 0, 0, 0, 1, 0, 0, 0};
@@ -94,6 +121,7 @@ int main(void) {
     ridge_bytes();
     offsets();
     refusals();
+    bans();
     null_slices();
     puts("openlr_write: as a C program expects");
     return 0;

@@ -1,4 +1,4 @@
-/* The map of the scope paper's ridge, and a way to fail. */
+/* The map of the scope paper's ridge, with a ban or without, and a way to fail. */
 #ifndef RIDGE_H
 #define RIDGE_H
 
@@ -28,6 +28,16 @@ static const uint8_t ridge[] = {
     1, 3, 0xE8, 0x07, 3, 3, 90, 0x8E, 0x02,                                                 /* 1 to 3, 1000, 90, 270 */
     1, 2, 0xF4, 0x03, 3, 3, 0, 0xB4, 0x01,                                                  /* 1 to 2, 500, 0, 180 */
     2, 3, 0xF4, 0x03, 3, 3, 0x87, 0x01, 0x90, 0x02,                                         /* 2 to 3, 500, 135, 272 */
+    0,                                                                                      /* bans */
 };
+
+/* The ridge with one ban: `second` must not come straight after `first`. Both are below 128. */
+enum { BANNED_RIDGE_BYTES = sizeof ridge + 2 };
+
+static inline void put_banned_ridge(uint8_t *bytes, uint8_t first, uint8_t second) {
+    const uint8_t bans[] = {1, first, second};
+    memcpy(bytes, ridge, sizeof ridge - 1);
+    memcpy(bytes + sizeof ridge - 1, bans, sizeof bans);
+}
 
 #endif

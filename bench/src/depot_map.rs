@@ -1,7 +1,5 @@
-//! The depot map: from its bytes to nodes, lines and the lines at each node ("The depot map").
-
-use std::collections::HashMap;
-use std::hash::{BuildHasherDefault, Hasher};
+//! The depot map: from its bytes to nodes, lines, the lines at each node and the banned turns
+//! ("The depot map", "Banned turns").
 
 use crate::fields::{coordinate_code, sector, Marks, LONGEST_LEG};
 use crate::outcome::{Outcome, Refusal};
@@ -45,79 +43,161 @@ impl Line {
     }
 }
 
-/// Line numbers by node, in one list.
-#[derive(Clone, Debug, Default)]
-pub struct LinesByNode {
-    first: Vec<u32>,
-    lines: Vec<u32>,
+/// A banned turn: the next line is not allowed straight after the line.
+#[derive(Clone, Copy, Debug, PartialEq, Eq)]
+pub struct Ban {
+    pub line: u32,
+    pub next: u32,
 }
 
-impl LinesByNode {
-    fn new(node_count: usize, lines: &[Line], node_of: impl Fn(&Line) -> u32) -> LinesByNode {
-        let mut first = vec![0; node_count + 1];
-        for line in lines {
-            first[node_of(line) as usize] += 1;
-        }
-        let mut end = 0;
-        for entry in &mut first {
-            end += *entry;
-            *entry = end;
-        }
-        // Each entry is now the end of its node's part. Filling from behind makes it the start.
-        let mut numbers = vec![0; lines.len()];
-        for (number, line) in lines.iter().enumerate().rev() {
-            let entry = &mut first[node_of(line) as usize];
-            *entry -= 1;
-            numbers[*entry as usize] = number as u32;
-        }
-        LinesByNode {
-            first,
-            lines: numbers,
-        }
+/// A line at its start node, with what a search asks of it: in one number, so that a list of them
+/// is quickly made.
+#[derive(Clone, Copy, Debug, Default, PartialEq, Eq)]
+pub struct Leaving(u64);
+
+impl Leaving {
+    /// A map has up to 1,024 lines and 512 nodes, and there are eight classes.
+    #[inline]
+    fn new(number: usize, line: &Line) -> Leaving {
+        let low = u32::from(line.frc) << 24 | line.end << 12 | number as u32;
+        Leaving(u64::from(line.length) << 32 | u64::from(low))
     }
 
     #[inline]
-    pub fn of(&self, node: u32) -> &[u32] {
-        let node = node as usize;
-        &self.lines[self.first[node] as usize..self.first[node + 1] as usize]
+    fn with_bans(self, has_bans: bool) -> Leaving {
+        Leaving(self.0 | u64::from(has_bans) << 31)
+    }
+
+    #[inline(always)]
+    pub fn line(self) -> u32 {
+        self.0 as u32 & 0x3FF
+    }
+
+    #[inline(always)]
+    pub fn end(self) -> u32 {
+        self.0 as u32 >> 12 & 0x1FF
+    }
+
+    #[inline(always)]
+    pub fn frc(self) -> u8 {
+        (self.0 as u32 >> 24 & 7) as u8
+    }
+
+    /// Whether a line that leaves its end is banned after it.
+    #[inline(always)]
+    pub fn has_bans(self) -> bool {
+        self.0 as u32 >> 31 != 0
+    }
+
+    #[inline(always)]
+    pub fn length(self) -> u32 {
+        (self.0 >> 32) as u32
     }
 }
 
-/// A hash of one 64-bit number by multiplication. A map has 512 nodes at most,
-/// so that even numbers chosen to collide cost little.
-#[derive(Default)]
-pub struct CodeHasher(u64);
+/// Entries in groups, by a node or by a line, in one list.
+#[derive(Clone, Debug, Default)]
+pub struct Grouped<Entry> {
+    first: Vec<u32>,
+    entries: Vec<Entry>,
+}
 
-impl Hasher for CodeHasher {
-    fn finish(&self) -> u64 {
-        self.0
-    }
-
-    fn write(&mut self, bytes: &[u8]) {
-        for &byte in bytes {
-            self.write_u64(self.0 << 8 | u64::from(byte));
+impl<Entry: Clone + Default> Grouped<Entry> {
+    /// An entry for each item, in the order of the items within a group.
+    fn new<Item>(
+        group_count: usize,
+        items: &[Item],
+        group_of: impl Fn(&Item) -> u32,
+        entry_of: impl Fn(usize, &Item) -> Entry,
+    ) -> Grouped<Entry> {
+        let mut first = vec![0; group_count + 1];
+        for item in items {
+            first[group_of(item) as usize] += 1;
         }
+        let mut end = 0;
+        for place in &mut first {
+            end += *place;
+            *place = end;
+        }
+        // Each place is now the end of its group. Filling from behind makes it the start.
+        let mut entries = vec![Entry::default(); items.len()];
+        for (number, item) in items.iter().enumerate().rev() {
+            let place = &mut first[group_of(item) as usize];
+            *place -= 1;
+            entries[*place as usize] = entry_of(number, item);
+        }
+        Grouped { first, entries }
     }
 
-    fn write_u64(&mut self, number: u64) {
-        let product = number.wrapping_mul(0x9E37_79B9_7F4A_7C15);
-        self.0 = product ^ product >> 32;
+    #[inline]
+    pub fn of(&self, group: u32) -> &[Entry] {
+        let group = group as usize;
+        &self.entries[self.first[group] as usize..self.first[group + 1] as usize]
     }
 }
 
-type NodeOfCodes = HashMap<u64, u32, BuildHasherDefault<CodeHasher>>;
+/// The nodes by their pairs of codes: a table twice as long as a map has nodes, where the place of a
+/// pair, or the next free one behind it, has its node. Even pairs chosen to collide cost little.
+#[derive(Clone, Debug)]
+struct NodeOfCodes {
+    nodes: [u16; 1024],
+    codes: Vec<u64>,
+}
+
+const FREE: u16 = u16::MAX;
+
+impl NodeOfCodes {
+    /// Refusal 6: two nodes with the same pair of codes.
+    fn new(nodes: &[Node]) -> Outcome<NodeOfCodes> {
+        let code = |node: &Node| {
+            let (longitude, latitude) = (node.longitude, node.latitude);
+            pack(coordinate_code(longitude), coordinate_code(latitude))
+        };
+        let mut table = NodeOfCodes {
+            nodes: [FREE; 1024],
+            codes: nodes.iter().map(code).collect(),
+        };
+        for node in 0..nodes.len() {
+            let place = table.place(table.codes[node]);
+            if table.nodes[place] != FREE {
+                return Err(Refusal::SameCodes);
+            }
+            table.nodes[place] = node as u16;
+        }
+        Ok(table)
+    }
+
+    /// Where the pair stands, or would stand.
+    #[inline]
+    fn place(&self, codes: u64) -> usize {
+        let mut place = (codes.wrapping_mul(0x9E37_79B9_7F4A_7C15) >> 54) as usize;
+        while self.nodes[place] != FREE && self.codes[usize::from(self.nodes[place])] != codes {
+            place = (place + 1) % 1024;
+        }
+        place
+    }
+
+    fn get(&self, codes: u64) -> Option<u32> {
+        let node = self.nodes[self.place(codes)];
+        (node != FREE).then_some(u32::from(node))
+    }
+}
 
 #[derive(Clone, Debug)]
 pub struct DepotMap {
     pub nodes: Vec<Node>,
     pub lines: Vec<Line>,
-    pub outgoing: LinesByNode,
-    pub incoming: LinesByNode,
+    /// As listed: a pair may stand there twice.
+    pub bans: Vec<Ban>,
+    pub outgoing: Grouped<Leaving>,
+    pub incoming: Grouped<u32>,
+    /// By line; no groups where there are no bans.
+    banned_after: Grouped<u32>,
     node_of_codes: NodeOfCodes,
 }
 
 impl DepotMap {
-    /// The map that the bytes hold, or refusal 2 to 6.
+    /// The map that the bytes hold, or refusal 2 to 6 or 23.
     pub fn decode(map_bytes: &[u8]) -> Outcome<DepotMap> {
         let mut numbers = Numbers { rest: map_bytes };
         let node_count = numbers.within(2, 512, Refusal::Count)?;
@@ -130,17 +210,31 @@ impl DepotMap {
         for _ in 0..line_count {
             lines.push(numbers.line(node_count)?);
         }
+        let ban_count = numbers.within(0, 512, Refusal::Count)?;
+        let mut bans = Vec::with_capacity(ban_count as usize);
+        for _ in 0..ban_count {
+            bans.push(numbers.ban()?);
+        }
         if !numbers.rest.is_empty() {
             return Err(Refusal::MapBytes);
         }
-        let node_of_codes = nodes_by_codes(&nodes)?;
+        let node_of_codes = NodeOfCodes::new(&nodes)?;
+        let banned_after = banned_lines(&lines, &bans)?;
         Ok(DepotMap {
-            outgoing: LinesByNode::new(nodes.len(), &lines, |line| line.start),
-            incoming: LinesByNode::new(nodes.len(), &lines, |line| line.end),
+            outgoing: leaving_lines(nodes.len(), &lines, &banned_after),
+            incoming: Grouped::new(nodes.len(), &lines, |line| line.end, |line, _| line as u32),
             nodes,
             lines,
+            bans,
+            banned_after,
             node_of_codes,
         })
+    }
+
+    #[inline]
+    pub fn leaving(&self, line: u32) -> Leaving {
+        let has_bans = !self.banned_after(line).is_empty();
+        Leaving::new(line as usize, self.line(line)).with_bans(has_bans)
     }
 
     #[inline]
@@ -152,10 +246,28 @@ impl DepotMap {
         self.nodes[node as usize]
     }
 
+    /// The lines that are not allowed straight after the line, each as often as it is listed.
+    #[inline]
+    pub fn banned_after(&self, line: u32) -> &[u32] {
+        if self.bans.is_empty() {
+            return &[];
+        }
+        self.banned_after.of(line)
+    }
+
+    pub fn is_banned(&self, line: u32, next: u32) -> bool {
+        self.banned_after(line).contains(&next)
+    }
+
+    /// The numbers of the lines that leave the node.
+    pub fn lines_from(&self, node: u32) -> impl ExactSizeIterator<Item = u32> + '_ {
+        let leaving = self.outgoing.of(node).iter();
+        leaving.map(|leaving| leaving.line())
+    }
+
     /// The node with this pair of codes. Refusal 6 lets at most one pass.
     pub fn node_with_codes(&self, longitude_code: i32, latitude_code: i32) -> Option<u32> {
-        let codes = pack(longitude_code, latitude_code);
-        self.node_of_codes.get(&codes).copied()
+        self.node_of_codes.get(pack(longitude_code, latitude_code))
     }
 
     /// The node at these coordinates. It can only be the one with their codes.
@@ -167,23 +279,44 @@ impl DepotMap {
     }
 }
 
-fn pack(longitude_code: i32, latitude_code: i32) -> u64 {
-    u64::from(longitude_code as u32) << 32 | u64::from(latitude_code as u32)
-}
-
-/// Refusal 6: two nodes with the same pair of codes.
-fn nodes_by_codes(nodes: &[Node]) -> Outcome<NodeOfCodes> {
-    let mut node_of_codes = NodeOfCodes::with_capacity_and_hasher(nodes.len(), Default::default());
-    for (number, node) in nodes.iter().enumerate() {
-        let codes = pack(
-            coordinate_code(node.longitude),
-            coordinate_code(node.latitude),
-        );
-        if node_of_codes.insert(codes, number as u32).is_some() {
-            return Err(Refusal::SameCodes);
+fn leaving_lines(
+    node_count: usize,
+    lines: &[Line],
+    banned_after: &Grouped<u32>,
+) -> Grouped<Leaving> {
+    let mut outgoing = Grouped::new(node_count, lines, |line| line.start, Leaving::new);
+    if !banned_after.entries.is_empty() {
+        for leaving in &mut outgoing.entries {
+            let has_bans = !banned_after.of(leaving.line()).is_empty();
+            *leaving = leaving.with_bans(has_bans);
         }
     }
-    Ok(node_of_codes)
+    outgoing
+}
+
+/// Refusal 23: a pair names no line, or its second line does not start where its first ends.
+fn banned_lines(lines: &[Line], bans: &[Ban]) -> Outcome<Grouped<u32>> {
+    if bans.is_empty() {
+        return Ok(Grouped::default());
+    }
+    let line = |number: u32| lines.get(number as usize);
+    let is_turn = |ban: &Ban| match (line(ban.line), line(ban.next)) {
+        (Some(line), Some(next)) => line.end == next.start,
+        _ => false,
+    };
+    if !bans.iter().all(is_turn) {
+        return Err(Refusal::NoSuchTurn);
+    }
+    Ok(Grouped::new(
+        lines.len(),
+        bans,
+        |ban| ban.line,
+        |_, ban| ban.next,
+    ))
+}
+
+fn pack(longitude_code: i32, latitude_code: i32) -> u64 {
+    u64::from(longitude_code as u32) << 32 | u64::from(latitude_code as u32)
 }
 
 /// The numbers of a map, in byte order. The first faulty one decides the refusal.
@@ -193,7 +326,7 @@ struct Numbers<'a> {
 
 impl Numbers<'_> {
     /// Groups of seven bits, lowest first. Five groups hold 32 bits, so the fifth is at most 15.
-    #[inline]
+    #[inline(always)]
     fn number(&mut self) -> Outcome<u32> {
         let mut number = 0;
         for shift in [0, 7, 14, 21, 28] {
@@ -218,7 +351,7 @@ impl Numbers<'_> {
         Err(Refusal::MapBytes)
     }
 
-    #[inline]
+    #[inline(always)]
     fn within(&mut self, least: u32, greatest: u32, refusal: Refusal) -> Outcome<u32> {
         let number = self.number()?;
         if number < least || number > greatest {
@@ -251,6 +384,14 @@ impl Numbers<'_> {
             fow: self.within(0, 7, fault)? as u8,
             bearing_out: self.within(0, 359, fault)? as u16,
             bearing_back: self.within(0, 359, fault)? as u16,
+        })
+    }
+
+    /// Any two numbers: what they name is asked when the whole map is read.
+    fn ban(&mut self) -> Outcome<Ban> {
+        Ok(Ban {
+            line: self.number()?,
+            next: self.number()?,
         })
     }
 }

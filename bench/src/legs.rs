@@ -71,7 +71,7 @@ pub fn matching_first_lines(
     node: u32,
     marks: Marks,
 ) -> impl Iterator<Item = u32> + '_ {
-    let leaving = map.outgoing.of(node).iter().copied();
+    let leaving = map.lines_from(node);
     leaving.filter(move |&line| map.line(line).leaving_marks() == marks)
 }
 

@@ -8,8 +8,8 @@ use std::time::{Duration, Instant};
 
 use plain::depot_map::DepotMap;
 use plain::maps::{
-    chain, grid, hub, random_graph, random_walk, reference_with_legs, steep, Lengths, MapPlan,
-    Xorshift,
+    chain, grid, hub, random_graph, random_walk, reference_with_legs, steep, Bans, Lengths,
+    MapPlan, Turns, Xorshift,
 };
 use plain::outcome::WORK_AREA;
 use plain::reader::read;
@@ -105,21 +105,34 @@ struct Sample {
     map: DepotMap,
 }
 
+const BANS: usize = 512;
+
 fn samples() -> Vec<Sample> {
-    let plans = [
-        ("grid, equal lengths", grid(1, Lengths::Equal)),
-        ("grid", grid(2, Lengths::SlightlyDifferent)),
-        ("random", random_graph(3)),
-        ("chain", chain(4, Lengths::SlightlyDifferent)),
-    ];
-    plans
-        .map(|(name, plan)| sample(name, plan.shuffled(5)))
-        .into()
+    let grid_equal = || grid(1, Lengths::Equal).shuffled(5);
+    let grid = || grid(2, Lengths::SlightlyDifferent).shuffled(5);
+    let random = || random_graph(3).shuffled(5);
+    let chain = || chain(4, Lengths::SlightlyDifferent).shuffled(5);
+    let spread = |plan: MapPlan| plan.with_bans(9, BANS, Bans::Spread);
+    let at_one = |plan: MapPlan| plan.with_bans(9, BANS, Bans::AtOneJunction);
+    vec![
+        sample("grid, equal lengths", grid_equal()),
+        sample("grid", grid()),
+        sample("random", random()),
+        sample("chain", chain()),
+        sample("grid, 512 bans", spread(grid())),
+        sample("grid, 512 bans at one junction", at_one(grid())),
+        sample("random, 512 bans", spread(random())),
+        sample("random, 512 bans at one junction", at_one(random())),
+    ]
 }
 
 /// Maps made against the search.
 fn hostile_samples() -> Vec<Sample> {
-    vec![sample("hub", hub()), sample("steep", steep())]
+    vec![
+        sample("hub", hub()),
+        sample("hub, 512 bans", hub().with_bans(9, BANS, Bans::Spread)),
+        sample("steep", steep()),
+    ]
 }
 
 fn sample(name: &'static str, plan: MapPlan) -> Sample {
@@ -176,11 +189,10 @@ fn decode_row(sample: &Sample) -> Row<'_> {
 
 const LIMITS: [u32; 3] = [5_000, 15_000, 150_000];
 
-const METHODS: [(Method, &str); 4] = [
-    (Method::Queue, "queue by nodes"),
+const METHODS: [(Method, &str); 3] = [
     (Method::LineQueue, "queue of lines"),
-    (Method::Heap, "heap of nodes"),
     (Method::LineHeap, "heap of lines"),
+    (Method::NodeAndLineHeap, "heap of nodes and lines"),
 ];
 
 fn search_rows(sample: &Sample) {
@@ -307,11 +319,23 @@ fn writing_rows(sample: &Sample) {
         if stretches.is_empty() {
             continue;
         }
+        for stretch in &stretches {
+            check_proved_writing(sample, stretch);
+        }
         let what = format!("write, {}, lines {count}", sample.name);
         let effort = mean_effort(sample, &stretches);
         writing_row(what.clone(), sample, stretches).print();
         println!("{what}, plain Rust: {effort}");
     }
+}
+
+/// What is timed is a writing of the same bytes.
+fn check_proved_writing(sample: &Sample, stretch: &[u32]) {
+    let reference = write_on_map(&sample.map, stretch, 0, 0, BYTE_ROOM).expect("it is accepted");
+    let mut work_area = vec![0; WORK_AREA];
+    let mut byte_buffer = vec![0; BYTE_ROOM];
+    let written = proved::write(&sample.bytes, stretch, &mut work_area, &mut byte_buffer);
+    assert_eq!(byte_buffer.get(..written), Some(reference.as_slice()));
 }
 
 /// Of one stretch.
@@ -347,7 +371,8 @@ fn write_once() {
 
 fn accepted_stretches(sample: &Sample, count: usize) -> Vec<Vec<u32>> {
     let mut rng = Xorshift::new(8);
-    let walks = (0..10_000).filter_map(|_| random_walk(&mut rng, &sample.map, count));
+    let walks =
+        (0..10_000).filter_map(|_| random_walk(&mut rng, &sample.map, count, Turns::Allowed));
     let accepted = |walk: &Vec<u32>| write_on_map(&sample.map, walk, 0, 0, BYTE_ROOM).is_ok();
     walks.filter(accepted).take(INPUTS).collect()
 }

@@ -2,7 +2,7 @@
 
 use std::collections::HashSet;
 
-use crate::depot_map::{DepotMap, Line, Node};
+use crate::depot_map::{Ban, DepotMap, Line, Node};
 use crate::fields::{coordinate_code, distance_byte};
 use crate::legs::{verdict, Leg, LegEnd, Verdict};
 use crate::reader::read_on_map;
@@ -51,6 +51,7 @@ impl Xorshift {
 pub struct MapPlan {
     pub nodes: Vec<Node>,
     pub lines: Vec<Line>,
+    pub bans: Vec<Ban>,
 }
 
 impl MapPlan {
@@ -58,6 +59,7 @@ impl MapPlan {
         MapPlan {
             nodes: map.nodes.clone(),
             lines: map.lines.clone(),
+            bans: map.bans.clone(),
         }
     }
 
@@ -80,13 +82,65 @@ impl MapPlan {
                 push_number(&mut bytes, number);
             }
         }
+        push_number(&mut bytes, self.bans.len() as u32);
+        for ban in &self.bans {
+            push_number(&mut bytes, ban.line);
+            push_number(&mut bytes, ban.next);
+        }
         bytes
     }
 
-    /// The same map with its lines in another order.
+    /// The same map, without bans yet, with its lines in another order.
     pub fn shuffled(mut self, seed: u64) -> MapPlan {
+        assert_eq!(self.bans, [], "bans name lines by their place");
         Xorshift::new(seed).shuffle(&mut self.lines);
         self
+    }
+}
+
+/// Which turns are banned: up to half of those of the map, or of the node with most of them. Where
+/// these are too few, bans are listed many times.
+#[derive(Clone, Copy, Debug, PartialEq, Eq)]
+pub enum Bans {
+    Spread,
+    AtOneJunction,
+}
+
+impl MapPlan {
+    /// The map with this many bans, if lines meet.
+    pub fn with_bans(mut self, seed: u64, count: usize, place: Bans) -> MapPlan {
+        let mut turns = self.turns();
+        if place == Bans::AtOneJunction {
+            let junction = self.busiest_node(&turns);
+            turns.retain(|turn| self.lines[turn.line as usize].end == junction);
+        }
+        Xorshift::new(seed).shuffle(&mut turns);
+        turns.truncate(turns.len().div_ceil(2));
+        self.bans = turns.into_iter().cycle().take(count).collect();
+        self
+    }
+
+    /// Every pair of lines that meet: the second starts where the first ends.
+    pub fn turns(&self) -> Vec<Ban> {
+        let mut leaving = vec![Vec::new(); self.nodes.len()];
+        for (number, line) in (0..).zip(&self.lines) {
+            leaving[line.start as usize].push(number);
+        }
+        let turns = (0..).zip(&self.lines).flat_map(|(number, line)| {
+            let nexts = leaving[line.end as usize].iter();
+            nexts.map(move |&next| Ban { line: number, next })
+        });
+        turns.collect()
+    }
+
+    fn busiest_node(&self, turns: &[Ban]) -> u32 {
+        let mut counts = vec![0; self.nodes.len()];
+        for turn in turns {
+            counts[self.lines[turn.line as usize].end as usize] += 1;
+        }
+        let nodes = 0..self.nodes.len() as u32;
+        let busiest = nodes.max_by_key(|&node| counts[node as usize]);
+        busiest.unwrap_or_default()
     }
 }
 
@@ -196,7 +250,7 @@ pub fn random_graph(seed: u64) -> MapPlan {
     let rng = &mut Xorshift::new(seed);
     let mut plan = MapPlan {
         nodes: scattered_nodes(rng, FULL_NODES, 30_000),
-        lines: Vec::new(),
+        ..MapPlan::default()
     };
     for number in 0..FULL_LINES as u32 {
         let start = number % FULL_NODES;
@@ -261,7 +315,7 @@ fn row_of_nodes(count: u32) -> MapPlan {
     });
     MapPlan {
         nodes: nodes.collect(),
-        lines: Vec::new(),
+        ..MapPlan::default()
     }
 }
 
@@ -298,7 +352,7 @@ pub fn small_map(seed: u64) -> MapPlan {
     let side = *rng.pick(&[100, 1000, 60_000]);
     let mut plan = MapPlan {
         nodes: scattered_nodes(rng, node_count, side),
-        lines: Vec::new(),
+        ..MapPlan::default()
     };
     let longest = *rng.pick(&[1, 2, 3, 400, 1200, 60_000]);
     let classes = rng.within(1, 8);
@@ -316,21 +370,34 @@ pub fn small_map(seed: u64) -> MapPlan {
     plan
 }
 
+/// Which turns a walk may take.
+#[derive(Clone, Copy, Debug, PartialEq, Eq)]
+pub enum Turns {
+    Allowed,
+    BannedToo,
+}
+
 /// A walk of this many lines from a line chosen freely, if no dead end is met. Where there is a
 /// choice it does not turn back to the node it came from.
-pub fn random_walk(rng: &mut Xorshift, map: &DepotMap, count: usize) -> Option<Vec<u32>> {
+pub fn random_walk(
+    rng: &mut Xorshift,
+    map: &DepotMap,
+    count: usize,
+    turns: Turns,
+) -> Option<Vec<u32>> {
     let mut line = rng.below(map.lines.len() as u32);
     let mut walk = vec![line];
     while walk.len() < count {
         let at = map.line(line);
-        let leaving = map.outgoing.of(at.end);
+        let may_follow = |next: &u32| turns == Turns::BannedToo || !map.is_banned(line, *next);
+        let leaving: Vec<u32> = map.lines_from(at.end).filter(may_follow).collect();
         let onward = |next: &&u32| map.line(**next).end != at.start;
         let ahead: Vec<u32> = leaving.iter().filter(onward).copied().collect();
-        let choices = if ahead.is_empty() { leaving } else { &ahead };
+        let choices = if ahead.is_empty() { leaving } else { ahead };
         if choices.is_empty() {
             return None;
         }
-        line = *rng.pick(choices);
+        line = *rng.pick(&choices);
         walk.push(line);
     }
     Some(walk)
@@ -344,7 +411,7 @@ pub fn reference_with_legs(
     legs: usize,
     leg_length: u32,
 ) -> Option<(Vec<u8>, Vec<u32>)> {
-    let mut search = Search::new(map, Method::Heap);
+    let mut search = Search::new(map, Method::NodeAndLineHeap);
     for _ in 0..1000 {
         let Some((lines, places)) = joined_legs(rng, map, &mut search, legs, leg_length) else {
             continue;
@@ -363,8 +430,8 @@ pub fn reference_with_legs(
     None
 }
 
-/// Legs that are only readings, each from where the one before ends: the lines and the places
-/// of the points among them.
+/// Legs that are only readings, each from where the one before ends and by a turn that is not
+/// banned: the lines and the places of the points among them.
 fn joined_legs(
     rng: &mut Xorshift,
     map: &DepotMap,
@@ -376,12 +443,26 @@ fn joined_legs(
     let mut lines = Vec::new();
     let mut places = vec![0];
     while places.len() <= legs {
-        let leg = (0..20).find_map(|_| only_reading(rng, map, search, node, leg_length))?;
+        let last: Option<u32> = lines.last().copied();
+        let joins = |leg: &Vec<u32>| {
+            let banned = last.is_some_and(|last| map.is_banned(last, leg[0]));
+            !banned
+                && !leg
+                    .last()
+                    .is_some_and(|&line| has_every_turn_banned(map, line))
+        };
+        let mut legs = (0..20).filter_map(|_| only_reading(rng, map, search, node, leg_length));
+        let leg = legs.find(joins)?;
         node = map.line(*leg.last()?).end;
         lines.extend_from_slice(&leg);
         places.push(lines.len());
     }
     Some((lines, places))
+}
+
+fn has_every_turn_banned(map: &DepotMap, line: u32) -> bool {
+    let mut leaving = map.lines_from(map.line(line).end);
+    leaving.len() > 0 && leaving.all(|next| map.is_banned(line, next))
 }
 
 /// A least way of about the wanted length from the node, if it is the only reading of its leg.
@@ -392,12 +473,12 @@ fn only_reading(
     node: u32,
     leg_length: u32,
 ) -> Option<Vec<u32>> {
-    let leaving = map.outgoing.of(node);
+    let leaving: Vec<u32> = map.lines_from(node).collect();
     if leaving.is_empty() {
         return None;
     }
     let bounds = Bounds {
-        first: *rng.pick(leaving),
+        first: *rng.pick(&leaving),
         class: 7,
         limit: leg_length,
     };

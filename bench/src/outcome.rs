@@ -1,4 +1,4 @@
-//! What a call answers: its result, or a refusal with the number of the scope paper's table.
+//! What a call answers: its result, or a refusal with its number in the papers.
 
 use std::fmt;
 
@@ -25,6 +25,9 @@ pub enum Refusal {
     LegWithSeveralReadings(u32),
     OffsetByte,
     LineRoom,
+    BannedInStretch,
+    BannedWhereLegsMeet,
+    NoSuchTurn,
 }
 
 pub type Outcome<T> = Result<T, Refusal>;
@@ -45,7 +48,7 @@ pub struct Reading {
 }
 
 /// "Every call": the least work area, in numbers of 32 bits.
-pub const WORK_AREA: usize = 12_288;
+pub const WORK_AREA: usize = 14_336;
 
 pub fn check_work_area(work_length: usize) -> Outcome<()> {
     if work_length < WORK_AREA {
@@ -77,6 +80,9 @@ impl Refusal {
             Refusal::LegWithSeveralReadings(_) => 18,
             Refusal::OffsetByte => 19,
             Refusal::LineRoom => 20,
+            Refusal::BannedInStretch => 21,
+            Refusal::BannedWhereLegsMeet => 22,
+            Refusal::NoSuchTurn => 23,
         }
     }
 

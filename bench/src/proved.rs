@@ -96,8 +96,8 @@ pub fn read(
     }
 }
 
-/// Writes a stretch with no offsets into the byte buffer. The answer is the count of bytes, 16 or
-/// more, or the number of the refusal, 11 or less.
+/// Writes a stretch with no offsets into the byte buffer. The answer is the count of bytes, or the
+/// number of the refusal.
 pub fn write(
     map_bytes: &[u8],
     stretch: &[u32],

@@ -9,7 +9,7 @@ use crate::legs::{verdict, Leg, LegEnd, Verdict};
 use crate::outcome::{check_work_area, Outcome, Reading, Refusal, Span};
 use crate::search::{Method, Search};
 
-/// Reads a reference: refusals 1 to 6 and 12 to 20.
+/// Reads a reference: refusals 1 to 6, 23, and 12 to 20 with 22 between 18 and 19.
 pub fn read(
     map_bytes: &[u8],
     reference: &[u8],
@@ -21,13 +21,14 @@ pub fn read(
     read_on_map(&map, reference, line_room)
 }
 
-/// Reads a reference on a map that is read already: refusals 12 to 20.
+/// Reads a reference on a map that is read already: refusals 12 to 20 and 22.
 pub fn read_on_map(map: &DepotMap, reference: &[u8], line_room: usize) -> Outcome<Reading> {
     let reference = Reference::new(reference)?;
     let nodes = reference.nodes(map)?;
-    let mut search = Search::new(map, Method::Heap);
+    let mut search = Search::new(map, Method::NodeAndLineHeap);
     let mut lines = Vec::new();
     let mut lengths = LegLengths::default();
+    let mut banned_where_legs_meet = false;
     for (number, ends) in nodes.windows(2).enumerate() {
         let leg = reference.leg(number, ends[0], ends[1]);
         let before = lines.len();
@@ -36,8 +37,14 @@ pub fn read_on_map(map: &DepotMap, reference: &[u8], line_room: usize) -> Outcom
             Verdict::Several => return Err(Refusal::LegWithSeveralReadings(number as u32)),
             Verdict::One => {}
         }
+        if let [.., last] = lines[..before] {
+            banned_where_legs_meet |= map.is_banned(last, lines[before]);
+        }
         let leg_lines = lines[before..].iter();
         lengths.add(leg_lines.map(|&line| map.line(line).length).sum());
+    }
+    if banned_where_legs_meet {
+        return Err(Refusal::BannedWhereLegsMeet);
     }
     let (positive, negative) = reference.spans(lengths)?;
     if lines.len() > line_room {

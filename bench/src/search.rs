@@ -1,29 +1,38 @@
 //! The least-length search over lines: from a first line, under a class and a limit on length.
 //!
-//! A way is a list of lines, each ending where the next starts; its length counts all of them,
-//! the first and the last too. For each line that some way within the limit ends with, the search
-//! gives the least length of such a way, and the line before the last one if that way is the only
-//! one of least length. All methods give the same answers.
+//! A way is a list of lines, each ending where the next starts and none banned after the one before
+//! it; its length counts all of them, the first and the last too. For each line that some way
+//! within the limit ends with, the search gives the least length of such a way, and the line before
+//! the last one if that way is the only one of least length. All methods give the same answers.
 
 use std::cmp::Reverse;
 use std::collections::{BinaryHeap, VecDeque};
 
-use crate::depot_map::DepotMap;
+use crate::depot_map::{DepotMap, Leaving};
+use crate::fields::LONGEST_LEG;
+
+/// Of a map.
+const MOST_NODES: usize = 512;
+const MOST_LINES: usize = 1024;
 
 const NOT_REACHED: u32 = u32::MAX;
+const NO_LINE: u32 = u32::MAX;
+
+/// With a line's length added to one below it, a number still has 32 bits.
+const HIGHEST_BASE: u32 = NOT_REACHED - LONGEST_LEG;
+
+/// In a key of the heap the numbers from here on are nodes, so that of equal lengths lines come first.
+const FIRST_NODE: u32 = MOST_LINES as u32;
 
 #[derive(Clone, Copy, Debug, PartialEq, Eq)]
 pub enum Method {
-    /// First in, first out; a line's length may be corrected. Ties are counted afterwards. Only the
-    /// lines with the least length to their end node go on.
-    Queue,
-    /// The same, where every line goes on: it does not use that every line that leaves a node can
-    /// follow every line that arrives there.
+    /// First in, first out; a line's length may be corrected. Ties are counted afterwards.
     LineQueue,
-    /// Dijkstra's over nodes, with ties on the way.
-    Heap,
-    /// Dijkstra's over lines, with ties on the way: it does not use that either.
+    /// Dijkstra's over lines, with ties on the way.
     LineHeap,
+    /// Dijkstra's over lines with bans of their own, and over nodes for all other lines that arrive
+    /// there: of those only the nearest goes on.
+    NodeAndLineHeap,
 }
 
 /// What stands before a line on the least way to it.
@@ -37,18 +46,46 @@ pub enum Before {
     Several,
 }
 
+/// As a search keeps it: the number of a line, or one of these two.
+const FIRST: u32 = u32::MAX;
+const SEVERAL: u32 = u32::MAX - 1;
+
 /// The answers of the last search, and buffers that are used again by the next.
+///
+/// A length stands there with `base` added. The next search has a base so much lower that all
+/// lengths of this one are over its limit, as if nothing were reached: few searches have to reset.
 pub struct Search {
     method: Method,
-    least: Vec<u32>,
-    before: Vec<Before>,
+    base: u32,
+    /// The limit of the last search, with the base added.
+    top: u32,
+    /// The least length of the ways that end with a line.
+    least: Box<[u32; MOST_LINES]>,
+    before: Box<[u32; MOST_LINES]>,
+    /// The line that a line was last found banned after.
+    banned_after: Box<[u32; MOST_LINES]>,
     queue: VecDeque<u32>,
     waiting: Vec<bool>,
     reached: Vec<u32>,
     several: Vec<u32>,
     heap: BinaryHeap<Reverse<u64>>,
-    least_to_node: Vec<u32>,
-    arrival: Vec<Before>,
+    /// The least length with which a node is left by every line that can be reached there, as far as
+    /// is known. Nothing longer that arrives has anything to do.
+    closed_at: Box<[u32; MOST_NODES]>,
+    /// What that way arrives by, if it is one of a line without bans.
+    arrival: Box<[u32; MOST_NODES]>,
+    /// The length with which a line with bans left the node first, and that line.
+    opened_at: Box<[u32; MOST_NODES]>,
+    opened_by: Box<[u32; MOST_NODES]>,
+}
+
+/// A line with bans that arrived at a node, or the nearest without, by its number in the heap.
+#[derive(Clone, Copy)]
+struct Arrived {
+    number: u32,
+    length: u32,
+    /// What stands before the lines that it goes on to.
+    before: u32,
 }
 
 /// Under this class (FRC at most) and up to this length, from this line on.
@@ -64,46 +101,65 @@ impl Search {
         let count = map.lines.len();
         Search {
             method,
-            least: vec![NOT_REACHED; count],
-            before: vec![Before::First; count],
+            base: HIGHEST_BASE,
+            top: 0,
+            least: Box::new([NOT_REACHED; MOST_LINES]),
+            before: Box::new([FIRST; MOST_LINES]),
+            banned_after: Box::new([NO_LINE; MOST_LINES]),
             queue: VecDeque::new(),
             waiting: vec![false; count],
             reached: Vec::with_capacity(count),
             several: Vec::new(),
             heap: BinaryHeap::with_capacity(count),
-            least_to_node: vec![NOT_REACHED; map.nodes.len()],
-            arrival: vec![Before::First; map.nodes.len()],
+            closed_at: Box::new([NOT_REACHED; MOST_NODES]),
+            arrival: Box::new([FIRST; MOST_NODES]),
+            opened_at: Box::new([NOT_REACHED; MOST_NODES]),
+            opened_by: Box::new([NO_LINE; MOST_NODES]),
         }
     }
 
     /// Searches the map that the buffers were made for.
     pub fn run(&mut self, map: &DepotMap, bounds: Bounds) {
-        self.least.fill(NOT_REACHED);
-        self.least_to_node.fill(NOT_REACHED);
+        self.lower_base(bounds.limit);
         let first = map.line(bounds.first);
         if first.frc > bounds.class || first.length > bounds.limit {
             return;
         }
-        self.least[bounds.first as usize] = first.length;
-        self.before[bounds.first as usize] = Before::First;
+        self.least[bounds.first as usize] = self.base + first.length;
+        self.before[bounds.first as usize] = FIRST;
         match self.method {
-            Method::Queue | Method::LineQueue => self.run_queue(map, bounds),
-            Method::Heap => self.run_heap(map, bounds),
+            Method::LineQueue => self.run_line_queue(map, bounds),
             Method::LineHeap => self.run_line_heap(map, bounds),
+            Method::NodeAndLineHeap => self.run_node_and_line_heap(map, bounds),
         }
+    }
+
+    fn lower_base(&mut self, limit: u32) {
+        if self.base <= limit {
+            self.base = HIGHEST_BASE;
+            self.least.fill(NOT_REACHED);
+            self.closed_at.fill(NOT_REACHED);
+            self.opened_at.fill(NOT_REACHED);
+        }
+        self.base -= limit + 1;
+        self.top = self.base + limit;
     }
 
     /// The least length of the ways that end with this line.
     #[inline]
     pub fn least(&self, line: u32) -> Option<u32> {
         let least = self.least[line as usize];
-        (least != NOT_REACHED).then_some(least)
+        (least <= self.top).then(|| least - self.base)
     }
 
     /// Asked of a reached line only.
     #[inline]
     pub fn before(&self, line: u32) -> Before {
-        self.before[line as usize]
+        match self.before[line as usize] {
+            FIRST => Before::First,
+            SEVERAL => Before::Several,
+            before => Before::Line(before),
+        }
     }
 
     /// Puts the only least way that ends with this line behind the list.
@@ -118,75 +174,84 @@ impl Search {
         list[start..].reverse();
     }
 
-    /// Only a line that arrives at its end node with less than any line before it can shorten the
-    /// ways that go on from there, so that by nodes no other waits.
-    fn run_queue(&mut self, map: &DepotMap, bounds: Bounds) {
-        let first = map.line(bounds.first);
+    /// Marks the lines that may not follow this one, until the next is marked. Gives whether there
+    /// are any.
+    #[inline]
+    fn mark_banned(&mut self, map: &DepotMap, line: u32) -> bool {
+        let banned = map.banned_after(line);
+        for &next in banned {
+            self.banned_after[next as usize] = line;
+        }
+        !banned.is_empty()
+    }
+
+    /// What stands before the lines that this one goes on to.
+    #[inline]
+    fn before_next(&self, line: u32) -> u32 {
+        match self.before[line as usize] {
+            SEVERAL => SEVERAL,
+            _ => line,
+        }
+    }
+
+    fn run_line_queue(&mut self, map: &DepotMap, bounds: Bounds) {
         self.reached.clear();
         self.reached.push(bounds.first);
-        self.least_to_node[first.end as usize] = first.length;
         self.queue.push_back(bounds.first);
         while let Some(line) = self.queue.pop_front() {
             self.waiting[line as usize] = false;
-            if self.goes_on(map, line) {
-                self.shorten_next(map, bounds, line);
-            }
+            self.shorten_next(map, bounds, line);
         }
         self.count_ties(map);
     }
 
     #[inline]
-    fn goes_on(&self, map: &DepotMap, line: u32) -> bool {
-        self.method == Method::LineQueue
-            || self.least[line as usize] == self.least_to_node[map.line(line).end as usize]
-    }
-
-    #[inline]
     fn shorten_next(&mut self, map: &DepotMap, bounds: Bounds, line: u32) {
         let length = self.least[line as usize];
-        for &next in map.outgoing.of(map.line(line).end) {
-            let next_line = map.line(next);
-            let total = length + next_line.length;
-            let least = &mut self.least[next as usize];
-            if total >= *least || total > bounds.limit || next_line.frc > bounds.class {
+        let has_bans = self.mark_banned(map, line);
+        for next in map.outgoing.of(map.line(line).end) {
+            let total = length + next.length();
+            let number = next.line() as usize;
+            let least = &mut self.least[number];
+            if total >= *least || total > self.top || next.frc() > bounds.class {
                 continue;
             }
-            if *least == NOT_REACHED {
-                self.reached.push(next);
-                self.before[next as usize] = Before::First;
+            if has_bans && self.banned_after[number] == line {
+                continue;
+            }
+            if *least > self.top {
+                self.reached.push(number as u32);
+                self.before[number] = FIRST;
             }
             *least = total;
-            let least_to_node = &mut self.least_to_node[next_line.end as usize];
-            if total < *least_to_node || self.method == Method::LineQueue {
-                *least_to_node = total;
-                if !std::mem::replace(&mut self.waiting[next as usize], true) {
-                    self.queue.push_back(next);
-                }
+            if !std::mem::replace(&mut self.waiting[number], true) {
+                self.queue.push_back(number as u32);
             }
         }
     }
 
     /// A line has several least ways if two lines may stand before it, or one with several itself.
-    /// `First` stands for "none found yet"; only the first line keeps it.
+    /// `FIRST` stands for "none found yet"; only the first line keeps it.
     fn count_ties(&mut self, map: &DepotMap) {
         self.several.clear();
-        for &line in &self.reached {
-            if !self.goes_on(map, line) {
-                continue;
-            }
+        for at in 0..self.reached.len() {
+            let line = self.reached[at];
             let length = self.least[line as usize];
-            for &next in map.outgoing.of(map.line(line).end) {
-                if self.least[next as usize] != length + map.line(next).length {
+            let has_bans = self.mark_banned(map, line);
+            for next in map.outgoing.of(map.line(line).end) {
+                let number = next.line() as usize;
+                let tight = self.least[number] == length + next.length();
+                if !tight || has_bans && self.banned_after[number] == line {
                     continue;
                 }
-                let before = &mut self.before[next as usize];
+                let before = &mut self.before[number];
                 match *before {
-                    Before::First => *before = Before::Line(line),
-                    Before::Line(_) => {
-                        *before = Before::Several;
-                        self.several.push(next);
+                    FIRST => *before = line,
+                    SEVERAL => {}
+                    _ => {
+                        *before = SEVERAL;
+                        self.several.push(number as u32);
                     }
-                    Before::Several => {}
                 }
             }
         }
@@ -196,72 +261,23 @@ impl Search {
     fn spread_ties(&mut self, map: &DepotMap) {
         while let Some(line) = self.several.pop() {
             let length = self.least[line as usize];
-            for &next in map.outgoing.of(map.line(line).end) {
-                let tight = self.least[next as usize] == length + map.line(next).length;
-                if tight && self.before[next as usize] != Before::Several {
-                    self.before[next as usize] = Before::Several;
-                    self.several.push(next);
+            let has_bans = self.mark_banned(map, line);
+            for next in map.outgoing.of(map.line(line).end) {
+                let number = next.line() as usize;
+                let tight = self.least[number] == length + next.length();
+                let banned = has_bans && self.banned_after[number] == line;
+                if tight && !banned && self.before[number] != SEVERAL {
+                    self.before[number] = SEVERAL;
+                    self.several.push(number as u32);
                 }
             }
-        }
-    }
-
-    /// Nodes leave the heap by the least length to them, and with a node the least length of every
-    /// line that leaves it is known. Lengths are at least 1, so that by then every line that
-    /// arrives with that length has been seen, and a second one has left its mark.
-    fn run_heap(&mut self, map: &DepotMap, bounds: Bounds) {
-        let first = map.line(bounds.first);
-        self.arrive(first.end, first.length, Before::Line(bounds.first));
-        while let Some(Reverse(key)) = self.heap.pop() {
-            let (length, node) = ((key >> 32) as u32, key as u32);
-            if length == self.least_to_node[node as usize] {
-                self.leave_node(map, bounds, node);
-            }
-        }
-    }
-
-    /// A way of this length arrives at the node; what it arrives by would stand before the next line.
-    #[inline]
-    fn arrive(&mut self, node: u32, length: u32, by: Before) {
-        let least = &mut self.least_to_node[node as usize];
-        if length < *least {
-            *least = length;
-            self.arrival[node as usize] = by;
-            let key = u64::from(length) << 32 | u64::from(node);
-            self.heap.push(Reverse(key));
-        } else if length == *least {
-            self.arrival[node as usize] = Before::Several;
-        }
-    }
-
-    /// The first line keeps its own length: a way that comes back to it is longer.
-    #[inline]
-    fn leave_node(&mut self, map: &DepotMap, bounds: Bounds, node: u32) {
-        let length = self.least_to_node[node as usize];
-        let before = self.arrival[node as usize];
-        for &next in map.outgoing.of(node) {
-            let next_line = map.line(next);
-            let total = length + next_line.length;
-            if total > bounds.limit || next_line.frc > bounds.class || next == bounds.first {
-                continue;
-            }
-            self.least[next as usize] = total;
-            self.before[next as usize] = before;
-            let by = match before {
-                Before::Several => Before::Several,
-                _ => Before::Line(next),
-            };
-            self.arrive(next_line.end, total, by);
         }
     }
 
     /// Lines leave the heap by the least length to them. Lengths are at least 1, so that by then
     /// every line before them that ties has left it.
     fn run_line_heap(&mut self, map: &DepotMap, bounds: Bounds) {
-        let first = map.line(bounds.first);
-        self.heap.push(Reverse(
-            u64::from(first.length) << 32 | u64::from(bounds.first),
-        ));
+        self.push(self.least[bounds.first as usize], bounds.first);
         while let Some(Reverse(key)) = self.heap.pop() {
             let (length, line) = ((key >> 32) as u32, key as u32);
             if length == self.least[line as usize] {
@@ -271,27 +287,174 @@ impl Search {
     }
 
     #[inline]
+    fn push(&mut self, length: u32, number: u32) {
+        let key = u64::from(length) << 32 | u64::from(number);
+        self.heap.push(Reverse(key));
+    }
+
+    #[inline]
     fn leave_line(&mut self, map: &DepotMap, bounds: Bounds, line: u32) {
         let length = self.least[line as usize];
-        let by = match self.before[line as usize] {
-            Before::Several => Before::Several,
-            _ => Before::Line(line),
-        };
-        for &next in map.outgoing.of(map.line(line).end) {
-            let next_line = map.line(next);
-            let total = length + next_line.length;
-            let least = &mut self.least[next as usize];
-            if total > *least || total > bounds.limit || next_line.frc > bounds.class {
+        let before = self.before_next(line);
+        let has_bans = self.mark_banned(map, line);
+        for next in map.outgoing.of(map.line(line).end) {
+            let total = length + next.length();
+            let number = next.line() as usize;
+            let least = &mut self.least[number];
+            if total > *least || total > self.top || next.frc() > bounds.class {
+                continue;
+            }
+            if has_bans && self.banned_after[number] == line {
                 continue;
             }
             if total == *least {
-                self.before[next as usize] = Before::Several;
+                self.before[number] = SEVERAL;
                 continue;
             }
             *least = total;
-            self.before[next as usize] = by;
-            let key = u64::from(total) << 32 | u64::from(next);
-            self.heap.push(Reverse(key));
+            self.before[number] = before;
+            self.push(total, number as u32);
         }
+    }
+
+    /// What arrives at a node goes on in the order of its length, lines with bans of their own
+    /// before others of the same length. So the first that may goes on to a line with the least
+    /// length to it, and others only mark ties. Lengths are at least 1, so that by then all that
+    /// arrive with that length are known, and so are the ties of each.
+    fn run_node_and_line_heap(&mut self, map: &DepotMap, bounds: Bounds) {
+        self.arrive(map.leaving(bounds.first), self.least[bounds.first as usize]);
+        while let Some(Reverse(key)) = self.heap.pop() {
+            let (length, number) = ((key >> 32) as u32, key as u32);
+            if number >= FIRST_NODE {
+                if length == self.closed_at[(number - FIRST_NODE) as usize] {
+                    self.leave_node(map, bounds, number - FIRST_NODE, length);
+                }
+            } else if length <= self.closed_at[map.line(number).end as usize] {
+                self.leave_by_line(map, bounds, number, length);
+            }
+        }
+    }
+
+    /// A line arrives at its end node, by ways of this least length.
+    #[inline(always)]
+    fn arrive(&mut self, line: Leaving, length: u32) {
+        let node = line.end() as usize;
+        let closed_at = &mut self.closed_at[node];
+        if length > *closed_at {
+            return;
+        }
+        if line.has_bans() {
+            self.push(length, line.line());
+        } else if length < *closed_at {
+            *closed_at = length;
+            self.arrival[node] = line.line();
+            self.push(length, FIRST_NODE + line.end());
+        } else {
+            self.arrival[node] = SEVERAL;
+        }
+    }
+
+    /// What arrived without bans of its own goes on to every line that leaves the node. If none did
+    /// before it, none of them is reached yet but the first line, which keeps its own length: a way
+    /// that comes back to it is longer.
+    #[inline]
+    fn leave_node(&mut self, map: &DepotMap, bounds: Bounds, node: u32, length: u32) {
+        let before = match self.arrival[node as usize] {
+            SEVERAL => SEVERAL,
+            line => self.before_next(line),
+        };
+        if self.opened_at[node as usize] <= length {
+            return self.leave_open_node(map, bounds, node, length, before);
+        }
+        for &next in map.outgoing.of(node) {
+            let total = length + next.length();
+            if total > self.top || next.frc() > bounds.class || next.line() == bounds.first {
+                continue;
+            }
+            self.least[next.line() as usize] = total;
+            self.before[next.line() as usize] = before;
+            self.arrive(next, total);
+        }
+    }
+
+    /// The same where a line with bans has gone on before.
+    #[inline(never)]
+    fn leave_open_node(
+        &mut self,
+        map: &DepotMap,
+        bounds: Bounds,
+        node: u32,
+        length: u32,
+        before: u32,
+    ) {
+        let arrived = Arrived {
+            number: FIRST_NODE + node,
+            length,
+            before,
+        };
+        self.go_on(map, bounds, node, arrived);
+    }
+
+    /// A line with bans of its own goes on. If every line that can be reached then is, the node is
+    /// closed.
+    #[inline(never)]
+    fn leave_by_line(&mut self, map: &DepotMap, bounds: Bounds, line: u32, length: u32) {
+        let node = map.line(line).end;
+        self.mark_banned(map, line);
+        let arrived = Arrived {
+            number: line,
+            length,
+            before: self.before_next(line),
+        };
+        let stays_open = self.go_on(map, bounds, node, arrived);
+        if self.opened_at[node as usize] > length {
+            self.opened_at[node as usize] = length;
+            self.opened_by[node as usize] = line;
+        }
+        if !stays_open {
+            self.closed_at[node as usize] = length;
+        }
+    }
+
+    /// Goes on to the lines that leave the node; after a shorter line with bans only to those banned
+    /// after it, since it went on to the others. Gives whether one is not reached yet.
+    #[inline]
+    fn go_on(&mut self, map: &DepotMap, bounds: Bounds, node: u32, arrived: Arrived) -> bool {
+        if self.opened_at[node as usize] < arrived.length {
+            let banned = map.banned_after(self.opened_by[node as usize]).iter();
+            self.go_on_to(bounds, arrived, banned.map(|&next| map.leaving(next)))
+        } else {
+            self.go_on_to(bounds, arrived, map.outgoing.of(node).iter().copied())
+        }
+    }
+
+    /// A line that stands twice in the list is met twice with the same line before it, which is no
+    /// tie.
+    #[inline]
+    fn go_on_to(
+        &mut self,
+        bounds: Bounds,
+        arrived: Arrived,
+        lines: impl Iterator<Item = Leaving>,
+    ) -> bool {
+        let mut stays_open = false;
+        for next in lines {
+            let total = arrived.length + next.length();
+            if total > self.top || next.frc() > bounds.class {
+                continue;
+            }
+            let number = next.line() as usize;
+            let least = &mut self.least[number];
+            if self.banned_after[number] == arrived.number {
+                stays_open |= *least > self.top;
+            } else if total < *least {
+                *least = total;
+                self.before[number] = arrived.before;
+                self.arrive(next, total);
+            } else if total == *least && self.before[number] != arrived.before {
+                self.before[number] = SEVERAL;
+            }
+        }
+        stays_open
     }
 }

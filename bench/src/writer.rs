@@ -11,7 +11,7 @@ use crate::search::{Before, Bounds, Method, Search};
 
 pub const MOST_LINES: usize = 64;
 
-/// Writes a stretch: refusals 1 to 11.
+/// Writes a stretch: refusals 1 to 6, 23, and 7 to 11 with 21 between 8 and 9.
 pub fn write(
     map_bytes: &[u8],
     stretch: &[u32],
@@ -25,7 +25,7 @@ pub fn write(
     write_on_map(&map, stretch, pos, neg, byte_room)
 }
 
-/// Writes a stretch of a map that is read already: refusals 7 to 11.
+/// Writes a stretch of a map that is read already: refusals 7 to 11 and 21.
 pub fn write_on_map(
     map: &DepotMap,
     stretch: &[u32],
@@ -68,7 +68,7 @@ pub struct Stretch<'a> {
 }
 
 impl<'a> Stretch<'a> {
-    /// Refusals 7 to 9 look at the stretch as given.
+    /// Refusals 7, 8, 21 and 9, in this order, look at the stretch as given.
     pub fn new(map: &DepotMap, lines: &'a [u32], pos: u32, neg: u32) -> Outcome<Stretch<'a>> {
         let no_such_line = |&line: &u32| line as usize >= map.lines.len();
         if lines.is_empty() || lines.len() > MOST_LINES || lines.iter().any(no_such_line) {
@@ -77,6 +77,10 @@ impl<'a> Stretch<'a> {
         let joined = |pair: &[u32]| map.line(pair[0]).end == map.line(pair[1]).start;
         if !lines.windows(2).all(joined) {
             return Err(Refusal::LinesNotJoined);
+        }
+        let banned = |pair: &[u32]| map.is_banned(pair[0], pair[1]);
+        if lines.windows(2).any(banned) {
+            return Err(Refusal::BannedInStretch);
         }
         let total: u64 = lines
             .iter()
@@ -90,11 +94,11 @@ impl<'a> Stretch<'a> {
             positive: pos,
             negative: neg,
         };
-        Ok(stretch.drop_skipped_lines(map))
+        Ok(stretch.without_skipped_lines(map))
     }
 
-    /// The offsets stay below the total, so that a line always remains.
-    fn drop_skipped_lines(mut self, map: &DepotMap) -> Stretch<'a> {
+    /// Where the offsets are below the total a line always remains.
+    pub fn without_skipped_lines(mut self, map: &DepotMap) -> Stretch<'a> {
         while let [first, rest @ ..] = self.lines {
             let length = map.line(*first).length;
             if self.positive < length {
@@ -210,7 +214,7 @@ impl<'a> LegTester<'a> {
         LegTester {
             map,
             lines: stretch.lines,
-            search: Search::new(map, Method::Heap),
+            search: Search::new(map, Method::NodeAndLineHeap),
             length_to,
             effort: Effort::default(),
         }
@@ -220,8 +224,8 @@ impl<'a> LegTester<'a> {
     /// with its own first line, and no other first line with the same marks has a reading.
     ///
     /// Legs with the same lowest class share their searches. A way that is not the only least one
-    /// to its last line stays so when it goes on, and also under a lower class: then all legs that
-    /// are longer are not good.
+    /// to its last line stays so when it goes on, since what may follow hangs on that line alone, and
+    /// also under a lower class: then all legs that are longer are not good.
     fn good_legs(&mut self, from: usize, to: Places) -> Places {
         let own = self.lines[from];
         let mut good = Places::NONE;
@@ -286,8 +290,8 @@ impl<'a> LegTester<'a> {
         self.search.run(self.map, bounds);
     }
 
-    /// The leg is itself among the ways that the search looks at. So it is the only least one to
-    /// its last line if there is only one and that has its length.
+    /// The leg is itself among the ways that the search looks at: no turn in it is banned. So it is
+    /// the only least one to its last line if there is only one and that has its length.
     fn is_only_least_way(&self, from: usize, to: usize) -> bool {
         let last = self.lines[to - 1];
         self.search.least(last) == Some(self.leg_length(from, to))

@@ -110,7 +110,12 @@ fn leg_answer(map: &DepotMap, numbers: &[u32]) -> Option<String> {
         },
     };
     let mut lines = Vec::new();
-    let name = match verdict(map, &mut Search::new(map, Method::Heap), &leg, &mut lines) {
+    let name = match verdict(
+        map,
+        &mut Search::new(map, Method::NodeAndLineHeap),
+        &leg,
+        &mut lines,
+    ) {
         Verdict::None => "none",
         Verdict::One => "one",
         Verdict::Several => "several",

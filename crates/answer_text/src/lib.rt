@@ -93,7 +93,7 @@ fn put_acceptance(
     put_number(b" ", negative.greatest as u64, buffer, other)
 }
 
-// Puts a refusal by its number in the table of paper 01, then the point or leg if it has one.
+// Puts a refusal by its number in the papers' tables, then the point or leg if it has one.
 fn put_refusal(why: Refusal, buffer: &mut [u8], at: usize) -> usize
     ensures { λ r. ⌜ Put at (refusal (refusalOf why)) (now (buffer .entry)) (now (buffer .exit)) r ⌝ }
 {

@@ -1,6 +1,8 @@
 -- Laws of the work area and of what the map's bytes are, for the functions' proofs and for the crates above.
+pub mod Bans
 pub mod Steps
 pub mod Parts
 pub mod Ended
 pub mod Whole
 pub mod Stages
+pub mod BanStages

@@ -1,62 +1,52 @@
 -- The stages of reading a map, each from the one after it. `S` is what the stage is defined to be.
-use Rattle.work_area.specs.Area.{linesFrom, codesFrom, codesTo}
+use Rattle.work_area.specs.Area.{linesFrom, codesFrom}
 use Rattle.model.specs.Map.{greatestLineCount, greatestNodeCount, Node, Line, MapAnswer, whole, refused, ended, readLine, decodeLines, decodeNodes, decode, clash}
 use Rattle.model.specs.Work.{workLength}
 use Prim.Native.Nat.{ℕ, suc, _+_, _-_, _≤_, _<_}
-use mathlib.Core.Path.{_≡_, sym, ap, ap₂, _∙_}
-use mathlib.Core.Bool.{false}
+use mathlib.Core.Path.{_≡_, refl, sym, ap, ap₂, subst, _∙_}
+use mathlib.Core.Bool.{Bool, true, false, _&&_}
 use mathlib.Core.List.{List, [], _∷_, _++_}
 use native.Mathlib.Omega.{arith}
-use lib.ListN.{length, drop}
+use lib.ListN.{length, drop, length-append}
 use Rattle.model.specs.declared.Refusal.{Refusal}
-use Rattle.model.specs.Refusal.{refusalOf}
+use Rattle.model.specs.Refusal.{Refused, refusalOf}
 use Rattle.buffers.specs.Kept.{Kept}
 use Rattle.work_area.specs.Held.{numbered, heldNode, heldNodes, heldLines}
-use Rattle.depot_map.specs.Step.{goOn, NodeRead, LineRead}
-use Rattle.depot_map.specs.Stage.{answered, Stage}
+use Rattle.depot_map.specs.Step.{faultOf, goOn, NodeRead, LineRead}
+use Rattle.depot_map.specs.declared.field.Fault.{Fault}
+use Rattle.depot_map.specs.Stage.{Answered, Stage}
 use Rattle.depot_map.specs.Answer.{MapIsRead}
 use Rattle.depot_map.specs.declared.field.Read.{Read}
 use Rattle.depot_map.specs.declared.MapRead.{MapRead}
 use Rattle.buffers.proofs.Kept.{kept-none, kept-then, kept-within, kept-over}
 use Rattle.work_area.proofs.Held.{listed-length, nodes-same, lines-same, nodes-more, lines-more}
 use Rattle.depot_map.proofs.Steps.{on, off}
-use Rattle.depot_map.proofs.Ended.{none-over}
 use Rattle.depot_map.proofs.Whole.{answers}
 use Rattle.depot_map.specs.declared.field.Read.the-variants as Read
 use Rattle.depot_map.specs.declared.MapRead.the-variants as MapRead
 
 -- ---- any stage
 
-pub stage-refused : {S : MapAnswer} {low : ℕ} {w v : List ℕ} {why : Refusal} → S ≡ refused (refusalOf why) → Kept low codesTo w v →
+pub stage-refused : {S : MapAnswer} {low : ℕ} {w v : List ℕ} {why : Refusal} → S ≡ refused (refusalOf why) → Kept low workLength w v →
     Stage S low w v (MapRead.Refused why)
-unfolding answered
+unfolding Answered
 stage-refused e kept = record { right = e; kept = kept }
 
-pub stage-then : {S T : MapAnswer} {low next : ℕ} {w v u : List ℕ} {r : MapRead} → S ≡ T → Kept low codesTo w v → low ≤ next →
+pub stage-faulty : {S : MapAnswer} {low : ℕ} {w v : List ℕ} {n : Refused} {told : Refusal} → refusalOf told ≡ n → S ≡ refused n →
+    Kept low workLength w v → Stage S low w v (MapRead.Refused told)
+stage-faulty same e kept = stage-refused (e ∙ ap refused (sym same)) kept
+
+pub stage-then : {S T : MapAnswer} {low next : ℕ} {w v u : List ℕ} {r : MapRead} → S ≡ T → Kept low workLength w v → low ≤ next →
     Stage T next v u r → Stage S low w u r
-stage-then e kept h s = record { right = e ∙ s .right; kept = kept-then kept (kept-within h (omega arith) (s .kept)) }
-
--- ---- the end of the bytes
-
-pub stage-whole : {w v : List ℕ} (bytes : List ℕ) (at nodes lines : ℕ) → nodes ≤ greatestNodeCount → lines ≤ greatestLineCount → length bytes ≤ at → Kept codesFrom codesTo w v →
-    false ≡ clash (heldNodes w nodes) →
-    Stage (ended (drop at bytes) (heldNodes w nodes) (heldLines w lines)) codesFrom w v (MapRead.Whole nodes lines)
-unfolding answered
-stage-whole {w} {v} bytes at nodes lines few-nodes few-lines h kept e =
-    record {
-      right =
-          none-over bytes at (heldNodes w nodes) (heldLines w lines) h false e
-          ∙ ap₂ (λ (n : List Node) (l : List Line). whole (record { nodes = n; lines = l })) (sym (nodes-same kept nodes (omega arith)))
-          (sym (lines-same kept lines (omega arith)));
-      kept = kept;
-    }
+stage-then {u = u} {r = r} e kept h s =
+    record { right = subst (Answered u r) (sym e) (s .right); kept = kept-then kept (kept-within h (omega arith) (s .kept)) }
 
 -- ---- the lines
 
 -- The first `i` lines are in the work area, which was `w` and is `v`, and the next one starts at byte `at`.
 pub record LinesRead (S : MapAnswer) (bytes : List ℕ) (at nodes count i : ℕ) (w v : List ℕ) : Type 0 where
   pub within : i ≤ count
-  pub kept : Kept linesFrom codesTo w v
+  pub kept : Kept linesFrom workLength w v
   pub left : S ≡ decodeLines (count - i) (drop at bytes) (heldNodes w nodes) (heldLines v i)
 
 pub lines-none : (bytes : List ℕ) (at nodes count : ℕ) (w : List ℕ) →
@@ -68,7 +58,7 @@ lines-none bytes at nodes count w =
 
 module _ {S : MapAnswer} {bytes : List ℕ} {at nodes count i : ℕ} {w v : List ℕ} (so-far : LinesRead S bytes at nodes count i w v) where
   module _ {u : List ℕ} {r : Read} (more : i < count) (few : count ≤ greatestLineCount) (one : LineRead bytes at (nodes - 1) i v u r) where
-    line-kept : Kept linesFrom codesTo w u
+    line-kept : Kept linesFrom workLength w u
     line-kept = kept-over (omega arith) (so-far .kept) (one .kept)
 
     line-turn : S ≡ goOn bytes (λ x bs. decodeLines (count - (i + 1)) bs (heldNodes w nodes) (heldLines u (i + 1))) r
@@ -84,24 +74,23 @@ module _ {S : MapAnswer} {bytes : List ℕ} {at nodes count i : ℕ} {w v : List
     pub lines-on : {x next : ℕ} → r ≡ Read.Got x next → LinesRead S bytes next nodes count (i + 1) w u
     lines-on e = record { within = omega arith; kept = line-kept; left = line-turn ∙ on bytes e _ }
 
-    pub lines-off : {why : Refusal} → r ≡ Read.Refused why → Stage S linesFrom w u (MapRead.Refused why)
-    lines-off e = stage-refused (line-turn ∙ off bytes e _) line-kept
+    pub lines-off : {why : Fault} {told : Refusal} → refusalOf told ≡ faultOf why → r ≡ Read.Refused why → Stage S linesFrom w u (MapRead.Refused told)
+    lines-off same e = stage-faulty same (line-turn ∙ off bytes e _) line-kept
 
   pub lines-end : {u : List ℕ} {r : MapRead} → count ≤ i → nodes ≤ greatestNodeCount →
-      Stage (ended (drop at bytes) (heldNodes v nodes) (heldLines v count)) codesFrom v u r → Stage S linesFrom w u r
-  unfolding decodeLines
+      Stage (decodeLines 0 (drop at bytes) (heldNodes v nodes) (heldLines v count)) codesFrom v u r → Stage S linesFrom w u r
   lines-end h few s =
       let none : count - i ≡ 0 = omega (arith, so-far .within) in
       let all : i ≡ count = omega (arith, so-far .within) in
       let same = nodes-same (so-far .kept) nodes (omega arith) in
-      stage-then (rw all at (rw none at (so-far .left)) ∙ ap (λ (n : List Node). ended (drop at bytes) n (heldLines v count)) (sym same)) (so-far .kept)
+      stage-then (rw all at (rw none at (so-far .left)) ∙ ap (λ (n : List Node). decodeLines 0 (drop at bytes) n (heldLines v count)) (sym same)) (so-far .kept)
       (omega arith) s
 
 -- ---- the nodes
 
 pub record NodesRead (S : MapAnswer) (bytes : List ℕ) (at count i : ℕ) (w v : List ℕ) : Type 0 where
   pub within : i ≤ count
-  pub kept : Kept 0 codesTo w v
+  pub kept : Kept 0 workLength w v
   pub left : S ≡ decodeNodes (count - i) (drop at bytes) (heldNodes v i)
 
 pub nodes-none : (bytes : List ℕ) (at count : ℕ) (w : List ℕ) → NodesRead (decodeNodes count (drop at bytes) []) bytes at count 0 w w
@@ -112,7 +101,7 @@ nodes-none bytes at count w =
 
 module _ {S : MapAnswer} {bytes : List ℕ} {at count i : ℕ} {w v : List ℕ} (so-far : NodesRead S bytes at count i w v) where
   module _ {u : List ℕ} {r : Read} (more : i < count) (few : count ≤ greatestNodeCount) (one : NodeRead bytes at i v u r) where
-    node-kept : Kept 0 codesTo w u
+    node-kept : Kept 0 workLength w u
     node-kept = kept-over (omega arith) (so-far .kept) (one .kept)
 
     node-turn : S ≡ goOn bytes (λ x bs. decodeNodes (count - (i + 1)) bs (heldNodes u (i + 1))) r
@@ -125,8 +114,8 @@ module _ {S : MapAnswer} {bytes : List ℕ} {at count i : ℕ} {w v : List ℕ} 
     pub nodes-on : {x next : ℕ} → r ≡ Read.Got x next → NodesRead S bytes next count (i + 1) w u
     nodes-on e = record { within = omega arith; kept = node-kept; left = node-turn ∙ on bytes e _ }
 
-    pub nodes-off : {why : Refusal} → r ≡ Read.Refused why → Stage S 0 w u (MapRead.Refused why)
-    nodes-off e = stage-refused (node-turn ∙ off bytes e _) node-kept
+    pub nodes-off : {why : Fault} {told : Refusal} → refusalOf told ≡ faultOf why → r ≡ Read.Refused why → Stage S 0 w u (MapRead.Refused told)
+    nodes-off same e = stage-faulty same (node-turn ∙ off bytes e _) node-kept
 
   pub nodes-end : {u : List ℕ} {r : MapRead} → count ≤ i →
       Stage (decodeNodes 0 (drop at bytes) (heldNodes v count)) linesFrom v u r → Stage S 0 w u r

@@ -4,11 +4,11 @@ use mathlib.Core.Path.{_≡_, refl, sym, ap, _∙_}
 use mathlib.Core.List.{List}
 use lib.ListN.{drop}
 use borrow.Author.Tests.{le-leb, lt-leb}
-use Rattle.model.specs.declared.Refusal.{Refusal}
-use Rattle.model.specs.Refusal.{Refused, row, refusalOf}
+use Rattle.model.specs.Refusal.{Refused, row}
 use Rattle.model.specs.Number.{got, faulty, number}
 use Rattle.model.specs.Map.{MapAnswer, refused, field}
-use Rattle.depot_map.specs.Step.{goOn, FieldRead, StepRead}
+use Rattle.depot_map.specs.Step.{faultOf, goOn, FieldRead, StepRead}
+use Rattle.depot_map.specs.declared.field.Fault.{Fault}
 use Rattle.depot_map.specs.declared.field.Read.{Read}
 use Rattle.buffers.proofs.Kept.{kept-none}
 use Rattle.buffers.specs.Kept.{Kept}
@@ -38,19 +38,19 @@ pub on : (bytes : List ℕ) {r : Read} {x next : ℕ} → r ≡ Read.Got x next 
 unfolding goOn
 on bytes e rest = ap (goOn bytes rest) e
 
-pub off : (bytes : List ℕ) {r : Read} {why : Refusal} → r ≡ Read.Refused why → (rest : ℕ → List ℕ → MapAnswer) →
-    goOn bytes rest r ≡ refused (refusalOf why)
+pub off : (bytes : List ℕ) {r : Read} {why : Fault} → r ≡ Read.Refused why → (rest : ℕ → List ℕ → MapAnswer) →
+    goOn bytes rest r ≡ refused (faultOf why)
 unfolding goOn
 off bytes e rest = ap (goOn bytes rest) e
 
 -- The answer of the code's `field`, taken apart.
-module _ {bytes : List ℕ} {from low high : ℕ} {why : Refusal} {r : Read} (f : FieldRead bytes from low high why r) where
+module _ {bytes : List ℕ} {from low high : ℕ} {why : Fault} {r : Read} (f : FieldRead bytes from low high why r) where
   pub field-on : {x next : ℕ} → r ≡ Read.Got x next → (rest : ℕ → List ℕ → MapAnswer) →
-      field (drop from bytes) low high (refusalOf why) rest ≡ rest x (drop next bytes)
+      field (drop from bytes) low high (faultOf why) rest ≡ rest x (drop next bytes)
   field-on e rest = f .goes rest ∙ on bytes e rest
 
-  pub field-off : {other : Refusal} → r ≡ Read.Refused other → (rest : ℕ → List ℕ → MapAnswer) →
-      field (drop from bytes) low high (refusalOf why) rest ≡ refused (refusalOf other)
+  pub field-off : {other : Fault} → r ≡ Read.Refused other → (rest : ℕ → List ℕ → MapAnswer) →
+      field (drop from bytes) low high (faultOf why) rest ≡ refused (faultOf other)
   field-off e rest = f .goes rest ∙ off bytes e rest
 
   pub field-range : {x next : ℕ} → r ≡ Read.Got x next → (low ≤ x) × (x ≤ high)
@@ -58,8 +58,8 @@ module _ {bytes : List ℕ} {from low high : ℕ} {why : Refusal} {r : Read} (f 
 
 -- A refused number is handed on; after the last number the step is done.
 module _ {A : Type 0} {step : (A → List ℕ → MapAnswer) → MapAnswer} {held : A} {low high : ℕ} {w : List ℕ} (bytes : List ℕ) where
-  pub step-refused : {r : Read} {why : Refusal} → r ≡ Read.Refused why →
-      ((rest : A → List ℕ → MapAnswer) → step rest ≡ refused (refusalOf why)) → StepRead step bytes held low high w w r
+  pub step-refused : {r : Read} {why : Fault} → r ≡ Read.Refused why →
+      ((rest : A → List ℕ → MapAnswer) → step rest ≡ refused (faultOf why)) → StepRead step bytes held low high w w r
   step-refused e goes = record { goes = λ rest. goes rest ∙ sym (off bytes e _); kept = kept-none }
 
   pub step-read : {v : List ℕ} {x next : ℕ} (thing : A) → ((rest : A → List ℕ → MapAnswer) → step rest ≡ rest thing (drop next bytes)) →

@@ -1,6 +1,6 @@
 -- The map that was read is held by the work area, and so what `read_map` answers is right.
-use Rattle.work_area.specs.Area.{nodeSize, nodePlace, lineSize, linePlace, nodeNumbers, lineNumbers, Holds}
-use Rattle.model.specs.Map.{Node, Line, Map, whole, refused, decode}
+use Rattle.work_area.specs.Area.{nodeSize, nodePlace, lineSize, linePlace, nodeNumbers, lineNumbers, BansHeld, Holds}
+use Rattle.model.specs.Map.{Node, Line, Turn, Map, whole, refused, decode}
 use Rattle.model.specs.Work.{workLength}
 use Prim.Native.Nat.{ℕ, zero, suc, _+_, _≤_, _<_}
 use mathlib.Core.Path.{_≡_, refl, sym, ap, subst, _∙_}
@@ -13,7 +13,7 @@ use Rattle.model.specs.declared.Refusal.{Refusal}
 use Rattle.model.specs.Lines.{nodeAt, lineAt}
 use Rattle.model.proofs.Decoded.{well-formed}
 use Rattle.work_area.specs.Held.{heldNode, lineFrom, heldLine, heldNodes, heldLines}
-use Rattle.depot_map.specs.Stage.{answered}
+use Rattle.depot_map.specs.Stage.{Answered}
 use Rattle.depot_map.specs.Answer.{WholeMap, MapAnswers, MapIsRead}
 use Rattle.depot_map.specs.declared.MapRead.{MapRead}
 use Rattle.depot_map.specs.declared.MapRead.the-variants.{Whole, Refused}
@@ -36,9 +36,9 @@ line-number w at (suc (suc (suc (suc (suc zero))))) l = refl
 line-number w at (suc (suc (suc (suc (suc (suc zero)))))) l = refl
 line-number w at (suc (suc (suc (suc (suc (suc (suc k))))))) l = absurd (omega arith)
 
-module _ (w : List ℕ) (nodes lines : ℕ) where
+module _ (w : List ℕ) (nodes lines : ℕ) (bans : List Turn) where
   abbrev held : Map
-  held = record { nodes = heldNodes w nodes; lines = heldLines w lines }
+  held = record { nodes = heldNodes w nodes; lines = heldLines w lines; bans = bans }
 
   node-held : (i k : ℕ) → i < nodes → k < nodeSize → getD w (nodePlace i + k) 0 ≡ getD (nodeNumbers (nodeAt held i)) k 0
   unfolding nodeAt
@@ -48,8 +48,8 @@ module _ (w : List ℕ) (nodes lines : ℕ) where
   unfolding lineAt heldLine
   line-held i k h l = line-number w (linePlace i) k l ∙ ap (λ (x : Line). getD (lineNumbers x) k 0) (sym (listed-at (heldLine w) lines i _ h))
 
-  holds : (bytes : List ℕ) → workLength ≤ length w → decode bytes ≡ whole held → Holds w nodes lines held
-  holds bytes full e =
+  holds : (bytes : List ℕ) → workLength ≤ length w → decode bytes ≡ whole held → BansHeld w lines bans → Holds w nodes lines held
+  holds bytes full e b =
       record {
         full = full;
         formed = well-formed held bytes e;
@@ -57,12 +57,14 @@ module _ (w : List ℕ) (nodes lines : ℕ) where
         line-count = listed-length (heldLine w) lines;
         node-held = node-held;
         line-held = line-held;
+        bans-held = b;
       }
 
 -- What `read_map` answers, from what its stages answer.
-pub answers : (bytes w : List ℕ) (r : MapRead) → workLength ≤ length w → decode bytes ≡ answered w r → MapAnswers bytes w r
-unfolding answered MapAnswers
-answers bytes w (Whole nodes lines) full e = record { map = held w nodes lines; decodes = e; held = holds w nodes lines bytes full e }
+pub answers : (bytes w : List ℕ) (r : MapRead) → workLength ≤ length w → Answered w r (decode bytes) → MapAnswers bytes w r
+unfolding Answered MapAnswers
+answers bytes w (Whole nodes lines) full e =
+    record { map = held w nodes lines (e .bans); decodes = e .comes; held = holds w nodes lines (e .bans) bytes full (e .comes) (e .held) }
 answers bytes w (Refused why) full e = e
 
 -- The answer, once it is known which it is.

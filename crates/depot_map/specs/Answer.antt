@@ -1,5 +1,6 @@
 -- What `read_map` answers, of all bytes: the map that they are, held by the work area, or the row of the table that refuses them.
-use Rattle.work_area.specs.Area.{codesTo, Holds}
+use Rattle.work_area.specs.Area.{Holds}
+use Rattle.model.specs.Work.{workLength}
 use Rattle.model.specs.Map.{Map, whole, refused, decode}
 use Prim.Native.Nat.{ℕ}
 use mathlib.Core.Path.{_≡_}
@@ -19,7 +20,7 @@ unfoldable pub MapAnswers : List ℕ → List ℕ → MapRead → Type 0
 MapAnswers bytes v (Whole nodes lines) = WholeMap bytes v nodes lines
 MapAnswers bytes v (Refused why) = decode bytes ≡ refused (refusalOf why)
 
--- The work area was `w` and is `v`: after a refusal too, only its first 10,240 numbers are changed.
+-- The work area was `w` and is `v`: after a refusal too, only the numbers that a call uses are changed.
 pub record MapIsRead (bytes w v : List ℕ) (r : MapRead) : Type 0 where
   pub answers : MapAnswers bytes v r
-  pub kept : Kept 0 codesTo w v
+  pub kept : Kept 0 workLength w v

@@ -5,24 +5,32 @@ use Prim.Native.Nat.{ℕ, _+_, _≤_}
 use mathlib.Core.Path.{_≡_}
 use mathlib.Core.List.{List}
 use lib.ListN.{getD, drop}
-use Rattle.model.specs.declared.Refusal.{Refusal}
-use Rattle.model.specs.Refusal.{row, refusalOf}
+use Rattle.model.specs.Refusal.{Refused, row}
 use Rattle.buffers.specs.Kept.{Kept}
 use Rattle.work_area.specs.Held.{heldNode, heldLine}
+use Rattle.depot_map.specs.declared.field.Fault.{Fault}
 use Rattle.depot_map.specs.declared.field.Read.{Read}
+use Rattle.depot_map.specs.declared.field.Fault.the-variants as Fault
 use Rattle.depot_map.specs.declared.field.Read.the-variants as Read
+
+-- The row of the table that each fault is.
+unfoldable pub faultOf : Fault → Refused
+faultOf Fault.Number = row 2
+faultOf Fault.Count = row 3
+faultOf Fault.Coordinate = row 4
+faultOf Fault.Line = row 5
 
 -- How reading goes on after an answer: by `rest` from the position that it gives, or not at all.
 unfoldable pub goOn : List ℕ → (ℕ → List ℕ → MapAnswer) → Read → MapAnswer
 goOn bytes rest (Read.Got x next) = rest x (drop next bytes)
-goOn bytes rest (Read.Refused why) = refused (refusalOf why)
+goOn bytes rest (Read.Refused why) = refused (faultOf why)
 
 abbrev pub InRange : ℕ → ℕ → Read → Type 0
 InRange low high (Read.Got x next) = (low ≤ x) × (x ≤ high)
 InRange low high (Read.Refused why) = Unit {0}
 
-pub record FieldRead (bytes : List ℕ) (from low high : ℕ) (why : Refusal) (r : Read) : Type 0 where
-  pub goes : (rest : ℕ → List ℕ → MapAnswer) → field (drop from bytes) low high (refusalOf why) rest ≡ goOn bytes rest r
+pub record FieldRead (bytes : List ℕ) (from low high : ℕ) (why : Fault) (r : Read) : Type 0 where
+  pub goes : (rest : ℕ → List ℕ → MapAnswer) → field (drop from bytes) low high (faultOf why) rest ≡ goOn bytes rest r
   pub within : InRange low high r
 
 -- A node, a line or a part of one, put into the work area, which was `w` and is `v`: what `step` reads is `held` there, and only the

@@ -1,7 +1,7 @@
 // A line of the map: its seven numbers, from the bytes into the work area.
+use crate::field::Fault;
 use crate::field::Read;
 use crate::field::field;
-use model::Refusal;
 use model::limits::GREATEST_LINE_LENGTH;
 use work_area::LINE_NUMBERS;
 use work_area::LINES;
@@ -26,7 +26,7 @@ fn read_attributes(map: &[u8], from: usize, work: &mut [u32], at: usize) -> Read
     requires { ⌜ at + lineSize ≤ length (now work) ⌝ }
     ensures { λ r. ⌜ AttributesRead (now (map .entry)) from at (now (work .entry)) (now (work .exit)) r ⌝ }
 {
-    let why = Refusal::MapLine;
+    let why = Fault::Line;
     let len = field(map, from, 1, GREATEST_LINE_LENGTH, why);
     let Read::Got(decimetres, after_len) = len else {
         return len;
@@ -60,7 +60,7 @@ pub fn read_line(map: &[u8], from: usize, work: &mut [u32], i: usize, nodes: u32
     requires { ⌜ (workLength ≤ length (now work)) × (i < greatestLineCount) × (1 ≤ nodes) ⌝ }
     ensures { λ r. ⌜ LineRead (now (map .entry)) from (nodes - 1) i (now (work .entry)) (now (work .exit)) r ⌝ }
 {
-    let why = Refusal::MapLine;
+    let why = Fault::Line;
     let start = field(map, from, 0, nodes - 1, why);
     let Read::Got(start_node, after_start) = start else {
         return start;

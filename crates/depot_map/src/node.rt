@@ -1,7 +1,7 @@
 // A node of the map: its two numbers, from the bytes into the work area.
+use crate::field::Fault;
 use crate::field::Read;
 use crate::field::field;
-use model::Refusal;
 use work_area::NODE_NUMBERS;
 ghost use Prim.Native.Nat.{_≤_, _<_};
 ghost use lib.ListN.{length};
@@ -20,7 +20,7 @@ pub fn read_node(map: &[u8], from: usize, work: &mut [u32], i: usize) -> Read
     requires { ⌜ (workLength ≤ length (now work)) × (i < greatestNodeCount) ⌝ }
     ensures { λ r. ⌜ NodeRead (now (map .entry)) from i (now (work .entry)) (now (work .exit)) r ⌝ }
 {
-    let why = Refusal::MapCoordinate;
+    let why = Fault::Coordinate;
     let lon = field(map, from, 0, GREATEST_LONGITUDE, why);
     let Read::Got(longitude, after_longitude) = lon else {
         return lon;

@@ -91,7 +91,7 @@ pub extern "C" fn measured_read(
     }
 }
 
-// Writes a stretch: the count of bytes, which is 16 or more, or the number of the refusal, which is 11 or less.
+// Writes a stretch: the count of bytes, or the number of the refusal. The two are not told apart: 21 and 23 may be either.
 #[no_mangle]
 pub extern "C" fn measured_write(
     map: &[u8],

@@ -26,3 +26,5 @@ pub mod Pins
 pub mod WrongWays
 pub mod WrongChoices
 pub mod WrongMaps
+pub mod Bans
+pub mod WrongTurns

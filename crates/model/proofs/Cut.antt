@@ -10,7 +10,7 @@ use lib.Dec.{leb, ltb, eqb}
 use borrow.Author.Tests.{leb-true, ltb-true, ltb-false, lt-ltb, le-ltb}
 use Rattle.model.specs.Number.{Number, got, faulty, groups, number}
 use Rattle.model.specs.Refusal.{Refused, row}
-use Rattle.model.specs.Map.{Node, Line, MapAnswer, greatestNodeCount, greatestLineCount, greatestLineLength, field, ended, readLine, decodeLines, readNode, decodeNodes, decode}
+use Rattle.model.specs.Map.{Node, Line, MapAnswer, greatestNodeCount, greatestLineCount, greatestLineLength, field, ended, readLine, decodeLines, readNode, decodeNodes, decode, Turn, greatestBanCount, greatestNumber, readBan, decodeBans}
 use Rattle.model.specs.Reference.{ParseAnswer, parse, shortestReference, longestReference}
 use Rattle.model.proofs.Tests.{both}
 
@@ -127,35 +127,46 @@ module _ (more : List ℕ) where
       differ true e = refl
       differ false e = e
 
-  ended-more : (bs : List ℕ) (nodes : List Node) (lines : List Line) → 1 ≤ length bs → ended (bs ++ more) nodes lines ≡ ended bs nodes lines
+  ended-more : (bs : List ℕ) (nodes : List Node) (lines : List Line) (bans : List Turn) → 1 ≤ length bs →
+      ended (bs ++ more) nodes lines bans ≡ ended bs nodes lines bans
   unfolding ended
-  ended-more [] nodes lines h = absurd (omega arith)
-  ended-more (b ∷ bs) nodes lines h = refl
+  ended-more [] nodes lines bans h = absurd (omega arith)
+  ended-more (b ∷ bs) nodes lines bans h = refl
 
-  lines-more : (left : ℕ) (bs : List ℕ) (nodes : List Node) (lines : List Line) → left * 35 + 1 ≤ length bs →
+  bans-more : (left : ℕ) (bs : List ℕ) (nodes : List Node) (lines : List Line) (bans : List Turn) → left * 10 + 1 ≤ length bs →
+      decodeBans left (bs ++ more) nodes lines bans ≡ decodeBans left bs nodes lines bans
+  unfolding decodeBans readBan
+  bans-more zero bs nodes lines bans h = ended-more bs nodes lines bans (omega arith)
+  bans-more (suc left) bs nodes lines bans h =
+      field-more bs 0 greatestNumber (row 2) _ (left * 10 + 6) (omega arith) λ first bs₁ _ h₁.
+      field-more bs₁ 0 greatestNumber (row 2) _ (left * 10 + 1) (omega arith) λ second bs₂ _ h₂.
+      bans-more left bs₂ nodes lines (bans ++ record { first = first; second = second } ∷ []) h₂
+
+  lines-more : (left : ℕ) (bs : List ℕ) (nodes : List Node) (lines : List Line) → left * 35 + 5_126 ≤ length bs →
       decodeLines left (bs ++ more) nodes lines ≡ decodeLines left bs nodes lines
   unfolding decodeLines
-  lines-more zero bs nodes lines h = ended-more bs nodes lines (omega arith)
+  lines-more zero bs nodes lines h =
+      field-more bs 0 greatestBanCount (row 3) _ 5_121 (omega arith) λ count bs₁ few h₁. bans-more count bs₁ nodes lines [] (omega arith)
   lines-more (suc left) bs nodes lines h =
-      line-more (length nodes - 1) bs _ (left * 35 + 1) (omega arith) λ line after h′. lines-more left after nodes (lines ++ line ∷ []) h′
+      line-more (length nodes - 1) bs _ (left * 35 + 5_126) (omega arith) λ line after h′. lines-more left after nodes (lines ++ line ∷ []) h′
 
-  nodes-more : (left : ℕ) (bs : List ℕ) (nodes : List Node) → left * 10 + 35_846 ≤ length bs → decodeNodes left (bs ++ more) nodes ≡ decodeNodes left bs nodes
+  nodes-more : (left : ℕ) (bs : List ℕ) (nodes : List Node) → left * 10 + 40_971 ≤ length bs → decodeNodes left (bs ++ more) nodes ≡ decodeNodes left bs nodes
   unfolding decodeNodes readNode
   nodes-more zero bs nodes h =
-      field-more bs 1 greatestLineCount (row 3) _ 35_841 (omega arith) λ count bs₁ few h₁. lines-more count bs₁ nodes [] (omega arith)
+      field-more bs 1 greatestLineCount (row 3) _ 40_966 (omega arith) λ count bs₁ few h₁. lines-more count bs₁ nodes [] (omega arith)
   nodes-more (suc left) bs nodes h =
-      field-more bs 0 35_999_998 (row 4) _ (left * 10 + 35_851) (omega arith) λ lon bs₁ _ h₁.
-      field-more bs₁ 0 18_000_000 (row 4) _ (left * 10 + 35_846) (omega arith) λ lat bs₂ _ h₂.
+      field-more bs 0 35_999_998 (row 4) _ (left * 10 + 40_976) (omega arith) λ lon bs₁ _ h₁.
+      field-more bs₁ 0 18_000_000 (row 4) _ (left * 10 + 40_971) (omega arith) λ lat bs₂ _ h₂.
       nodes-more left bs₂ (nodes ++ record { lon = lon; lat = lat } ∷ []) h₂
 
--- Five bytes to each of 1 + 512 × 2 + 1 + 1,024 × 7 numbers: no map has more bytes.
+-- Five bytes to each of 1 + 512 × 2 + 1 + 1,024 × 7 + 1 + 512 × 2 numbers: no map has more bytes.
 abbrev pub mapBytesAtMost : ℕ
-mapBytesAtMost = 40_970
+mapBytesAtMost = 46_095
 
 decode-more : (bs more : List ℕ) → mapBytesAtMost < length bs → decode (bs ++ more) ≡ decode bs
 unfolding decode
 decode-more bs more h =
-    field-more more bs 2 greatestNodeCount (row 3) _ 40_966 (omega arith) λ count bs₁ few h₁. nodes-more more count bs₁ [] (omega arith)
+    field-more more bs 2 greatestNodeCount (row 3) _ 46_091 (omega arith) λ count bs₁ few h₁. nodes-more more count bs₁ [] (omega arith)
 
 -- ---- the cut
 

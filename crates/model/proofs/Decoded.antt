@@ -1,4 +1,5 @@
--- A map that decodes is well formed: every field in its range, the ends of a line differ, no two nodes have the same pair of codes.
+-- A map that decodes is well formed: every field in its range, the ends of a line differ, no two nodes have the same pair of codes, and each banned
+-- turn is one of two lines that meet.
 use Prim.Native.Nat.{ℕ, zero, suc, _+_, _-_, _≤_}
 use mathlib.Core.Path.{_≡_, refl, subst}
 use mathlib.Core.Logic.{_≢_}
@@ -10,7 +11,7 @@ use lib.Dec.{leb, eqb}
 use borrow.Author.Tests.{leb-true, eqb-false}
 use Rattle.model.specs.Refusal.{Refused, row}
 use Rattle.model.specs.Number.{Number, got, faulty, number}
-use Rattle.model.specs.Map.{Node, Line, Map, greatestNodeCount, greatestLineCount, MapAnswer, whole, refused, field, clash, ended, readLine, decodeLines, readNode, decodeNodes, decode}
+use Rattle.model.specs.Map.{Node, Line, Turn, Map, greatestNodeCount, greatestLineCount, greatestBanCount, MapAnswer, whole, refused, field, clash, allFitting, ended, readBan, decodeBans, readLine, decodeLines, readNode, decodeNodes, decode}
 use Rattle.model.specs.Lines.{lineAt, nodeAt}
 use Rattle.model.specs.WellFormed.{NodeOk, LineOk, WellFormed}
 use Rattle.model.proofs.Tests.{both}
@@ -90,15 +91,17 @@ record SoFar (nodes : List Node) : Type 0 where
   two : 2 ≤ length nodes
   few : length nodes ≤ greatestNodeCount
 
-ended-whole : {m : Map} (bs : List ℕ) (nodes : List Node) (lines : List Line) → SoFar nodes → Every (LineOk (length nodes)) lines →
-    1 ≤ length lines → length lines ≤ greatestLineCount → ended bs nodes lines ≡ whole m → WellFormed m
+ended-whole : {m : Map} (bs : List ℕ) (nodes : List Node) (lines : List Line) (bans : List Turn) → SoFar nodes → Every (LineOk (length nodes)) lines →
+    1 ≤ length lines → length lines ≤ greatestLineCount → length bans ≤ greatestBanCount → ended bs nodes lines bans ≡ whole m → WellFormed m
 unfolding ended lineAt nodeAt
-ended-whole {m} [] nodes lines a b one few e = go (clash nodes) refl e
+ended-whole {m} [] nodes lines bans a b one few few-bans e = go (clash nodes) (allFitting lines bans) refl refl e
   where
-    go : (t : Bool) → clash nodes ≡ t → cond t (refused (row 6)) (whole (record { nodes = nodes; lines = lines })) ≡ whole m → WellFormed m
-    go true t e = absurd (not-whole e)
-    go false t e =
-        let made : Map = record { nodes = nodes; lines = lines } in
+    go : (t u : Bool) → clash nodes ≡ t → allFitting lines bans ≡ u →
+        cond t (refused (row 6)) (cond u (whole (record { nodes = nodes; lines = lines; bans = bans })) (refused (row 23))) ≡ whole m → WellFormed m
+    go true u t f e = absurd (not-whole e)
+    go false false t f e = absurd (not-whole e)
+    go false true t f e =
+        let made : Map = record { nodes = nodes; lines = lines; bans = bans } in
         let same : made ≡ m = cc in
         subst WellFormed same
         (record {
@@ -109,13 +112,26 @@ ended-whole {m} [] nodes lines a b one few e = go (clash nodes) refl e
           one-line = one;
           few-lines = few;
           distinct = t;
+          few-bans = few-bans;
+          bans-fit = f;
         })
-ended-whole (x ∷ bs) nodes lines a b one few e = absurd (not-whole e)
+ended-whole (x ∷ bs) nodes lines bans a b one few few-bans e = absurd (not-whole e)
+
+bans-whole : {m : Map} (left : ℕ) (bs : List ℕ) (nodes : List Node) (lines : List Line) (bans : List Turn) → SoFar nodes →
+    Every (LineOk (length nodes)) lines → 1 ≤ length lines → length lines ≤ greatestLineCount → left + length bans ≤ greatestBanCount →
+    decodeBans left bs nodes lines bans ≡ whole m → WellFormed m
+unfolding decodeBans readBan
+bans-whole zero bs nodes lines bans a b one few few-bans e = ended-whole bs nodes lines bans a b one few (omega arith) e
+bans-whole (suc left) bs nodes lines bans a b one few few-bans e =
+    next (row 2) bs e λ first bs₁ _ _ e₁.
+    next (row 2) bs₁ e₁ λ second bs₂ _ _ e₂.
+    bans-whole left bs₂ nodes lines (bans ++ record { first = first; second = second } ∷ []) a b one few (simp length-append (omega arith)) e₂
 
 lines-whole : {m : Map} (left : ℕ) (bs : List ℕ) (nodes : List Node) (lines : List Line) → SoFar nodes → Every (LineOk (length nodes)) lines →
     1 ≤ left + length lines → left + length lines ≤ greatestLineCount → decodeLines left bs nodes lines ≡ whole m → WellFormed m
 unfolding decodeLines
-lines-whole zero bs nodes lines a b one few e = ended-whole bs nodes lines a b (omega arith) (omega arith) e
+lines-whole zero bs nodes lines a b one few e =
+    next (row 3) bs e λ count bs₁ _ high e₁. bans-whole count bs₁ nodes lines [] a b (omega arith) (omega arith) (omega arith) e₁
 lines-whole (suc left) bs nodes lines a b one few e =
     next-line (length nodes) bs (omega (arith, a .two)) e λ l after ok e′.
     lines-whole left after nodes (lines ++ l ∷ []) a (every-append b (also ok none)) (simp length-append (omega arith))

@@ -1,6 +1,7 @@
 -- Demand 3, proved: what is written is read back, and nothing else fits the bytes.
 use Prim.Native.Nat.{ℕ, _+_, _≤_, _<_}
 use mathlib.Core.Path.{_≡_, sym, _∙_, ap, subst}
+use mathlib.Core.Bool.{false}
 use mathlib.Core.List.{List}
 use native.Mathlib.Omega.{arith}
 use lib.ListN.{length}
@@ -8,17 +9,18 @@ use Rattle.model.specs.declared.Span.{Span}
 use Rattle.model.specs.Map.{Map, whole}
 use Rattle.model.specs.Lines.{total}
 use Rattle.model.specs.Reference.{Reference, bytesOf, parsed, parse, shortestReference, longestReference}
-use Rattle.model.specs.Reading.{Readings, joined}
+use Rattle.model.specs.Reading.{Readings, joined, bannedMeeting}
 use Rattle.model.specs.Stretch.{Stretch, remaining}
 use Rattle.model.specs.Choice.{good, Usable, firstLeg, lastLeg, referenceOf, stretchBytes}
 use Rattle.model.specs.Locate.{located, locate}
-use Rattle.model.specs.Outcome.{SpansRead, read, ReadEnd, ReadOn, Reads, written, Writes}
+use Rattle.model.specs.Outcome.{SpansRead, read, ReadEnd, ReadJoined, ReadOn, Reads, written, Writes}
 use Rattle.model.specs.Work.{workLength}
 use Rattle.model.specs.Demand3.{Fits, Within, ReadAs, ReadBack, Apart, Alike, Demand3}
 use Rattle.model.proofs.Every.{Every, Byte}
 use Rattle.model.specs.WellFormed.{WellFormed}
 use Rattle.model.proofs.Decoded.{well-formed}
-use Rattle.model.proofs.Joining.{first-leg, last-leg, first-length, last-length, as-many, first-joined, last-joined}
+use Rattle.model.proofs.Joining.{first-leg, last-leg, each-leg, first-length, last-length, as-many, first-joined, last-joined}
+use Rattle.model.proofs.Bans.{meetings}
 use Rattle.model.proofs.Legs.{legsOf, sole, readings, readings-only, legs-read}
 use Rattle.model.proofs.Spans.{stated, within}
 use Rattle.model.proofs.Bytes.{Fitting, parse-back, bytes-small, length-fits}
@@ -61,6 +63,9 @@ module _ (m : Map) (mb : List ℕ) (s : Stretch) (bytes : List ℕ) (k : Written
   locates : locate m reference ≡ located (legsOf m (k .legs))
   locates = locate-back formed (k .legs) _ _ usable (rw lines-are (k .left .joint))
 
+  no-ban : bannedMeeting m (k .legs) ≡ false
+  no-ban = sym (meetings (each-leg usable)) ∙ rw lines-are (k .left .free)
+
   fits : Fits m bytes (k .legs)
   fits = record { reference = reference; legs = legsOf m (k .legs); parses = parses; locates = locates; readings = readings (sole usable) }
 
@@ -79,7 +84,8 @@ module _ (m : Map) (mb : List ℕ) (s : Stretch) (bytes : List ℕ) (k : Written
       Reads mb bytes work room (read (remaining m s .lines) (some-spans .0) (some-spans .1)) =
       λ work room full enough.
       let room-left : length (joined (k .legs)) ≤ room = rw lines-are enough in
-      let end = ReadEnd.accepted (some-spans .2) (some-spans .3) room-left in
+      let end : ReadJoined (bannedMeeting m (k .legs)) m reference room (k .legs) (read (joined (k .legs)) (some-spans .0) (some-spans .1)) =
+      rw no-ban (ReadEnd.accepted (some-spans .2) (some-spans .3) room-left) in
       rw (← lines-are) (on-reads mb bytes work room _ full (k .decodes) parses (ReadOn.every-leg locates (legs-read (sole usable)) end)) in
       record {
         accepts = take;
@@ -108,6 +114,7 @@ module _ (m : Map) (mb : List ℕ) (s : Stretch) (bytes : List ℕ) (k : Written
         holds-neg = holds-neg;
         fits = fits;
         only = only;
+        unbanned = k .left .free;
       }
 
 -- Two offsets in one span.

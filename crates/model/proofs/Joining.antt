@@ -8,10 +8,11 @@ use lib.ListN.{length, length-append}
 use Rattle.model.specs.Map.{Map}
 use Rattle.model.specs.Lines.{lineAt, Connected, single, linked, total, lowest, firstOf, lastOf}
 use Rattle.model.specs.Reading.{joined}
-use Rattle.model.specs.Stretch.{gap}
+use Rattle.model.specs.Stretch.{apart, gap}
 use Rattle.model.specs.Choice.{fromNode, toNode, Good, good, Usable, final, before, firstLeg, lastLeg}
 use Rattle.model.specs.WellFormed.{WellFormed, LineOk}
-use Rattle.model.proofs.Skipping.{no-gap, first-append, last-append}
+use Rattle.model.proofs.Every.{Every, none, also}
+use Rattle.model.proofs.Skipping.{pair-between, meet, first-append, last-append}
 
 pub first-known : {m : Map} {ls : List ℕ} → Connected m ls → firstOf ls < length (m .lines)
 unfolding firstOf
@@ -63,23 +64,19 @@ module _ {m : Map} (w : WellFormed m) where
   to-known c = last-ok c .end
 
 -- Legs of a list without a gap: each ends where the next starts.
-meet : (m : Map) (x : ℕ) (xs : List ℕ) (y : ℕ) (ys : List ℕ) → gap m (x ∷ xs ++ y ∷ ys) ≡ false →
-    lineAt m (lastOf (x ∷ xs)) .end ≡ lineAt m y .start
-unfolding lastOf
-meet m x [] y ys e = no-gap m x y ys e .0
-meet m x (x′ ∷ xs) y ys e = meet m x′ xs y ys (no-gap m x x′ (xs ++ y ∷ ys) e .1)
-
 pub legs-meet : (m : Map) (xs ys zs : List ℕ) → 0 < length xs → 0 < length ys → gap m (xs ++ (ys ++ zs)) ≡ false →
     toNode m xs ≡ fromNode m ys
-unfolding toNode fromNode firstOf
-legs-meet m [] ys zs h k e = absurd (omega arith)
-legs-meet m (x ∷ xs) [] zs h k e = absurd (omega arith)
-legs-meet m (x ∷ xs) (y ∷ ys) zs h k e = meet m x xs y (ys ++ zs) e
+unfolding toNode fromNode
+legs-meet m xs ys zs h k e = meet m _ _ (pair-between (apart m) xs ys zs h k e)
 
 pub first-leg : {m : Map} {at : ℕ} {lss : List (List ℕ)} → Usable (good m) at lss → Connected m (firstLeg lss)
 unfolding firstLeg
 first-leg (final g) = connected g
 first-leg (before g u) = connected g
+
+pub each-leg : {m : Map} {at : ℕ} {lss : List (List ℕ)} → Usable (good m) at lss → Every (Connected m) lss
+each-leg (final g) = also (connected g) none
+each-leg (before g u) = also (connected g) (each-leg u)
 
 pub last-leg : {m : Map} {at : ℕ} {lss : List (List ℕ)} → Usable (good m) at lss → Connected m (lastLeg lss)
 unfolding lastLeg

@@ -10,6 +10,7 @@ pub mod Spans
 pub mod Legs
 pub mod Skipping
 pub mod Joining
+pub mod Bans
 pub mod Bytes
 pub mod Parsed
 pub mod Points

@@ -1,16 +1,17 @@
 -- The reader's call has one outcome at most, and so has the writer's: a promise that names the outcome pins the answer.
 use Prim.Native.Nat.{ℕ}
 use mathlib.Core.Path.{_≡_, refl}
+use mathlib.Core.Bool.{Bool, true, false}
 use mathlib.Core.List.{List}
 use native.Mathlib.Omega.{arith}
 use Rattle.model.specs.declared.Span.{Span}
 use Rattle.model.specs.Map.{Map}
 use Rattle.model.specs.Reference.{Reference, ParseAnswer, parsed, parse}
-use Rattle.model.specs.Reading.{Leg}
+use Rattle.model.specs.Reading.{Leg, bannedMeeting}
 use Rattle.model.specs.Stretch.{Stretch, StretchAnswer, remains, checkStretch}
 use Rattle.model.specs.Choice.{LegTest, MoreFirst, more, later, Preferred, same, fewer, more-first, Chosen}
 use Rattle.model.specs.Locate.{located, locate}
-use Rattle.model.specs.Outcome.{LegsAnswer, LegsRead, SpansRead, ReadOutcome, ReadEnd, ReadOn, ReadParsed, Reads, WriteOutcome, WriteOn, WriteStretch, Writes}
+use Rattle.model.specs.Outcome.{LegsAnswer, LegsRead, SpansRead, ReadOutcome, ReadEnd, ReadJoined, ReadOn, ReadParsed, Reads, WriteOutcome, WriteOn, WriteStretch, Writes}
 use Rattle.model.proofs.Opened.{opens-once}
 use Rattle.model.proofs.Legs.{legs-same}
 use Rattle.model.proofs.Spans.{span-same, no-span}
@@ -89,6 +90,10 @@ module _ (m : Map) (r : Reference) (room : ℕ) where
   end-same (ReadEnd.accepted a g h) (ReadEnd.no-room b k l) = absurd (omega arith)
   end-same (ReadEnd.accepted a g h) (ReadEnd.accepted b k l) = let e = same-pos a b in let e′ = same-neg a b in cc
 
+  joined-same : (lss : List (List ℕ)) {o o′ : ReadOutcome} (t : Bool) → ReadJoined t m r room lss o → ReadJoined t m r room lss o′ → o ≡ o′
+  joined-same lss true h h′ = cc
+  joined-same lss false h h′ = end-same h h′
+
   found-same : {legs legs′ : List Leg} {a b : LegsAnswer} → locate m r ≡ located legs → locate m r ≡ located legs′ → LegsRead m 0 legs a →
       LegsRead m 0 legs′ b → a ≡ b
   found-same {legs} {legs′} e e′ h h′ = let same : legs ≡ legs′ = cc in legs-same (rw same at h) h′
@@ -105,7 +110,7 @@ module _ (m : Map) (r : Reference) (room : ℕ) where
   read-on-same (ReadOn.every-leg {lss = lss} e h end) (ReadOn.every-leg {lss = lss′} e′ h′ end′) =
       let same = found-same e e′ h h′ in
       let same-lists : lss ≡ lss′ = cc in
-      end-same (rw same-lists at end) end′
+      joined-same lss′ (bannedMeeting m lss′) (rw same-lists at end) end′
 
 module _ (mb ref : List ℕ) (room : ℕ) {o o′ : ReadOutcome} where
   read-parsed-same : (m : Map) (a : ParseAnswer) → ReadParsed m a room o → ReadParsed m a room o′ → o ≡ o′

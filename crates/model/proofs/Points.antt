@@ -8,12 +8,12 @@ use Rattle.model.specs.Difference.{standsAt}
 use Rattle.model.specs.Lines.{LineAttributes, nodeAt, lastOf, arriving}
 use Rattle.model.specs.Reference.{Point}
 use Rattle.model.specs.Reading.{joined}
-use Rattle.model.specs.Stretch.{gap}
+use Rattle.model.specs.Stretch.{apart, gap}
 use Rattle.model.specs.Choice.{fromNode, toNode, arrivalOf, legOf, Good, good, Usable, final, before, pointOf, pointsOf, firstLeg, lastLeg, referenceOf}
 use Rattle.model.specs.Locate.{found, seek, located, leg-first, arrivalBefore, legsFrom, locate}
 use Rattle.model.specs.WellFormed.{WellFormed}
 use Rattle.model.proofs.Nodes.{by-codes, by-differences}
-use Rattle.model.proofs.Skipping.{gap-suffix}
+use Rattle.model.proofs.Skipping.{pair-suffix}
 use Rattle.model.proofs.Joining.{connected, filled, from-known, to-known, legs-meet, first-leg}
 use Rattle.model.proofs.Legs.{legsOf}
 
@@ -46,7 +46,7 @@ module _ {m : Map} (w : WellFormed m) where
       ∙ ap (leg-first (legOf m false ls))
       (ap (λ (v : ℕ). legsFrom m last v (k + 1) (pointsOf m (ks ∷ lss)))
       (legs-meet m ls ks (joined lss) (filled (connected g)) (filled (first-leg u)) e)
-      ∙ legs-back last (k + 1) u (gap-suffix m ls _ e) same)
+      ∙ legs-back last (k + 1) u (pair-suffix (apart m) ls _ e) same)
 
   pub locate-back : (lss : List (List ℕ)) (pos neg : ℕ) → Usable (good m) 0 lss → gap m (joined lss) ≡ false →
       locate m (referenceOf m lss pos neg) ≡ located (legsOf m lss)

@@ -1,4 +1,5 @@
--- The rows of the table that each part is refused with: a map 2 to 6, a stretch 7 to 9, a reference's bytes 12 to 15. So no refusal has the number 0.
+-- The rows of the table that each part is refused with: a map 2 to 6 or 23, a stretch 7 to 9 or 21, a reference's bytes 12 to 15. So no refusal
+-- has the number 0. Only the least and the greatest number of a part are said.
 use Prim.Native.Nat.{ℕ, zero, suc, _+_, _-_, _%_, _*_, _≤_}
 use mathlib.Core.Path.{_≡_, refl, subst}
 use mathlib.Core.Bool.{Bool, true, false, cond, _&&_, _||_}
@@ -8,14 +9,14 @@ use lib.ListN.{length, getD}
 use lib.Dec.{ltb, leb, eqb}
 use Rattle.model.specs.Number.{Number, got, faulty, number}
 use Rattle.model.specs.Refusal.{Refused, row, rowAt, numberOf}
-use Rattle.model.specs.Map.{Map, Node, Line, MapAnswer, whole, field, ended, clash, readLine, decodeLines, readNode, decodeNodes, decode}
+use Rattle.model.specs.Map.{Map, Node, Line, Turn, MapAnswer, whole, field, ended, clash, allFitting, readBan, decodeBans, readLine, decodeLines, readNode, decodeNodes, decode}
 use Rattle.model.specs.Lines.{total}
-use Rattle.model.specs.Stretch.{Stretch, StretchAnswer, remains, greatestStretch, unknown, gap, remaining, checkStretch}
+use Rattle.model.specs.Stretch.{Stretch, StretchAnswer, remains, greatestStretch, unknown, gap, bannedPair, remaining, checkStretch}
 use Rattle.model.specs.Reference.{Reference, ParseAnswer, parsed, parse, statusByte, spareBits, flags, pointCount, referenceAt, shortestReference, longestReference}
-use Rattle.model.specs.Reading.{Leg}
+use Rattle.model.specs.Reading.{Leg, bannedMeeting}
 use Rattle.model.specs.Opening.{OnMap, OnArea, Opens}
 use Rattle.model.specs.Work.{workLength}
-use Rattle.model.specs.Outcome.{failed, LegsRead, ReadOutcome, ReadEnd, ReadOn, ReadParsed, Reads, WriteOutcome, WriteOn, WriteStretch, Writes}
+use Rattle.model.specs.Outcome.{failed, LegsRead, ReadOutcome, ReadEnd, ReadJoined, ReadOn, ReadParsed, Reads, WriteOutcome, WriteOn, WriteStretch, Writes}
 
 -- A refusal with one of the numbers from `low` to `high`.
 pub record From (low high : ℕ) (r : Refused) : Type 0 where
@@ -37,13 +38,13 @@ wider l h f = record { least = omega (arith, f .least); greatest = omega (arith,
 
 abbrev MapRows : MapAnswer → Type 0
 MapRows (whole m) = Unit {0}
-MapRows (MapAnswer.refused r) = From 2 6 r
+MapRows (MapAnswer.refused r) = From 2 23 r
 
 test-rows : (t : Bool) (a b : MapAnswer) → MapRows a → MapRows b → MapRows (elim t [ true ↦ a | false ↦ b ])
 test-rows true a b h k = h
 test-rows false a b h k = k
 
-field-rows : (bs : List ℕ) (low high n : ℕ) (rest : ℕ → List ℕ → MapAnswer) → From 2 6 (row n) → ((x : ℕ) (after : List ℕ) → MapRows (rest x after)) →
+field-rows : (bs : List ℕ) (low high n : ℕ) (rest : ℕ → List ℕ → MapAnswer) → From 2 23 (row n) → ((x : ℕ) (after : List ℕ) → MapRows (rest x after)) →
     MapRows (field bs low high (row n) rest)
 unfolding field
 field-rows bs low high n rest h more = go (number bs)
@@ -57,14 +58,25 @@ field-rows bs low high n rest h more = go (number bs)
     go (got x after) = test-rows (leb low x && leb x high) _ _ (more x after) h
     go faulty = at 2 (omega arith) (omega arith)
 
-ended-rows : (bs : List ℕ) (nodes : List Node) (lines : List Line) → MapRows (ended bs nodes lines)
+ended-rows : (bs : List ℕ) (nodes : List Node) (lines : List Line) (bans : List Turn) → MapRows (ended bs nodes lines bans)
 unfolding ended
-ended-rows [] nodes lines = go (clash nodes)
+ended-rows [] nodes lines bans = go (clash nodes) (allFitting lines bans)
   where
-    go : (t : Bool) → MapRows (cond t (MapAnswer.refused (row 6)) (whole (record { nodes = nodes; lines = lines })))
-    go true = at 6 (omega arith) (omega arith)
-    go false = tt
-ended-rows (b ∷ bs) nodes lines = at 2 (omega arith) (omega arith)
+    go : (t u : Bool) →
+        MapRows
+        (cond t (MapAnswer.refused (row 6)) (cond u (whole (record { nodes = nodes; lines = lines; bans = bans })) (MapAnswer.refused (row 23))))
+    go true u = at 6 (omega arith) (omega arith)
+    go false true = tt
+    go false false = at 23 (omega arith) (omega arith)
+ended-rows (b ∷ bs) nodes lines bans = at 2 (omega arith) (omega arith)
+
+bans-rows : (left : ℕ) (bs : List ℕ) (nodes : List Node) (lines : List Line) (bans : List Turn) → MapRows (decodeBans left bs nodes lines bans)
+unfolding decodeBans readBan
+bans-rows zero bs nodes lines bans = ended-rows bs nodes lines bans
+bans-rows (suc left) bs nodes lines bans =
+    field-rows _ _ _ 2 _ (at 2 (omega arith) (omega arith)) λ first bs₁.
+    field-rows _ _ _ 2 _ (at 2 (omega arith) (omega arith)) λ second bs₂.
+    bans-rows left bs₂ nodes lines (bans ++ record { first = first; second = second } ∷ [])
 
 line-rows : (last : ℕ) (bs : List ℕ) (rest : Line → List ℕ → MapAnswer) → ((l : Line) (after : List ℕ) → MapRows (rest l after)) →
     MapRows (readLine last bs rest)
@@ -81,7 +93,7 @@ line-rows last bs rest more =
 
 lines-rows : (left : ℕ) (bs : List ℕ) (nodes : List Node) (lines : List Line) → MapRows (decodeLines left bs nodes lines)
 unfolding decodeLines
-lines-rows zero bs nodes lines = ended-rows bs nodes lines
+lines-rows zero bs nodes lines = field-rows _ _ _ 3 _ (at 3 (omega arith) (omega arith)) λ count bs₁. bans-rows count bs₁ nodes lines []
 lines-rows (suc left) bs nodes lines = line-rows _ _ _ λ line after. lines-rows left after nodes (lines ++ line ∷ [])
 
 nodes-rows : (left : ℕ) (bs : List ℕ) (nodes : List Node) → MapRows (decodeNodes left bs nodes)
@@ -91,7 +103,7 @@ nodes-rows (suc left) bs nodes =
     field-rows _ _ _ 4 _ (at 4 (omega arith) (omega arith)) λ lon bs₁.
     field-rows _ _ _ 4 _ (at 4 (omega arith) (omega arith)) λ lat bs₂. nodes-rows left bs₂ (nodes ++ record { lon = lon; lat = lat } ∷ [])
 
-pub map-rows : (bs : List ℕ) (r : Refused) → decode bs ≡ MapAnswer.refused r → From 2 6 r
+pub map-rows : (bs : List ℕ) (r : Refused) → decode bs ≡ MapAnswer.refused r → From 2 23 r
 unfolding decode
 map-rows bs r e = subst MapRows e (field-rows _ _ _ 3 _ (at 3 (omega arith) (omega arith)) λ count bs₁. nodes-rows count bs₁ [])
 
@@ -99,22 +111,25 @@ map-rows bs r e = subst MapRows e (field-rows _ _ _ 3 _ (at 3 (omega arith) (ome
 
 abbrev StretchRows : StretchAnswer → Type 0
 StretchRows (remains s) = Unit {0}
-StretchRows (StretchAnswer.refused r) = From 7 9 r
+StretchRows (StretchAnswer.refused r) = From 7 21 r
 
-stretch-tests : (lines gaps offsets : Bool) (s : Stretch) →
+stretch-tests : (lines gaps bans offsets : Bool) (s : Stretch) →
     StretchRows
-    (cond lines (StretchAnswer.refused (row 7)) (cond gaps (StretchAnswer.refused (row 8)) (cond offsets (StretchAnswer.refused (row 9)) (remains s))))
-stretch-tests true gaps offsets s = at 7 (omega arith) (omega arith)
-stretch-tests false true offsets s = at 8 (omega arith) (omega arith)
-stretch-tests false false true s = at 9 (omega arith) (omega arith)
-stretch-tests false false false s = tt
+    (cond lines (StretchAnswer.refused (row 7))
+    (cond gaps (StretchAnswer.refused (row 8))
+    (cond bans (StretchAnswer.refused (row 21)) (cond offsets (StretchAnswer.refused (row 9)) (remains s)))))
+stretch-tests true gaps bans offsets s = at 7 (omega arith) (omega arith)
+stretch-tests false true bans offsets s = at 8 (omega arith) (omega arith)
+stretch-tests false false true offsets s = at 21 (omega arith) (omega arith)
+stretch-tests false false false true s = at 9 (omega arith) (omega arith)
+stretch-tests false false false false s = tt
 
-pub stretch-rows : (m : Map) (s : Stretch) (r : Refused) → checkStretch m s ≡ StretchAnswer.refused r → From 7 9 r
+pub stretch-rows : (m : Map) (s : Stretch) (r : Refused) → checkStretch m s ≡ StretchAnswer.refused r → From 7 21 r
 unfolding checkStretch
 stretch-rows m s r e =
     subst StretchRows e
     (stretch-tests (eqb (length (s .lines)) 0 || ltb greatestStretch (length (s .lines)) || unknown m (s .lines)) (gap m (s .lines))
-    (leb (total m (s .lines)) (s .pos + s .neg)) (remaining m s))
+    (bannedPair m (s .lines)) (leb (total m (s .lines)) (s .pos + s .neg)) (remaining m s))
 
 -- ---- a reference's bytes
 
@@ -147,24 +162,33 @@ legs-rows (LegsRead.unread u) = omega arith
 legs-rows (LegsRead.several s) = omega arith
 legs-rows (LegsRead.later o h) = legs-rows h
 
+read-same : (r s : Refused) → ReadOutcome.refused r ≡ ReadOutcome.refused s → r ≡ s
+read-same r s e = cc
+
 end-rows : {m : Map} {r : Reference} {room : ℕ} {lss : List (List ℕ)} {why : Refused} → ReadEnd m r room lss (ReadOutcome.refused why) → From 19 20 why
 end-rows (ReadEnd.no-pos x) = at 19 (omega arith) (omega arith)
 end-rows (ReadEnd.no-neg x) = at 19 (omega arith) (omega arith)
 end-rows (ReadEnd.too-far s h) = at 19 (omega arith) (omega arith)
 end-rows (ReadEnd.no-room s h k) = at 20 (omega arith) (omega arith)
 
-read-on-rows : {m : Map} {r : Reference} {room : ℕ} {why : Refused} → ReadOn m r room (ReadOutcome.refused why) → From 16 20 why
+joined-rows : (m : Map) (r : Reference) (room : ℕ) (why : Refused) (t : Bool) (lss : List (List ℕ)) → ReadJoined t m r room lss (ReadOutcome.refused why) →
+    From 19 22 why
+joined-rows m r room why true lss h = rw (read-same why (row 22) h) (at 22 (omega arith) (omega arith))
+joined-rows m r room why false lss h = wider (omega arith) (omega arith) (end-rows h)
+
+read-on-rows : {m : Map} {r : Reference} {room : ℕ} {why : Refused} → ReadOn m r room (ReadOutcome.refused why) → From 16 22 why
 read-on-rows (ReadOn.no-point e) = at-place 16 _ (omega arith) (omega arith)
 read-on-rows (ReadOn.no-leg e h) = let n = legs-rows h in at-place _ _ (omega (arith, n .0)) (omega (arith, n .1))
-read-on-rows (ReadOn.every-leg e h end) = wider (omega arith) (omega arith) (end-rows end)
+read-on-rows {m} {r} {room} {why} (ReadOn.every-leg {lss = lss} e h end) =
+    wider (omega arith) (omega arith) (joined-rows m r room why (bannedMeeting m lss) lss end)
 
 write-on-rows : {m : Map} {s : Stretch} {room : ℕ} {why : Refused} → WriteOn m s room (WriteOutcome.refused why) → From 10 11 why
 write-on-rows (WriteOn.no-choice n) = at 10 (omega arith) (omega arith)
 write-on-rows (WriteOn.no-room c h) = at 11 (omega arith) (omega arith)
 
--- What every call asks first is refused with 1 to 6.
+-- What every call asks first is refused with 1 to 6, or 23.
 module _ {Outcome : Type 0} (refused : Refused → Outcome) (same : (r s : Refused) → refused r ≡ refused s → r ≡ s) (Asks : Map → Outcome → Type 0)
-    (high : ℕ) (why : Refused) (asked : (m : Map) → Asks m (refused why) → From 1 high why) (enough : 6 ≤ high) where
+    (high : ℕ) (why : Refused) (asked : (m : Map) → Asks m (refused why) → From 1 high why) (enough : 23 ≤ high) where
   on-map-rows : (mb : List ℕ) (a : MapAnswer) → decode mb ≡ a → OnMap refused Asks a (refused why) → From 1 high why
   on-map-rows mb (whole m) e h = asked m h
   on-map-rows mb (MapAnswer.refused r) e h = rw (same why r h) (wider (omega arith) enough (map-rows mb r e))
@@ -176,31 +200,28 @@ module _ {Outcome : Type 0} (refused : Refused → Outcome) (same : (r s : Refus
   opens-rows : (mb : List ℕ) (work : ℕ) → Opens refused Asks mb work (refused why) → From 1 high why
   opens-rows mb work h = on-area-rows (ltb work workLength) mb h
 
-read-same : (r s : Refused) → ReadOutcome.refused r ≡ ReadOutcome.refused s → r ≡ s
-read-same r s e = cc
-
 write-same : (r s : Refused) → WriteOutcome.refused r ≡ WriteOutcome.refused s → r ≡ s
 write-same r s e = cc
 
 parsed-rows : (m : Map) (ref : List ℕ) (a : ParseAnswer) (room : ℕ) (why : Refused) → parse ref ≡ a →
-    ReadParsed m a room (ReadOutcome.refused why) → From 1 20 why
+    ReadParsed m a room (ReadOutcome.refused why) → From 1 23 why
 parsed-rows m ref (parsed r) room why e h = wider (omega arith) (omega arith) (read-on-rows h)
 parsed-rows m ref (ParseAnswer.refused r) room why e h = rw (read-same why r h) (wider (omega arith) (omega arith) (parse-rows ref r e))
 
 left-rows : (m : Map) (s : Stretch) (a : StretchAnswer) (room : ℕ) (why : Refused) → checkStretch m s ≡ a → WriteStretch m a room (WriteOutcome.refused why) →
-    From 1 11 why
+    From 1 23 why
 left-rows m s (remains t) room why e h = wider (omega arith) (omega arith) (write-on-rows h)
 left-rows m s (StretchAnswer.refused r) room why e h = rw (write-same why r h) (wider (omega arith) (omega arith) (stretch-rows m s r e))
 
--- The reader's refusals have the numbers 1 to 20, the writer's 1 to 11.
-pub read-rows : (mb ref : List ℕ) (work room : ℕ) (why : Refused) → Reads mb ref work room (ReadOutcome.refused why) → From 1 20 why
+-- The numbers of the reader's and of the writer's refusals are 1 to 23.
+pub read-rows : (mb ref : List ℕ) (work room : ℕ) (why : Refused) → Reads mb ref work room (ReadOutcome.refused why) → From 1 23 why
 read-rows mb ref work room why h =
-    opens-rows ReadOutcome.refused read-same (λ m. ReadParsed m (parse ref) room) 20 why (λ m. parsed-rows m ref (parse ref) room why refl)
+    opens-rows ReadOutcome.refused read-same (λ m. ReadParsed m (parse ref) room) 23 why (λ m. parsed-rows m ref (parse ref) room why refl)
     (omega arith) mb work h
 
-pub write-rows : (mb : List ℕ) (s : Stretch) (work room : ℕ) (why : Refused) → Writes mb s work room (WriteOutcome.refused why) → From 1 11 why
+pub write-rows : (mb : List ℕ) (s : Stretch) (work room : ℕ) (why : Refused) → Writes mb s work room (WriteOutcome.refused why) → From 1 23 why
 write-rows mb s work room why h =
-    opens-rows WriteOutcome.refused write-same (λ m. WriteStretch m (checkStretch m s) room) 11 why (λ m. left-rows m s (checkStretch m s) room why refl)
+    opens-rows WriteOutcome.refused write-same (λ m. WriteStretch m (checkStretch m s) room) 23 why (λ m. left-rows m s (checkStretch m s) room why refl)
     (omega arith) mb work h
 
 -- No refusal has the number 0, which tells a C host that a call was accepted.

@@ -1,6 +1,7 @@
 -- Demand 3: what the writer accepts the reader hands back exactly, and nothing else fits the bytes (paper 01, "The words of demand 3").
 use Prim.Native.Nat.{ℕ, _+_, _*_, _-_, _≤_, _<_}
 use mathlib.Core.Path.{_≡_}
+use mathlib.Core.Bool.{false}
 use mathlib.Core.List.{List}
 use lib.ListN.{length}
 use Rattle.model.specs.declared.Span.{Span}
@@ -8,7 +9,7 @@ use Rattle.model.specs.Map.{Map, whole, decode}
 use Rattle.model.specs.Lines.{total}
 use Rattle.model.specs.Reference.{Reference, parsed, parse}
 use Rattle.model.specs.Reading.{Leg, Readings}
-use Rattle.model.specs.Stretch.{Stretch, remaining}
+use Rattle.model.specs.Stretch.{Stretch, bannedPair, remaining}
 use Rattle.model.specs.Choice.{good, Chosen, firstLeg, lastLeg}
 use Rattle.model.specs.Locate.{located, locate}
 use Rattle.model.specs.Outcome.{ReadOutcome, read, Reads, written, Writes}
@@ -37,7 +38,8 @@ pub record ReadAs (mb bytes lines : List ℕ) (pos neg : Span) : Type 0 where
 
 -- What reading a stretch's bytes on the same map gives: the lines left, in order, and spans that hold what is left of the offsets, "the
 -- first leg for the positive, the last for the negative". A joining fits the bytes; "there is exactly one, and its legs are the
--- stretch's own, cut at the points the writer chose".
+-- stretch's own, cut at the points the writer chose". "What comes back for an accepted stretch is as promised, bans counted" (W1): the lines
+-- have no banned pair, inside a leg or where two meet.
 pub record ReadBack (mb : List ℕ) (s : Stretch) (bytes : List ℕ) : Type 0 where
   pub map : Map
   pub decodes : decode mb ≡ whole map
@@ -50,6 +52,7 @@ pub record ReadBack (mb : List ℕ) (s : Stretch) (bytes : List ℕ) : Type 0 wh
   pub holds-neg : Within (remaining map s .neg) neg (total map (lastLeg legs))
   pub fits : Fits map bytes legs
   pub only : (others : List (List ℕ)) → Fits map bytes others → others ≡ legs
+  pub unbanned : bannedPair map (remaining map s .lines) ≡ false
 
 -- Two offsets no further apart than a span's ends.
 pub record Apart (a b : ℕ) (s : Span) : Type 0 where

@@ -1,21 +1,32 @@
 -- Lists of lines on a map: connected ones, their length, their classes and the attributes of their ends (paper 01, "What counts as a reading").
 use Prim.Native.Nat.{ℕ, _+_, _<_, max}
 use mathlib.Core.Path.{_≡_}
+use mathlib.Core.Bool.{Bool, false, _&&_, _||_}
 use mathlib.Core.List.{List, [], _∷_}
 use lib.ListN.{length, getD}
-use Rattle.model.specs.Map.{Node, Line, Map}
+use lib.Dec.{eqb}
+use Rattle.model.specs.Map.{Node, Line, noLine, Turn, Map}
 use Rattle.model.specs.Field.{sector}
 
 unfoldable pub lineAt : Map → ℕ → Line
-lineAt m l = getD (m .lines) l (record { start = 0; end = 0; length = 0; frc = 0; fow = 0; out = 0; back = 0 })
+lineAt m l = getD (m .lines) l noLine
 
 unfoldable pub nodeAt : Map → ℕ → Node
 nodeAt m v = getD (m .nodes) v (record { lon = 0; lat = 0 })
 
--- Line `k` can stand straight after line `l`.
+-- Whether the turn from line `l` into line `k` is one of some turns, and whether it is banned on a map (W1).
+unfoldable pub turnAmong : List Turn → ℕ → ℕ → Bool
+turnAmong [] l k = false
+turnAmong (t ∷ ts) l k = (eqb (t .first) l && eqb (t .second) k) || turnAmong ts l k
+
+unfoldable pub banned : Map → ℕ → ℕ → Bool
+banned m l k = turnAmong (m .bans) l k
+
+-- Line `k` can stand straight after line `l`: it starts where that ends, and the turn is not banned (W1).
 pub record Follows (m : Map) (l k : ℕ) : Type 0 where
   pub line : k < length (m .lines)
   pub meets : lineAt m l .end ≡ lineAt m k .start
+  pub allowed : banned m l k ≡ false
 
 -- A connected list: one line or more of the map, each of which can stand straight after the one before it.
 pub data Connected (m : Map) : List ℕ → Type 0 where

@@ -1,9 +1,9 @@
--- The depot map: what its bytes hold, or which row of the table refuses them (paper 01, "The depot map"; refusals 2 to 6).
+-- The depot map: what its bytes hold, or which row of the table refuses them (paper 01, "The depot map"; paper 02, W1; refusals 2 to 6 and 23).
 use Prim.Native.Nat.{ℕ, zero, suc, _-_}
 use mathlib.Core.Bool.{Bool, true, false, cond, _&&_, _||_}
 use mathlib.Core.List.{List, [], _∷_, _++_}
-use lib.ListN.{length}
-use lib.Dec.{leb, eqb}
+use lib.ListN.{length, getD}
+use lib.Dec.{ltb, leb, eqb}
 use Rattle.model.specs.Number.{got, faulty, number}
 use Rattle.model.specs.Field.{code}
 use Rattle.model.specs.Refusal.{Refused, row}
@@ -23,11 +23,22 @@ pub record Line : Type 0 where
   pub out : ℕ
   pub back : ℕ
 
+-- A turn from one line into another, which starts where the first ends (W1).
+pub record Turn : Type 0 where
+  pub first : ℕ
+  pub second : ℕ
+
+-- `bans` are the banned turns: "pairs of line numbers, the second not allowed straight after the first" (W1).
 pub record Map : Type 0 where
   pub nodes : List Node
   pub lines : List Line
+  pub bans : List Turn
 
--- "Count of nodes (2 to 512)", "count of lines (1 to 1,024)", "length is in decimetres, 1 to 150,000".
+-- What stands in place of a line that the map does not have.
+abbrev pub noLine : Line
+noLine = record { start = 0; end = 0; length = 0; frc = 0; fow = 0; out = 0; back = 0 }
+
+-- "Count of nodes (2 to 512)", "count of lines (1 to 1,024)", "length is in decimetres, 1 to 150,000". W1: "a count of 0 to 512" pairs.
 abbrev pub greatestNodeCount : ℕ
 greatestNodeCount = 512
 
@@ -36,6 +47,13 @@ greatestLineCount = 1_024
 
 abbrev pub greatestLineLength : ℕ
 greatestLineLength = 150_000
+
+abbrev pub greatestBanCount : ℕ
+greatestBanCount = 512
+
+-- "A number is .. at most 4,294,967,295."
+abbrev pub greatestNumber : ℕ
+greatestNumber = 4_294_967_295
 
 -- What some map bytes are: a map, or refused with a number of the table.
 pub data MapAnswer : Type 0 where
@@ -69,10 +87,33 @@ unfoldable pub clash : List Node → Bool
 clash [] = false
 clash (a ∷ rest) = among a rest || clash rest
 
--- All numbers read: "left-over bytes come last", and then refusal 6.
-unfoldable pub ended : List ℕ → List Node → List Line → MapAnswer
-ended [] nodes lines = cond (clash nodes) (refused (row 6)) (whole (record { nodes = nodes; lines = lines }))
-ended (b ∷ bs) nodes lines = refused (row 2)
+-- Refusal 23 (W1): "a pair names no line, or its second line does not start where its first ends". This says of a pair that neither is so.
+unfoldable pub fitting : List Line → Turn → Bool
+fitting lines t =
+    ltb (t .first) (length lines) && (ltb (t .second) (length lines) && eqb (getD lines (t .first) noLine .end) (getD lines (t .second) noLine .start))
+
+-- The same of each pair.
+unfoldable pub allFitting : List Line → List Turn → Bool
+allFitting lines [] = true
+allFitting lines (t ∷ ts) = fitting lines t && allFitting lines ts
+
+-- All numbers read: "left-over bytes come last", then refusal 6, and "after 6" refusal 23 (W1).
+unfoldable pub ended : List ℕ → List Node → List Line → List Turn → MapAnswer
+ended [] nodes lines bans =
+    cond (clash nodes) (refused (row 6)) (cond (allFitting lines bans) (whole (record { nodes = nodes; lines = lines; bans = bans })) (refused (row 23)))
+ended (b ∷ bs) nodes lines bans = refused (row 2)
+
+-- One banned turn: its two numbers; then `rest`. What they name is asked when the map is read whole, and not here (W1).
+unfoldable pub readBan : List ℕ → (Turn → List ℕ → MapAnswer) → MapAnswer
+readBan bs rest =
+    field bs 0 greatestNumber (row 2) λ first bs₁.
+    field bs₁ 0 greatestNumber (row 2) λ second bs₂.
+    rest (record { first = first; second = second }) bs₂
+
+-- `left` banned turns more, after those read so far (W1).
+unfoldable pub decodeBans : ℕ → List ℕ → List Node → List Line → List Turn → MapAnswer
+decodeBans zero bs nodes lines bans = ended bs nodes lines bans
+decodeBans (suc left) bs nodes lines bans = readBan bs λ ban after. decodeBans left after nodes lines (bans ++ ban ∷ [])
 
 -- One line: its seven numbers, the node numbers up to `last`; then `rest`. "Equal ends are a fault of the end node's number."
 unfoldable pub readLine : ℕ → List ℕ → (Line → List ℕ → MapAnswer) → MapAnswer
@@ -90,9 +131,10 @@ readLine last bs rest =
           rest (record { start = start; end = end; length = len; frc = frc; fow = fow; out = out; back = back }) bs₇
     ]
 
--- `left` lines more, after the lines read so far.
+-- `left` lines more, after the lines read so far; then the banned turns: "after the lines, a map lists a count of 0 to 512" of them, "the count's
+-- range being 3" (W1).
 unfoldable pub decodeLines : ℕ → List ℕ → List Node → List Line → MapAnswer
-decodeLines zero bs nodes lines = ended bs nodes lines
+decodeLines zero bs nodes lines = field bs 0 greatestBanCount (row 3) λ count bs₁. decodeBans count bs₁ nodes lines []
 decodeLines (suc left) bs nodes lines =
     readLine (length nodes - 1) bs λ line after. decodeLines left after nodes (lines ++ line ∷ [])
 

@@ -1,4 +1,4 @@
--- What every call with a map asks first: the work area (refusal 1), then the map (2 to 6) (paper 01, "Refused, by place").
+-- What every call with a map asks first: the work area (refusal 1), then the map (2 to 6, and 23 of W1) (paper 01, "Refused, by place").
 use Prim.Native.Nat.{ℕ}
 use mathlib.Core.Path.{_≡_}
 use mathlib.Core.Bool.{Bool, true, false}
@@ -13,7 +13,7 @@ abbrev pub OnMap : {Outcome : Type 0} → (Refused → Outcome) → (Map → Out
 OnMap refused Asks (whole m) o = Asks m o
 OnMap refused Asks (MapAnswer.refused r) o = o ≡ refused r
 
--- Before it: "work area under 12,288 numbers of 32 bits".
+-- Before it: a work area that is too short.
 abbrev pub OnArea : {Outcome : Type 0} → (Refused → Outcome) → (Map → Outcome → Type 0) → Bool → List ℕ → Outcome → Type 0
 OnArea refused Asks true mb o = o ≡ refused (row 1)
 OnArea refused Asks false mb o = OnMap refused Asks (decode mb) o

@@ -1,6 +1,7 @@
 -- What the reader and the writer come to: for each outcome, when it is the one (paper 01, "Refused, by place").
 use Prim.Native.Nat.{ℕ, _+_, _≤_, _<_}
 use mathlib.Core.Path.{_≡_}
+use mathlib.Core.Bool.{Bool, true, false}
 use mathlib.Core.List.{List, [], _∷_}
 use lib.ListN.{length}
 use Rattle.model.specs.declared.Span.{Span}
@@ -9,7 +10,7 @@ use Rattle.model.specs.Refusal.{Refused, row, rowAt}
 use Rattle.model.specs.Map.{Map, MapAnswer}
 use Rattle.model.specs.Lines.{total}
 use Rattle.model.specs.Reference.{Reference, ParseAnswer, parsed, parse}
-use Rattle.model.specs.Reading.{Leg, Only, Several, Unread, joined}
+use Rattle.model.specs.Reading.{Leg, Only, Several, Unread, joined, bannedMeeting}
 use Rattle.model.specs.Stretch.{Stretch, StretchAnswer, remains, checkStretch}
 use Rattle.model.specs.Choice.{good, Choice, Chosen, firstLeg, lastLeg, stretchBytes}
 use Rattle.model.specs.Locate.{locate, located, no-node}
@@ -40,7 +41,7 @@ pub data ReadOutcome : Type 0 where
   read : List ℕ → Span → Span → ReadOutcome
   refused : Refused → ReadOutcome
 
--- Once every leg is read, for a line buffer of `room` numbers: 19, 20, or accepted.
+-- Once every leg is read and no banned turn stands where two meet, for a line buffer of `room` numbers: 19, 20, or accepted.
 pub data ReadEnd (m : Map) (r : Reference) (room : ℕ) (lss : List (List ℕ)) : ReadOutcome → Type 0 where
   no-pos : NoOffset (total m (firstLeg lss)) (r .pos) → ReadEnd m r room lss (refused (row 19))
   no-neg : NoOffset (total m (lastLeg lss)) (r .neg) → ReadEnd m r room lss (refused (row 19))
@@ -51,15 +52,20 @@ pub data ReadEnd (m : Map) (r : Reference) (room : ℕ) (lss : List (List ℕ)) 
   accepted : {pos neg : Span} → SpansRead m r lss pos neg → pos .least + neg .least < total m (joined lss) →
       length (joined lss) ≤ room → ReadEnd m r room lss (read (joined lss) pos neg)
 
--- On a map, for a reference taken apart: 16, then 17 or 18, then the rest.
+-- Once every leg is read: 22 ("after 18", W1) where a banned turn stands where two legs meet, or the rest.
+abbrev pub ReadJoined : Bool → Map → Reference → ℕ → List (List ℕ) → ReadOutcome → Type 0
+ReadJoined true m r room lss o = o ≡ refused (row 22)
+ReadJoined false m r room lss o = ReadEnd m r room lss o
+
+-- On a map, for a reference taken apart: 16, then 17 or 18, then 22 or the rest.
 pub data ReadOn (m : Map) (r : Reference) (room : ℕ) : ReadOutcome → Type 0 where
   no-point : {k : ℕ} → locate m r ≡ no-node k → ReadOn m r room (refused (rowAt 16 k))
   no-leg : {legs : List Leg} {n k : ℕ} → locate m r ≡ located legs → LegsRead m 0 legs (failed n k) →
       ReadOn m r room (refused (rowAt n k))
   every-leg : {legs : List Leg} {lss : List (List ℕ)} {o : ReadOutcome} →
-      locate m r ≡ located legs → LegsRead m 0 legs (every lss) → ReadEnd m r room lss o → ReadOn m r room o
+      locate m r ≡ located legs → LegsRead m 0 legs (every lss) → ReadJoined (bannedMeeting m lss) m r room lss o → ReadOn m r room o
 
--- Row by row: the reference (12 to 15) after the map (2 to 6) after the work area (1).
+-- Row by row: the reference (12 to 15) after the map (2 to 6, 23) after the work area (1).
 abbrev pub ReadParsed : Map → ParseAnswer → ℕ → ReadOutcome → Type 0
 ReadParsed m (parsed r) room o = ReadOn m r room o
 ReadParsed m (ParseAnswer.refused r) room o = o ≡ refused r
@@ -84,7 +90,7 @@ pub data WriteOn (m : Map) (s : Stretch) (room : ℕ) : WriteOutcome → Type 0 
   accepted : {lss : List (List ℕ)} → Chosen (good m) (s .lines) lss → length (stretchBytes m lss s) ≤ room →
       WriteOn m s room (written (stretchBytes m lss s))
 
--- Row by row: the stretch as given (7 to 9) after the map (2 to 6) after the work area (1).
+-- Row by row: the stretch as given (7, 8, 21, 9) after the map (2 to 6, 23) after the work area (1).
 abbrev pub WriteStretch : Map → StretchAnswer → ℕ → WriteOutcome → Type 0
 WriteStretch m (remains s) room o = WriteOn m s room o
 WriteStretch m (StretchAnswer.refused r) room o = o ≡ refused r

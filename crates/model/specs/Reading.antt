@@ -1,10 +1,11 @@
 -- What a reading is (paper 01, "What counts as a reading"). Leg and reading are the paper's words.
 use Prim.Native.Nat.{ℕ, _≤_}
 use mathlib.Core.Path.{_≡_}
+use mathlib.Core.Bool.{Bool, false, _||_}
 use mathlib.Core.List.{List, [], _∷_, _++_}
 use Rattle.model.specs.Map.{Map}
 use Rattle.model.specs.Field.{distance}
-use Rattle.model.specs.Lines.{lineAt, Connected, total, lowest, firstOf, lastOf, LineAttributes, leaving, arriving}
+use Rattle.model.specs.Lines.{lineAt, banned, Connected, total, lowest, firstOf, lastOf, LineAttributes, leaving, arriving}
 
 -- How a leg must end: with any line, or, on the last leg, with one that matches "the last P and R's sector".
 pub data Arrival : Type 0 where
@@ -28,7 +29,8 @@ Arrives m (matching a) ls = arriving m (lastOf ls) ≡ a
 abbrev pub greatestLegLength : ℕ
 greatestLegLength = 150_000
 
--- "All such connected lists (D aside)": every condition but D and least length.
+-- "All such connected lists (D aside)": every condition but D and least length. "No leg's reading may contain a banned pair, and least length
+-- is taken among lists without one" (W1): a connected list has none, since each of its lines follows the one before it.
 pub record Allowed (m : Map) (leg : Leg) (ls : List ℕ) : Type 0 where
   pub connected : Connected m ls
   pub starts : lineAt m (firstOf ls) .start ≡ leg .from
@@ -75,3 +77,9 @@ pub data Readings (m : Map) : List Leg → List (List ℕ) → Type 0 where
 unfoldable pub joined : List (List ℕ) → List ℕ
 joined [] = []
 joined (ls ∷ lss) = ls ++ joined lss
+
+-- Refusal 22 (W1): "the joined list has one where two legs meet". The pair is the last line of a leg and the first of the next.
+unfoldable pub bannedMeeting : Map → List (List ℕ) → Bool
+bannedMeeting m [] = false
+bannedMeeting m (ls ∷ []) = false
+bannedMeeting m (ls ∷ ks ∷ lss) = banned m (lastOf ls) (firstOf ks) || bannedMeeting m (ks ∷ lss)

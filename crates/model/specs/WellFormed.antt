@@ -2,9 +2,9 @@
 use Prim.Native.Nat.{ℕ, _≤_, _<_}
 use mathlib.Core.Path.{_≡_}
 use mathlib.Core.Logic.{_≢_}
-use mathlib.Core.Bool.{false}
+use mathlib.Core.Bool.{true, false}
 use lib.ListN.{length}
-use Rattle.model.specs.Map.{Node, Line, Map, greatestNodeCount, greatestLineCount, greatestLineLength, clash}
+use Rattle.model.specs.Map.{Node, Line, Map, greatestNodeCount, greatestLineCount, greatestLineLength, greatestBanCount, clash, allFitting}
 use Rattle.model.specs.Lines.{lineAt, nodeAt}
 
 pub record NodeOk (a : Node) : Type 0 where
@@ -30,3 +30,5 @@ pub record WellFormed (m : Map) : Type 0 where
   pub one-line : 1 ≤ length (m .lines)
   pub few-lines : length (m .lines) ≤ greatestLineCount
   pub distinct : clash (m .nodes) ≡ false
+  pub few-bans : length (m .bans) ≤ greatestBanCount
+  pub bans-fit : allFitting (m .lines) (m .bans) ≡ true

@@ -5,11 +5,11 @@ use mathlib.Core.List.{List, _++_}
 use lib.ListN.{length, drop, replicate}
 use lib.Dec.{ltb}
 
--- "Work area under 12,288 numbers of 32 bits" (refusal 1).
+-- "The work area becomes 14,336 numbers, for refusal 1 and for the zeros after a call" (W1).
 abbrev pub workLength : ℕ
-workLength = 12_288
+workLength = 14_336
 
--- "After every call but refusal 1 the first 12,288 of the work area are zero and the rest unchanged; refusal 1 changes nothing."
+-- "After every call but refusal 1 the first" 14,336 "of the work area are zero and the rest unchanged; refusal 1 changes nothing."
 unfoldable pub cleared : List ℕ → List ℕ
 cleared work = cond (ltb (length work) workLength) work (replicate workLength 0 ++ drop workLength work)
 

@@ -4,7 +4,7 @@ ghost use Rattle.model.specs.Refusal.{numberOf, placeOf, refusalOf};
 
 pub mod limits;
 
-// Why a call is refused: a variant for each number of the table "Refused, by place" of paper 01, in its order.
+// Why a call is refused: a variant for each number of the table "Refused, by place" of paper 01 and of paper 02, in the order of the numbers.
 // `refusalOf` in specs/Refusal.antt gives the number, and the point or leg for 16, 17 and 18.
 pub enum Refusal {
     WorkAreaShort,
@@ -27,6 +27,9 @@ pub enum Refusal {
     SeveralReadings(u32),
     NoOffset,
     LinesShort,
+    StretchBan,
+    JoinedBan,
+    MapBan,
 }
 
 // The least and the greatest offset, in decimetres, that an offset byte may stand for. 0 and 0 where there is no byte.
@@ -75,6 +78,9 @@ pub fn row_of(why: Refusal) -> Row
         Refusal::SeveralReadings(place) => Row(18, place),
         Refusal::NoOffset => Row(19, 0),
         Refusal::LinesShort => Row(20, 0),
+        Refusal::StretchBan => Row(21, 0),
+        Refusal::JoinedBan => Row(22, 0),
+        Refusal::MapBan => Row(23, 0),
     }
 }
 

@@ -1,12 +1,14 @@
 // The papers' numbers that the code needs. Each stands in specs/ once, under the same name.
 
 // How many numbers of the work area a call uses (specs/Work.antt).
-pub const WORK_LENGTH: usize = 12_288;
+pub const WORK_LENGTH: usize = 14_336;
 
-// The greatest count of nodes and of lines, and the greatest length of a line in decimetres (specs/Map.antt).
+// The greatest count of nodes, of lines and of banned turns, and the greatest length of a line in decimetres (specs/Map.antt).
 pub const GREATEST_NODE_COUNT: u32 = 512;
 
 pub const GREATEST_LINE_COUNT: u32 = 1_024;
+
+pub const GREATEST_BAN_COUNT: u32 = 512;
 
 pub const GREATEST_LINE_LENGTH: u32 = 150_000;
 

@@ -6,7 +6,7 @@ use lib.ListN.{length}
 use Rattle.model.specs.Refusal.{refusalOf}
 use Rattle.model.specs.Map.{Map, whole, refused, decode}
 use Rattle.buffers.specs.Kept.{Kept}
-use Rattle.work_area.specs.Area.{searchTo}
+use Rattle.model.specs.Work.{workLength}
 use Rattle.search.specs.Area.{Set}
 use Rattle.opening.specs.declared.Opened.{Opened}
 use Rattle.opening.specs.declared.Opened.the-variants.{Ready, Refused}
@@ -22,7 +22,7 @@ abbrev pub OpenAnswers : List ℕ → List ℕ → Opened → Type 0
 OpenAnswers bytes v (Ready nodes lines) = ReadyMap bytes v nodes lines
 OpenAnswers bytes v (Refused why) = decode bytes ≡ refused (refusalOf why)
 
--- The work area was `w` and is `v`: behind its cells nothing is changed, after a refusal too.
+-- The work area was `w` and is `v`: behind the numbers that a call uses nothing is changed, after a refusal too.
 pub record MapOpened (bytes w v : List ℕ) (r : Opened) : Type 0 where
   pub answers : OpenAnswers bytes v r
-  pub kept : Kept 0 searchTo w v
+  pub kept : Kept 0 workLength w v

@@ -31,7 +31,7 @@ fn show(map: &[u8], reference: &[u8]) -> usize
     hand_over(&text[..length])
 }
 
-// A file that is longer than its buffer is cut, and still gets the answer of its whole contents: a map's bytes may be cut anywhere behind the first 40,970,
+// A file that is longer than its buffer is cut, and still gets the answer of its whole contents: a map's bytes may be cut anywhere behind the first 46,095,
 // a reference's anywhere behind the first 459 (`map-cut` and `reference-cut` in model/proofs/Cut.antt).
 fn main() {
     let mut map = io::large_buffer();

@@ -1,6 +1,7 @@
 -- Answers to the definitions' questions, put together from those of the parts.
 use Prim.Native.Nat.{ℕ, _≤_, _<_}
 use mathlib.Core.Path.{_≡_, refl, sym, subst}
+use mathlib.Core.Bool.{Bool, true, false}
 use mathlib.Core.List.{List}
 use native.Mathlib.Omega.{arith}
 use lib.ListN.{length, take, drop}
@@ -8,9 +9,9 @@ use lib.Seq.{take-at}
 use Rattle.model.specs.Map.{Map, MapAnswer, decode}
 use Rattle.model.specs.Refusal.{refusalOf}
 use Rattle.model.specs.Reference.{Reference, ParseAnswer, parse}
-use Rattle.model.specs.Reading.{Leg, joined}
+use Rattle.model.specs.Reading.{Leg, joined, bannedMeeting}
 use Rattle.model.specs.Locate.{located, no-node, locate}
-use Rattle.model.specs.Outcome.{LegsRead, every, failed, ReadOutcome, read, ReadEnd, ReadOn, no-point, no-leg, every-leg, ReadParsed, ReadMap}
+use Rattle.model.specs.Outcome.{LegsRead, every, failed, ReadOutcome, read, ReadEnd, ReadJoined, ReadOn, no-point, no-leg, every-leg, ReadParsed, ReadMap}
 use Rattle.model.specs.Work.{workLength, cleared, placed}
 use Rattle.model.specs.Call.{linesAfter, ReadAnswers, lines, refusal, ReadAnswered, ReadCall}
 use Rattle.model.specs.declared.Refusal.{Refusal}
@@ -76,6 +77,22 @@ count-of : {a : ReadAnswer} {o : ReadOutcome} {count : ℕ} {ls : List ℕ} {p n
 count-of {count = count} {ls = ls} (lines {ls = ks}) e f = let same : ks ≡ ls = cc in let k : length ks ≡ count = cc in rw (sym same) k
 count-of refusal e f = absurd (let z : _≡_ {A = ℕ} 0 1 = cc in omega arith)
 
+-- An answer that a reference is read tells an outcome with all lines, for which there is room.
+abbrev ReadAll : ℕ → List (List ℕ) → ReadOutcome → Type 0
+ReadAll room lists o = (pos : Span) × (neg : Span) × (o ≡ read (joined lists) pos neg) × (length (joined lists) ≤ room)
+
+module _ (m : Map) (r : Reference) (room : ℕ) (lists : List (List ℕ)) {a : ReadAnswer} {count : ℕ} {p n : Span} where
+  end-read : (o : ReadOutcome) → ReadEnd m r room lists o → ReadAnswers a o → a ≡ Read count p n → ReadAll room lists o
+  end-read o (ReadEnd.no-pos x) h e = absurd (not-both h e refl)
+  end-read o (ReadEnd.no-neg x) h e = absurd (not-both h e refl)
+  end-read o (ReadEnd.too-far s x) h e = absurd (not-both h e refl)
+  end-read o (ReadEnd.no-room s x y) h e = absurd (not-both h e refl)
+  end-read o (ReadEnd.accepted {pos = pos} {neg = neg} s x y) h e = (pos, neg, refl, y)
+
+  pub read-as : (o : ReadOutcome) (t : Bool) → ReadJoined t m r room lists o → ReadAnswers a o → a ≡ Read count p n → ReadAll room lists o
+  read-as o true j h e = absurd (not-both h e j)
+  read-as o false j h e = end-read o j h e
+
 -- ---- the answer for a reference taken apart, from those on its points and legs
 
 module _ {m : Map} {r : Reference} {room : ℕ} where
@@ -100,13 +117,10 @@ module _ {m : Map} {r : Reference} {room : ℕ} where
       unfolding linesAfter
       all-read {before} {after} e put = subst (λ (b : ReadAnswer). ReadAnswered (ReadOn m r room) before after b) e (go (ended .outcome) (ended .ends) (ended .answers))
         where
-          go : (o : ReadOutcome) → ReadEnd m r room lists o → ReadAnswers a o → ReadAnswered (ReadOn m r room) before after a
-          go o (ReadEnd.no-pos x) h = absurd (not-both h e refl)
-          go o (ReadEnd.no-neg x) h = absurd (not-both h e refl)
-          go o (ReadEnd.too-far s x) h = absurd (not-both h e refl)
-          go o (ReadEnd.no-room s x y) h = absurd (not-both h e refl)
-          go o (ReadEnd.accepted s x y) h =
-              record { outcome = o; asked = every-leg found all (ReadEnd.accepted s x y); answers = h; buffer-after = put }
+          go : (o : ReadOutcome) → ReadJoined (bannedMeeting m lists) m r room lists o → ReadAnswers a o → ReadAnswered (ReadOn m r room) before after a
+          go o j h =
+              let z = read-as m r room lists o (bannedMeeting m lists) j h e in
+              record { outcome = o; asked = every-leg found all j; answers = h; buffer-after = rw (z .2) put }
 
       pub none-read : {before : List ℕ} {r′ : Refusal} → a ≡ Refused r′ → ReadAnswered (ReadOn m r room) before before a
       none-read {before} e =
@@ -120,14 +134,9 @@ module _ {m : Map} {r : Reference} {room : ℕ} where
 -- The count of lines of an accepted reference, and that there is room for them.
 pub counted : {m : Map} {r : Reference} {room : ℕ} {lists : List (List ℕ)} {a : ReadAnswer} {count : ℕ} {pos neg : Span} → Ended m r room lists a →
     a ≡ Read count pos neg → (length (joined lists) ≡ count) × (count ≤ room)
-counted {m} {r} {room} {lists} {a} {count} ended e = go (ended .outcome) (ended .ends) (ended .answers)
-  where
-    go : (o : ReadOutcome) → ReadEnd m r room lists o → ReadAnswers a o → (length (joined lists) ≡ count) × (count ≤ room)
-    go o (ReadEnd.no-pos x) h = absurd (not-both h e refl)
-    go o (ReadEnd.no-neg x) h = absurd (not-both h e refl)
-    go o (ReadEnd.too-far s x) h = absurd (not-both h e refl)
-    go o (ReadEnd.no-room s x y) h = absurd (not-both h e refl)
-    go o (ReadEnd.accepted s x y) h = let k = count-of h e refl in (k, omega arith)
+counted {m} {r} {room} {lists} ended e =
+    let k = read-as m r room lists (ended .outcome) (bannedMeeting m lists) (ended .ends) (ended .answers) e in
+    (count-of (ended .answers) e (k .2), omega (arith, k .3, count-of (ended .answers) e (k .2)))
 
 -- ---- a map, or a reference's bytes, that are refused
 

@@ -1,14 +1,15 @@
--- The answer once every leg is read, from the spans of the two offsets.
+-- The answer once every leg is read: a banned turn where two meet, or from the spans of the two offsets.
 use Prim.Native.Nat.{ℕ, _+_, _≤_, _<_}
-use mathlib.Core.Path.{_≡_, sym, subst}
+use mathlib.Core.Path.{_≡_, refl, sym, subst, _∙_}
+use mathlib.Core.Bool.{Bool, true, false}
 use mathlib.Core.List.{List}
 use native.Mathlib.Omega.{arith}
 use Rattle.model.specs.Map.{Map}
 use Rattle.model.specs.Refusal.{row, refusalOf}
 use Rattle.model.specs.Reference.{absent, byte, Reference}
-use Rattle.model.specs.Reading.{joined}
+use Rattle.model.specs.Reading.{joined, bannedMeeting}
 use Rattle.model.specs.Span.{SpanRead, unflagged, NoOffset}
-use Rattle.model.specs.Outcome.{SpansRead, ReadOutcome, read, ReadEnd}
+use Rattle.model.specs.Outcome.{SpansRead, ReadOutcome, read, ReadEnd, ReadJoined}
 use Rattle.model.specs.Call.{lines, refusal}
 use Rattle.model.specs.declared.Span.{Span}
 use Rattle.model.specs.declared.ReadAnswer.the-variants.{Read, Refused}
@@ -40,16 +41,31 @@ spans : {m : Map} {r : Reference} {lists : List (List ℕ)} {s : Sums} {o u : Of
 spans {pos = pos} {neg = neg} of first last e f =
     record { pos-read = rw (of .first) (first .between pos e); neg-read = rw (of .last) (last .between neg f) }
 
+-- Where no banned turn stands, the rest is asked.
+not-barred : {m : Map} {r : Reference} {room : ℕ} {lists : List (List ℕ)} {s : Sums} (o : ReadOutcome) → SumsOf m lists s → s .barred ≡ false →
+    ReadEnd m r room lists o → ReadJoined (bannedMeeting m lists) m r room lists o
+not-barred {m} {r} {room} {lists} o of free end = subst (λ (t : Bool). ReadJoined t m r room lists o) (sym (of .barred ∙ free)) end
+
 module _ {m : Map} {r : Reference} {room : ℕ} {lists : List (List ℕ)} {s : Sums} (of : SumsOf m lists s) where
+  pub banned-meeting : s .barred ≡ true → Ended m r room lists (Refused why.JoinedBan)
+  unfolding refusalOf
+  banned-meeting e =
+      record {
+        outcome = ReadOutcome.refused (row 22);
+        ends = subst (λ (t : Bool). ReadJoined t m r room lists (ReadOutcome.refused (row 22))) (sym (of .barred ∙ e)) refl;
+        answers = refusal {why = why.JoinedBan};
+      }
+
+module _ {m : Map} {r : Reference} {room : ℕ} {lists : List (List ℕ)} {s : Sums} (of : SumsOf m lists s) (free : s .barred ≡ false) where
   pub no-positive : {o : Offsets} → SpansOf (s .first) (r .pos) o → o ≡ Nowhere → Ended m r room lists (Refused why.NoOffset)
   unfolding refusalOf
   no-positive spans e =
-      record { outcome = ReadOutcome.refused (row 19); ends = ReadEnd.no-pos (rw (of .first) (spans .nowhere e)); answers = refusal {why = why.NoOffset} }
+      record { outcome = ReadOutcome.refused (row 19); ends = not-barred _ of free (ReadEnd.no-pos (rw (of .first) (spans .nowhere e))); answers = refusal {why = why.NoOffset} }
 
   pub no-negative : {o : Offsets} → SpansOf (s .last) (r .neg) o → o ≡ Nowhere → Ended m r room lists (Refused why.NoOffset)
   unfolding refusalOf
   no-negative spans e =
-      record { outcome = ReadOutcome.refused (row 19); ends = ReadEnd.no-neg (rw (of .last) (spans .nowhere e)); answers = refusal {why = why.NoOffset} }
+      record { outcome = ReadOutcome.refused (row 19); ends = not-barred _ of free (ReadEnd.no-neg (rw (of .last) (spans .nowhere e))); answers = refusal {why = why.NoOffset} }
 
   module _ {o u : Offsets} {pos neg : Span} (first : SpansOf (s .first) (r .pos) o) (last : SpansOf (s .last) (r .neg) u) (e : o ≡ Between pos) (f : u ≡ Between neg) where
     pub too-far : s .length ≤ pos .least + neg .least → Ended m r room lists (Refused why.NoOffset)
@@ -57,7 +73,7 @@ module _ {m : Map} {r : Reference} {room : ℕ} {lists : List (List ℕ)} {s : S
     too-far h =
         record {
           outcome = ReadOutcome.refused (row 19);
-          ends = ReadEnd.too-far (spans of first last e f) (omega (arith, of .sum));
+          ends = not-barred _ of free (ReadEnd.too-far (spans of first last e f) (omega (arith, of .sum)));
           answers = refusal {why = why.NoOffset};
         }
 
@@ -66,7 +82,7 @@ module _ {m : Map} {r : Reference} {room : ℕ} {lists : List (List ℕ)} {s : S
     no-room h k =
         record {
           outcome = ReadOutcome.refused (row 20);
-          ends = ReadEnd.no-room (spans of first last e f) (omega (arith, of .sum)) (omega (arith, of .count));
+          ends = not-barred _ of free (ReadEnd.no-room (spans of first last e f) (omega (arith, of .sum)) (omega (arith, of .count)));
           answers = refusal {why = why.LinesShort};
         }
 
@@ -74,6 +90,6 @@ module _ {m : Map} {r : Reference} {room : ℕ} {lists : List (List ℕ)} {s : S
     accepted h k =
         record {
           outcome = read (joined lists) pos neg;
-          ends = ReadEnd.accepted (spans of first last e f) (omega (arith, of .sum)) (omega (arith, of .count));
+          ends = not-barred _ of free (ReadEnd.accepted (spans of first last e f) (omega (arith, of .sum)) (omega (arith, of .count)));
           answers = rw (sym (of .count)) lines;
         }

@@ -1,4 +1,4 @@
-// What is asked once every leg is read: the offsets' spans, and whether the lines fit their buffer.
+// What is asked once every leg is read: whether a banned turn stands where two meet, the offsets' spans, and whether the lines fit their buffer.
 use fields::offset::Offsets;
 use fields::offset::span_of;
 use model::ReadAnswer;
@@ -34,6 +34,9 @@ pub fn answer(bytes: &[u8], points: usize, sums: Sums, room: usize) -> ReadAnswe
     requires { ⌜ SoundBytes (now bytes) points ⌝ }
     ensures { λ r. ⌜ ((m : Map) → (lists : List (List ℕ)) → SumsOf m lists sums → Ended m (referenceAt (now (bytes .entry)) points) room lists r) ⌝ }
 {
+    if sums.barred {
+        return ReadAnswer::Refused(Refusal::JoinedBan);
+    }
     let Offsets::Between(positive) = span(sums.first, positive_offset(bytes, points)) else {
         return ReadAnswer::Refused(Refusal::NoOffset);
     };

@@ -141,7 +141,7 @@ fn on_area(map: &[u8], reference: &[u8], work: &mut [u32], out: &mut [u32]) -> R
 }
 
 // Reads a reference on a map. An answer that it is read has the count of lines, which stand first in `lines`, and the spans of the two offsets.
-// The work area needs 12,288 numbers. They are 0 afterwards.
+// The work area needs 14,336 numbers. They are 0 afterwards.
 pub fn read(map: &[u8], reference: &[u8], work: &mut [u32], lines: &mut [u32]) -> ReadAnswer
     ensures { λ r. ⌜ ReadCall (now (map .entry)) (now (reference .entry)) (now (work .entry)) (now (lines .entry)) r (now (work .exit)) (now (lines .exit)) ⌝ }
 {

@@ -1,24 +1,27 @@
 -- The legs read one after another: what is known after k of them, with one more, at a leg that fails, and at the end.
-use Prim.Native.Nat.{ℕ, _+_, _*_, _≤_}
-use mathlib.Core.Path.{_≡_, refl, sym, ap, subst, _∙_}
+use Prim.Native.Nat.{ℕ, _+_, _*_, _≤_, _<_}
+use mathlib.Core.Path.{_≡_, refl, sym, ap, ap₂, subst, _∙_}
+use mathlib.Core.Bool.{Bool, false, cond, _||_, or-false, or-assoc}
 use mathlib.Core.List.{List, [], _∷_, _++_, append-nil, append-assoc}
 use native.Mathlib.Omega.{arith}
 use lib.ListN.{length, take, drop, length-append}
 use lib.Seq.{take-at, drop-append-add, drop-drop}
+use lib.Dec.{eqb}
 use borrow.Author.Tests.{ne-eqb}
 use Rattle.model.specs.Map.{Map}
-use Rattle.model.specs.Lines.{Connected, single, linked, total}
+use Rattle.model.specs.Lines.{banned, Connected, single, linked, total, firstOf, lastOf}
 use Rattle.model.specs.WellFormed.{WellFormed}
 use Rattle.model.specs.Choice.{firstLeg, lastLeg}
-use Rattle.model.specs.Reading.{Leg, Only, joined, greatestLegLength}
+use Rattle.model.specs.Reading.{Leg, Only, joined, bannedMeeting, greatestLegLength}
 use Rattle.model.specs.Outcome.{LegsRead, none, only, later, every, failed}
 use Rattle.model.specs.Work.{placed}
 use Rattle.model.proofs.Skipping.{total-append}
+use Rattle.model.proofs.Joining.{last-known}
 use Rattle.fields.specs.declared.leg.Reading.{Reading}
 use Rattle.legs.specs.Verdict.{OneList, TwoLists, Says}
 use Rattle.search.specs.Area.{Set}
 use Rattle.reference_legs.specs.declared.Sums.{Sums}
-use Rattle.reference_legs.specs.Legs.{sumsWith, SumsOf, Laid, AllRead}
+use Rattle.reference_legs.specs.Legs.{barredWith, sumsWith, SumsOf, Laid, AllRead}
 use Rattle.model.specs.Reading as definitions
 use Rattle.fields.specs.declared.leg.Verdict.the-variants as verdict
 
@@ -52,25 +55,56 @@ last-more [] ls = refl
 last-more (ks ∷ []) ls = refl
 last-more (ks ∷ js ∷ lss) ls = last-more (js ∷ lss) ls
 
-sums-none : (m : Map) → SumsOf m [] (record { count = 0; length = 0; first = 0; last = 0 })
-unfolding joined firstLeg lastLeg total
-sums-none m = record { count = refl; sum = refl; first = refl; last = refl }
+-- The pair where the legs before meet one more.
+meeting-on : (m : Map) (ks : List ℕ) (lss : List (List ℕ)) (ls : List ℕ) →
+    bannedMeeting m ((ks ∷ lss) ++ ls ∷ []) ≡ (bannedMeeting m (ks ∷ lss) || banned m (lastOf (lastLeg (ks ∷ lss))) (firstOf ls))
+unfolding bannedMeeting lastLeg
+meeting-on m ks [] ls = or-false (banned m (lastOf ks) (firstOf ls))
+meeting-on m ks (js ∷ lss) ls =
+    ap (λ (b : Bool). banned m (lastOf ks) (firstOf js) || b) (meeting-on m js lss ls)
+    ∙ sym (or-assoc (banned m (lastOf ks) (firstOf js)) (bannedMeeting m (js ∷ lss)) (banned m (lastOf (lastLeg (js ∷ lss))) (firstOf ls)))
 
-first-more : (m : Map) (lss : List (List ℕ)) (ls : List ℕ) (s : Sums) (r : Reading) → total m (firstLeg lss) ≡ s .first → total m ls ≡ r .length →
-    total m (firstLeg (lss ++ ls ∷ [])) ≡ sumsWith s (length lss) r .first
+meeting-more : (m : Map) (lss : List (List ℕ)) (ls : List ℕ) →
+    bannedMeeting m (lss ++ ls ∷ []) ≡ (bannedMeeting m lss || cond (eqb (length lss) 0) false (banned m (lastOf (lastLeg lss)) (firstOf ls)))
+unfolding bannedMeeting
+meeting-more m [] ls = refl
+meeting-more m (ks ∷ lss) ls = rw (ne-eqb (length (ks ∷ lss)) 0 (λ z. omega arith)) (meeting-on m ks lss ls)
+
+abbrev none-yet : Sums
+none-yet = record { count = 0; length = 0; first = 0; last = 0; arrives = 0; barred = false }
+
+sums-none : (m : Map) → SumsOf m [] none-yet
+unfolding joined firstLeg lastLeg total lastOf bannedMeeting
+sums-none m = record { count = refl; sum = refl; first = refl; last = refl; arrives = refl; barred = refl }
+
+first-more : (m : Map) (lss : List (List ℕ)) (ls : List ℕ) (s : Sums) (r : Reading) (b : Bool) → total m (firstLeg lss) ≡ s .first →
+    total m ls ≡ r .length → total m (firstLeg (lss ++ ls ∷ [])) ≡ sumsWith s (length lss) r b .first
 unfolding firstLeg sumsWith
-first-more m [] ls s r e f = f
-first-more m (ks ∷ lss) ls s r e f = rw (ne-eqb (length (ks ∷ lss)) 0 (λ z. omega arith)) e
+first-more m [] ls s r b e f = f
+first-more m (ks ∷ lss) ls s r b e f = rw (ne-eqb (length (ks ∷ lss)) 0 (λ z. omega arith)) e
 
-sums-more : {m : Map} {lss : List (List ℕ)} (ls : List ℕ) {s : Sums} {k : ℕ} (r : Reading) → length lss ≡ k → SumsOf m lss s → total m ls ≡ r .length →
-    length ls ≡ r .count → SumsOf m (lss ++ ls ∷ []) (sumsWith s k r)
+-- Whether a turn is banned where the legs meet, as the code asks it.
+barred-more : {m : Map} {lss : List (List ℕ)} (ls : List ℕ) {s : Sums} {k : ℕ} (r : Reading) → length lss ≡ k → SumsOf m lss s → firstOf ls ≡ r .first →
+    bannedMeeting m (lss ++ ls ∷ []) ≡ barredWith m s k r
+unfolding barredWith
+barred-more {m} {lss} ls {s} {k} r many sums first =
+    meeting-more m lss ls
+    ∙ ap₂ _||_ (sums .barred)
+    (ap₂ (λ (n : ℕ) (b : Bool). cond (eqb n 0) false b) many (ap₂ (banned m) (sums .arrives) first))
+
+sums-more : {m : Map} {P : List ℕ → Type 0} {lss : List (List ℕ)} (ls : List ℕ) {s : Sums} {k : ℕ} (r : Reading) → length lss ≡ k → SumsOf m lss s →
+    OneList m P r ls → SumsOf m (lss ++ ls ∷ []) (sumsWith s k r (barredWith m s k r))
 unfolding sumsWith
-sums-more {m} {lss} ls {s} {k} r many sums sum count =
+sums-more {m} {lss = lss} ls {s} {k} r many sums o =
     record {
-      count = ap length (joined-more lss ls) ∙ length-append (joined lss) ls ∙ (let a = sums .count in omega arith);
-      sum = ap (total m) (joined-more lss ls) ∙ total-append m (joined lss) ls ∙ (let a = sums .sum in omega arith);
-      first = subst (λ (i : ℕ). total m (firstLeg (lss ++ ls ∷ [])) ≡ sumsWith s i r .first) many (first-more m lss ls s r (sums .first) sum);
-      last = ap (total m) (last-more lss ls) ∙ sum;
+      count = ap length (joined-more lss ls) ∙ length-append (joined lss) ls ∙ (omega (arith, sums .count, o .count));
+      sum = ap (total m) (joined-more lss ls) ∙ total-append m (joined lss) ls ∙ (omega (arith, sums .sum, o .sum));
+      first =
+          subst (λ (i : ℕ). total m (firstLeg (lss ++ ls ∷ [])) ≡ sumsWith s i r (barredWith m s k r) .first) many
+          (first-more m lss ls s r (barredWith m s k r) (sums .first) (o .sum));
+      last = ap (total m) (last-more lss ls) ∙ o .sum;
+      arrives = ap lastOf (last-more lss ls) ∙ o .last;
+      barred = barred-more ls r many sums (o .first);
     }
 
 -- ---- how many lines a reading can have: each is at least 1 long
@@ -109,9 +143,10 @@ pub record Gathering (m : Map) (lines : ℕ) (all : List Leg) (k : ℕ) (rest : 
   pub few : s .count ≤ greatestLegLength * k
   pub short : s .length ≤ greatestLegLength * k
   pub laid : Laid (joined lists) before out
+  pub arrived : 0 < k → s .arrives < lines
 
 pub gather-none : {m : Map} {lines : ℕ} {all : List Leg} {w before : List ℕ} → Set m lines w →
-    Gathering m lines all 0 all w before before (record { count = 0; length = 0; first = 0; last = 0 })
+    Gathering m lines all 0 all w before before none-yet
 unfolding joined placed
 gather-none {m} set =
     record {
@@ -123,6 +158,7 @@ gather-none {m} set =
       few = omega arith;
       short = omega arith;
       laid = λ fits. refl;
+      arrived = λ some. absurd (omega arith);
     }
 
 -- A reading is no longer than a leg may be, and has no more lines than that.
@@ -141,7 +177,7 @@ module _ {m : Map} {leg : Leg} {N : Reading → List ℕ → Type 0} where
 module _ {m : Map} {lines : ℕ} {all rest : List Leg} {leg : Leg} {k : ℕ} {w before mid : List ℕ} {s : Sums} (g : Gathering m lines all k (leg ∷ rest) w before mid s) where
   pub gather-on : {v after : List ℕ} {r : Reading} → length mid ≡ length before → Set m lines v →
       Says m (definitions.Reading m leg) (λ r ls. Inserted (s .count) ls mid after) (verdict.One r) →
-      Gathering m lines all (k + 1) rest v before after (sumsWith s k r)
+      Gathering m lines all (k + 1) rest v before after (sumsWith s k r (barredWith m s k r))
   unfolding sumsWith
   gather-on {after = after} {r = r} same set (Says.one {ls = ls} o n) =
       let small = one-short (set .held .formed) o in
@@ -150,11 +186,12 @@ module _ {m : Map} {lines : ℕ} {all rest : List Leg} {leg : Leg} {k : ℕ} {w 
         lists = g .lists ++ ls ∷ [];
         set = set;
         passed = passed-on (g .passed) (record { reading = o .holds; only = o .only });
-        sums = sums-more ls r (g .many) (g .sums) (o .sum) (o .count);
+        sums = sums-more ls r (g .many) (g .sums) o;
         many = length-append (g .lists) (ls ∷ []) ∙ (let a = g .many in omega arith);
         few = omega (arith, g .few);
         short = omega (arith, g .short);
         laid = rw (joined-more (g .lists) ls) (laid-more (joined (g .lists)) ls before mid after same (g .laid) (rw (g .sums .count) n));
+        arrived = λ some. omega (arith, o .last, last-known (o .holds .allowed .connected), set .held .line-count);
       }
 
   pub gather-unread : {N : Reading → List ℕ → Type 0} → Says m (definitions.Reading m leg) N verdict.Unread → LegsRead m 0 all (failed 17 k)

@@ -1,14 +1,14 @@
 -- What is promised of the legs that are read one after another, and of the lines that are written.
 use Prim.Native.Nat.{ℕ, _+_, _≤_, _<_}
 use mathlib.Core.Path.{_≡_}
-use mathlib.Core.Bool.{cond}
+use mathlib.Core.Bool.{Bool, false, cond, _||_}
 use mathlib.Core.List.{List, _++_}
 use lib.ListN.{length, getD, take, drop}
 use lib.Dec.{eqb}
 use Rattle.model.specs.Map.{Map}
-use Rattle.model.specs.Lines.{total}
+use Rattle.model.specs.Lines.{total, banned, lastOf}
 use Rattle.model.specs.Choice.{firstLeg, lastLeg}
-use Rattle.model.specs.Reading.{Leg, joined}
+use Rattle.model.specs.Reading.{Leg, joined, bannedMeeting}
 use Rattle.model.specs.Outcome.{LegsRead, every, failed}
 use Rattle.model.specs.Work.{placed}
 use Rattle.search.specs.Area.{linesTo, Set}
@@ -19,14 +19,20 @@ use Rattle.reference_legs.specs.declared.Legs.{Legs}
 use Rattle.reference_legs.specs.declared.Legs.the-variants.{Every, Unread, Several}
 use Rattle.fields.specs.declared.leg.Verdict.the-variants as verdict
 
+-- Whether a banned turn stands where two legs meet, with one leg more, which is leg `k`: nothing stands before the first.
+unfoldable pub barredWith : Map → Sums → ℕ → Reading → Bool
+barredWith m s k r = s .barred || cond (eqb k 0) false (banned m (s .arrives) (r .first))
+
 -- The sums with one leg more, which is leg `k`.
-unfoldable pub sumsWith : Sums → ℕ → Reading → Sums
-sumsWith s k r =
+unfoldable pub sumsWith : Sums → ℕ → Reading → Bool → Sums
+sumsWith s k r barred =
     record {
       count = s .count + r .count;
       length = s .length + r .length;
       first = cond (eqb k 0) (r .length) (s .first);
       last = r .length;
+      arrives = r .last;
+      barred = barred;
     }
 
 -- The lines of one reading, from number `from` of the buffer on, where there is room.
@@ -51,6 +57,8 @@ pub record SumsOf (m : Map) (lss : List (List ℕ)) (s : Sums) : Type 0 where
   pub sum : total m (joined lss) ≡ s .length
   pub first : total m (firstLeg lss) ≡ s .first
   pub last : total m (lastLeg lss) ≡ s .last
+  pub arrives : lastOf (lastLeg lss) ≡ s .arrives
+  pub barred : bannedMeeting m lss ≡ s .barred
 
 -- Some lines stand first in a buffer where there is room for them.
 abbrev pub Laid : List ℕ → List ℕ → List ℕ → Type 0

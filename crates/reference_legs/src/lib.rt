@@ -1,4 +1,5 @@
 // The legs of a reference read one after another, and their lines written in order.
+use banned_turns::banned;
 use fields::leg::Reading;
 use fields::leg::Verdict;
 use legs::ends::both;
@@ -17,14 +18,17 @@ ghost use Rattle.work_area.specs.Area.{Held};
 ghost use Rattle.search.specs.Area.{linesTo, Set};
 ghost use Rattle.references.specs.Form.{SoundBytes};
 ghost use Rattle.references.specs.Legs.{legsAt};
-ghost use Rattle.reference_legs.specs.Legs.{sumsWith, Put, PlacesIn, LegsDone};
+ghost use Rattle.reference_legs.specs.Legs.{barredWith, sumsWith, Put, PlacesIn, LegsDone};
 
-// Of the legs that are read: how many lines they have, how long they are together, and how long the first and the last of them are.
+// Of the legs that are read: how many lines they have, how long they are together, and how long the first and the last of them are; the line
+// that the last of them arrives by, and whether a banned turn stands where two of them meet.
 pub struct Sums {
     pub count: usize,
     pub length: u32,
     pub first: u32,
     pub last: u32,
+    pub arrives: usize,
+    pub barred: bool,
 }
 
 // Every leg has exactly one reading, or the first leg that has none or several.
@@ -34,11 +38,26 @@ pub enum Legs {
     Several(u32),
 }
 
+// Whether a banned turn stands where two legs meet, once leg `k` is one of them.
+fn barred_with(work: &[u32], lines: usize, sums: Sums, k: usize, reading: Reading) -> bool
+    requires { ⌜ (0 < k → sums .arrives < lines) ⌝ }
+    requires { ⌜ ((m : Map) × Held (now work) lines m) ⌝ }
+    ensures { λ r. ⌜ ((m : Map) → Held (now (work .entry)) lines m → r ≡ barredWith m sums k reading) ⌝ }
+{
+    if sums.barred {
+        return true;
+    }
+    if k == 0 {
+        return false;
+    }
+    banned(work, lines, sums.arrives, reading.first)
+}
+
 // The sums with leg `k`, the next one.
-fn with_leg(sums: Sums, k: usize, reading: Reading) -> Sums
+fn with_leg(sums: Sums, k: usize, reading: Reading, barred: bool) -> Sums
     requires { ⌜ (k < 64) × (sums .count ≤ greatestLegLength * k) × (sums .length ≤ greatestLegLength * k) ⌝ }
     requires { ⌜ (reading .count ≤ greatestLegLength) × (reading .length ≤ greatestLegLength) ⌝ }
-    ensures { λ r. ⌜ r ≡ sumsWith sums k reading ⌝ }
+    ensures { λ r. ⌜ r ≡ sumsWith sums k reading barred ⌝ }
 {
     let first = if k == 0 { reading.length } else { sums.first };
     Sums {
@@ -46,6 +65,8 @@ fn with_leg(sums: Sums, k: usize, reading: Reading) -> Sums
         length: sums.length + reading.length,
         first,
         last: reading.length,
+        arrives: reading.last,
+        barred,
     }
 }
 
@@ -88,6 +109,8 @@ pub fn read_legs(
         length: 0,
         first: 0,
         last: 0,
+        arrives: 0,
+        barred: false,
     };
     let mut k: usize = 0;
     'legs: loop {
@@ -109,7 +132,8 @@ pub fn read_legs(
         let Verdict::One(reading) = found else {
             break 'legs Legs::Unread(k as u32);
         };
-        sums = with_leg(sums, k, reading);
+        let barred = barred_with(work, lines, sums, k, reading);
+        sums = with_leg(sums, k, reading, barred);
         k += 1;
     }
 }

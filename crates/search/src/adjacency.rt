@@ -1,6 +1,7 @@
 // The adjacency lists: the lines that leave each node; and which line can follow which.
 use crate::cells::FAR;
 use crate::cells::LIST_WEIGHT;
+use banned_turns::in_chain;
 use buffers::fill;
 use buffers::wide;
 use work_area::END;
@@ -15,7 +16,7 @@ ghost use Prim.Native.Nat.{_-_, _≤_, _<_};
 ghost use lib.ListN.{length};
 ghost use Rattle.model.specs.Map.{Map};
 ghost use Rattle.model.specs.Lines.{lineAt, Follows};
-ghost use Rattle.work_area.specs.Area.{Held};
+ghost use Rattle.work_area.specs.Area.{banChain, Held};
 ghost use Rattle.search.specs.Area.{Chained, latest};
 ghost use Rattle.buffers.specs.Decides.{Decides};
 ghost use Rattle.search.specs.Promises.{Linked};
@@ -55,13 +56,17 @@ pub fn next_leaving(work: &[u32], lines: usize, at: usize) -> usize
     wide(work[NEXT + (at - 1)] % LIST_WEIGHT)
 }
 
-// Whether line `j` can stand straight after line `l`. Nothing else decides that.
-pub fn follows(work: &[u32], lines: usize, l: usize, j: usize) -> bool
+// Whether line `j` can stand straight after line `l`, whose banned turns are `chain`. Nothing else decides that. The chain is looked up once for
+// all lines that leave the node.
+pub fn follows(work: &[u32], lines: usize, l: usize, j: usize, chain: usize) -> bool
     requires { ⌜ (l < lines) × (j < lines) ⌝ }
-    requires { ⌜ ((m : Map) × Held (now work) lines m) ⌝ }
-    ensures { λ r. ⌜ ((m : Map) → Held (now (work .entry)) lines m → Decides (Follows m l j) r) ⌝ }
+    requires { ⌜ ((m : Map) × Held (now work) lines m × (chain ≡ banChain (m .bans) l)) ⌝ }
+    ensures { λ r. ⌜ ((m : Map) → Held (now (work .entry)) lines m → chain ≡ banChain (m .bans) l → Decides (Follows m l j) r) ⌝ }
 {
     if field(work, l, END) != field(work, j, START) {
+        return false;
+    }
+    if in_chain(work, lines, chain, j) {
         return false;
     }
     true

@@ -9,6 +9,7 @@ use crate::cells::line_at;
 use crate::list::ReachedLines;
 use crate::list::lower;
 use crate::list::resume_after;
+use banned_turns::bans_from;
 use buffers::wide;
 use work_area::END;
 use work_area::FRC;
@@ -16,7 +17,8 @@ use work_area::LENGTHS;
 use work_area::MAP_LINES;
 use work_area::PREDECESSORS;
 use work_area::field;
-ghost use Rattle.work_area.specs.Area.{Held};
+ghost use mathlib.Core.Path.{_≡_};
+ghost use Rattle.work_area.specs.Area.{banChain, Held};
 ghost use Rattle.model.specs.Map.{greatestLineCount, Map};
 ghost use Rattle.model.specs.Work.{workLength};
 ghost use Rattle.search.specs.Area.{Chained, listed};
@@ -49,23 +51,24 @@ fn record_tie(work: &mut [u32], l: usize, j: usize)
     work[PREDECESSORS + j] = x / PENDING_WEIGHT * PENDING_WEIGHT + noted;
 }
 
-// Takes line `l` into account at line `j`, where that can follow it: the list now.
+// Takes line `l`, whose banned turns are `chain`, into account at line `j`, where that can follow it: the list now.
 fn relax(
     work: &mut [u32],
     lines: usize,
     l: usize,
     j: usize,
+    chain: usize,
     list: ReachedLines,
     class: u32,
     limit: u32,
 ) -> ReachedLines
     requires { ⌜ (l < lines) × (j < lines) ⌝ }
-    requires { ⌜ ((q : Task) × Underway q lines class limit (list .count) (now work)) ⌝ }
-    ensures { λ r. ⌜ ((q : Task) → Underway q lines class limit (list .count) (now (work .entry))
+    requires { ⌜ ((q : Task) × Underway q lines class limit (list .count) (now work) × (chain ≡ banChain (q .map .bans) l)) ⌝ }
+    ensures { λ r. ⌜ ((q : Task) → Underway q lines class limit (list .count) (now (work .entry)) → chain ≡ banChain (q .map .bans) l
         → Relaxed q lines class limit l j (now (work .entry)) (now (work .exit)) (r .count)
         × Calm lines (list .resume) (now (work .entry)) (now (work .exit)) (r .resume)) ⌝ }
 {
-    if !follows(work, lines, l, j) {
+    if !follows(work, lines, l, j, chain) {
         return list;
     }
     let length = by_way_of(work, l, j);
@@ -114,10 +117,11 @@ fn relax_all(
     ensures { λ r. ⌜ ((q : Task) → Underway q lines class limit (list .count) (now (work .entry))
         → Expanded q lines class limit l (list .resume) (now (work .entry)) (now (work .exit)) (r .count) (r .resume)) ⌝ }
 {
+    let chain = bans_from(work, lines, l);
     let mut at = ahead(work, lines, l);
     let mut reached = list;
     while 0 < at {
-        reached = relax(work, lines, l, at - 1, reached, class, limit);
+        reached = relax(work, lines, l, at - 1, chain, reached, class, limit);
         at = next_leaving(work, lines, at);
     }
     work[PREDECESSORS + l] = work[PREDECESSORS + l] % PENDING_WEIGHT;

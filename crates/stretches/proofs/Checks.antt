@@ -10,10 +10,10 @@ use lib.Dec.{ltb, eqb}
 use borrow.Author.Tests.{eq-eqb, ne-eqb, lt-ltb, le-ltb, le-leb, lt-leb}
 use Rattle.model.specs.Refusal.{row}
 use Rattle.model.specs.Map.{Map}
-use Rattle.model.specs.Lines.{total, Connected, single, linked}
-use Rattle.model.specs.Stretch.{Stretch, greatestStretch, unknown, gap, remaining, StretchAnswer, remains, refused, checkStretch}
+use Rattle.model.specs.Lines.{banned, total, Connected, single, linked}
+use Rattle.model.specs.Stretch.{Stretch, greatestStretch, unknown, apart, gap, bannedPair, remaining, StretchAnswer, remains, refused, checkStretch}
 use Rattle.model.proofs.Tests.{neither}
-use Rattle.model.proofs.Skipping.{Left, taken, no-gap}
+use Rattle.model.proofs.Skipping.{Left, taken, no-pair, meet}
 use Rattle.stretches.specs.declared.stretch.Remaining.{Remaining}
 use Rattle.stretches.specs.Stretch.{Known, partOf, Leaves, Passes}
 use Rattle.stretches.proofs.Stretches.{known-all, known-drop}
@@ -42,14 +42,18 @@ module _ (m : Map) (s : Stretch) where
       unfolding checkStretch
       not-joined e = rw (ne-eqb _ _ some, le-ltb _ _ few, known, e, checkStretch)
 
-      module _ (joint : gap m (s .lines) ≡ false) where
+      pub banned-turn : gap m (s .lines) ≡ false → bannedPair m (s .lines) ≡ true → checkStretch m s ≡ refused (row 21)
+      unfolding checkStretch
+      banned-turn joint e = rw (ne-eqb _ _ some, le-ltb _ _ few, known, joint, e, checkStretch)
+
+      module _ (joint : gap m (s .lines) ≡ false) (free : bannedPair m (s .lines) ≡ false) where
         pub too-far : total m (s .lines) ≤ s .pos + s .neg → checkStretch m s ≡ refused (row 9)
         unfolding checkStretch
-        too-far e = rw (ne-eqb _ _ some, le-ltb _ _ few, known, joint, le-leb _ _ e, checkStretch)
+        too-far e = rw (ne-eqb _ _ some, le-ltb _ _ few, known, joint, free, le-leb _ _ e, checkStretch)
 
         passed : s .pos + s .neg < total m (s .lines) → checkStretch m s ≡ remains (remaining m s)
         unfolding checkStretch
-        passed e = rw (ne-eqb _ _ some, le-ltb _ _ few, known, joint, lt-leb _ _ e, checkStretch)
+        passed e = rw (ne-eqb _ _ some, le-ltb _ _ few, known, joint, free, lt-leb _ _ e, checkStretch)
 
         pub left : s .pos + s .neg < total m (s .lines) → (r : Remaining) → Leaves m s r → Passes m s r
         left below r l =
@@ -57,14 +61,15 @@ module _ (m : Map) (s : Stretch) where
             let k = taken m s (partOf s r) p .1 .below in
             record { ordered = omega (arith, some-taken m (r .to - r .from) (drop (r .from) (s .lines)) (omega arith)); inside = l .inside; checked = p }
 
--- Known lines without a gap are connected.
-connected-of : (m : Map) (ls : List ℕ) → 0 < length ls → Known (length (m .lines)) ls → gap m ls ≡ false → Connected m ls
-connected-of m [] some known joint = absurd (omega arith)
-connected-of m (l ∷ []) some known joint = single (known 0 some)
-connected-of m (l ∷ k ∷ ls) some known joint =
-    let j = no-gap m l k ls joint in
-    linked (known 0 some) (record { line = known 1 (omega arith); meets = j .0 })
-    (connected-of m (k ∷ ls) (omega arith) (λ i h. known (suc i) (omega arith)) (j .1))
+-- Known lines without a gap and without a banned pair are connected.
+connected-of : (m : Map) (ls : List ℕ) → 0 < length ls → Known (length (m .lines)) ls → gap m ls ≡ false → bannedPair m ls ≡ false → Connected m ls
+connected-of m [] some known joint free = absurd (omega arith)
+connected-of m (l ∷ []) some known joint free = single (known 0 some)
+connected-of m (l ∷ k ∷ ls) some known joint free =
+    let j = no-pair (apart m) l k ls joint in
+    let f = no-pair (banned m) l k ls free in
+    linked (known 0 some) (record { line = known 1 (omega arith); meets = meet m l k (j .0); allowed = f .0 })
+    (connected-of m (k ∷ ls) (omega arith) (λ i h. known (suc i) (omega arith)) (j .1) (f .1))
 
 pub known-take : (lines : ℕ) (ls : List ℕ) (n : ℕ) → Known lines ls → Known lines (take n ls)
 known-take lines ls n known i h =
@@ -93,4 +98,4 @@ module _ {m : Map} {s : Stretch} {r : Remaining} (l : Passes m s r) where
       let size : 0 < length (take (r .to - r .from) (drop (r .from) ls)) =
       omega (arith, length-take (r .to - r .from) (drop (r .from) ls), length-drop (r .from) ls, l .ordered, l .inside) in
       let known = known-all m ls (none-unknown m s (partOf s r) (l .checked)) in
-      connected-of m (partOf s r .lines) size (known-take _ (drop (r .from) ls) (r .to - r .from) (known-drop _ ls (r .from) known)) (left-of .joint)
+      connected-of m (partOf s r .lines) size (known-take _ (drop (r .from) ls) (r .to - r .from) (known-drop _ ls (r .from) known)) (left-of .joint) (left-of .free)

@@ -1,7 +1,7 @@
 -- A stretch line by line: unknown lines, gaps, its length, and what an offset drops.
 use Prim.Native.Nat.{ℕ, zero, suc, _+_, _-_, _≤_, _<_}
 use mathlib.Core.Path.{_≡_, refl, sym, _∙_, ap}
-use mathlib.Core.Bool.{true, false}
+use mathlib.Core.Bool.{Bool, true, false}
 use mathlib.Core.List.{List, [], _∷_, _++_, reverse, reverse-append, reverse-reverse}
 use native.Mathlib.Numerals.{add-one}
 use native.Mathlib.Omega.{arith}
@@ -11,7 +11,7 @@ use lib.Dec.{leb}
 use borrow.Author.Tests.{leb-false, le-leb, lt-leb, eq-eqb, ne-eqb}
 use Rattle.model.specs.Map.{Map}
 use Rattle.model.specs.Lines.{lineAt, total}
-use Rattle.model.specs.Stretch.{unknown, gap, skip, remaining, stretchOf}
+use Rattle.model.specs.Stretch.{unknown, somePair, apart, gap, skip, remaining, stretchOf}
 use Rattle.model.proofs.Tests.{neither}
 use Rattle.model.proofs.Skipping.{total-append}
 use Rattle.stretches.specs.Stretch.{Known, Skips}
@@ -26,6 +26,40 @@ take-next ls i h = rw add-one (take-suc ls i 0 h)
 drop-end : (ls : List ℕ) (i : ℕ) → i ≡ length ls → drop i ls ≡ []
 drop-end ls i e = rw e (drop-length ls)
 
+-- Pairs by the place of the second of two lines.
+module _ (faulty : ℕ → ℕ → Bool) (ls : List ℕ) where
+  pub pair-here : (i : ℕ) → 0 < i → i < length ls → faulty (getD ls (i - 1) 0) (getD ls i 0) ≡ true → somePair faulty (drop (i - 1) ls) ≡ true
+  unfolding somePair
+  pair-here i pos h is =
+      let e : i - 1 + 1 ≡ i = omega arith in
+      rw (drop-next ls (i - 1) (omega arith), e, drop-next ls i h, is)
+
+  pub pair-on : (i : ℕ) → 0 < i → i < length ls → faulty (getD ls (i - 1) 0) (getD ls i 0) ≡ false →
+      somePair faulty (drop (i - 1) ls) ≡ somePair faulty (drop (i + 1 - 1) ls)
+  unfolding somePair
+  pair-on i pos h is =
+      let e : i - 1 + 1 ≡ i = omega arith in
+      let e′ : i + 1 - 1 ≡ i = omega arith in
+      rw (e′, drop-next ls (i - 1) (omega arith), e, drop-next ls i h, is)
+
+  pub pair-none : (i : ℕ) → length ls ≤ i → somePair faulty (drop (i - 1) ls) ≡ false
+  unfolding somePair
+  pair-none i h = short (drop (i - 1) ls) (rw length-drop (omega arith))
+    where
+      short : (ks : List ℕ) → length ks ≤ 1 → somePair faulty ks ≡ false
+      short [] h = refl
+      short (l ∷ []) h = refl
+      short (l ∷ k ∷ ks) h = absurd (omega arith)
+
+module _ (m : Map) (ls : List ℕ) (i : ℕ) (pos : 0 < i) (h : i < length ls) where
+  pub gap-here : (lineAt m (getD ls (i - 1) 0) .end ≡ lineAt m (getD ls i 0) .start → ⊥) → gap m (drop (i - 1) ls) ≡ true
+  unfolding apart
+  gap-here differ = pair-here (apart m) ls i pos h (rw (ne-eqb _ _ differ))
+
+  pub gap-on : lineAt m (getD ls (i - 1) 0) .end ≡ lineAt m (getD ls i 0) .start → gap m (drop (i - 1) ls) ≡ gap m (drop (i + 1 - 1) ls)
+  unfolding apart
+  gap-on same = pair-on (apart m) ls i pos h (rw (eq-eqb _ _ same))
+
 module _ (m : Map) (ls : List ℕ) where
   pub unknown-here : (i : ℕ) → i < length ls → length (m .lines) ≤ getD ls i 0 → unknown m (drop i ls) ≡ true
   unfolding unknown
@@ -38,31 +72,6 @@ module _ (m : Map) (ls : List ℕ) where
   pub unknown-none : (i : ℕ) → i ≡ length ls → unknown m (drop i ls) ≡ false
   unfolding unknown
   unknown-none i e = rw (drop-end ls i e)
-
-  -- By the place of the second of two lines.
-  pub gap-here : (i : ℕ) → 0 < i → i < length ls → (lineAt m (getD ls (i - 1) 0) .end ≡ lineAt m (getD ls i 0) .start → ⊥) →
-      gap m (drop (i - 1) ls) ≡ true
-  unfolding gap
-  gap-here i pos h differ =
-      let e : i - 1 + 1 ≡ i = omega arith in
-      rw (drop-next ls (i - 1) (omega arith), e, drop-next ls i h, ne-eqb _ _ differ)
-
-  pub gap-on : (i : ℕ) → 0 < i → i < length ls → lineAt m (getD ls (i - 1) 0) .end ≡ lineAt m (getD ls i 0) .start →
-      gap m (drop (i - 1) ls) ≡ gap m (drop (i + 1 - 1) ls)
-  unfolding gap
-  gap-on i pos h same =
-      let e : i - 1 + 1 ≡ i = omega arith in
-      let e′ : i + 1 - 1 ≡ i = omega arith in
-      rw (e′, drop-next ls (i - 1) (omega arith), e, drop-next ls i h, eq-eqb _ _ same)
-
-  pub gap-none : (i : ℕ) → length ls ≤ i → gap m (drop (i - 1) ls) ≡ false
-  unfolding gap
-  gap-none i h = short (drop (i - 1) ls) (rw length-drop (omega arith))
-    where
-      short : (ks : List ℕ) → length ks ≤ 1 → gap m ks ≡ false
-      short [] h = refl
-      short (l ∷ []) h = refl
-      short (l ∷ k ∷ ks) h = absurd (omega arith)
 
   pub total-none : 0 ≡ total m (take 0 ls)
   unfolding total

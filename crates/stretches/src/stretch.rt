@@ -1,6 +1,7 @@
-// A stretch as it is given: whether it is refused with 7 to 9, and what its offsets leave of it.
+// A stretch as it is given: whether it is refused with 7, 8, 21 or 9, and what its offsets leave of it.
 use crate::lines::field_of;
 use crate::lines::total_length;
+use banned_turns::banned;
 use buffers::wide;
 use model::Refusal;
 use model::limits::GREATEST_STRETCH;
@@ -12,7 +13,7 @@ ghost use Prim.Native.Nat.{_≤_};
 ghost use mathlib.Core.List.{reverse};
 ghost use lib.ListN.{length, take, drop};
 ghost use Rattle.model.specs.Map.{Map};
-ghost use Rattle.model.specs.Stretch.{unknown, gap, stretchOf};
+ghost use Rattle.model.specs.Stretch.{unknown, gap, bannedPair, stretchOf};
 ghost use Rattle.work_area.specs.Area.{Held};
 ghost use Rattle.stretches.specs.Stretch.{Known, Skips, Leaves, Checks};
 
@@ -61,6 +62,24 @@ fn has_gap(work: &[u32], lines: usize, stretch: &[u32]) -> bool
         let end = field_of(work, lines, stretch, i - 1, END);
         let start = field_of(work, lines, stretch, i, START);
         if end != start {
+            return true;
+        }
+        i += 1;
+    }
+    false
+}
+
+// Whether a turn from a line into the next is banned.
+fn has_ban(work: &[u32], lines: usize, stretch: &[u32]) -> bool
+    requires { ⌜ Known lines (now stretch) ⌝ }
+    requires { ⌜ ((m : Map) × Held (now work) lines m) ⌝ }
+    ensures { λ r. ⌜ ((m : Map) → Held (now (work .entry)) lines m → r ≡ bannedPair m (now (stretch .entry))) ⌝ }
+{
+    let mut i: usize = 1;
+    while i < stretch.len() {
+        let l = wide(stretch[i - 1]);
+        let k = wide(stretch[i]);
+        if banned(work, lines, l, k) {
             return true;
         }
         i += 1;
@@ -142,6 +161,9 @@ pub fn check(work: &[u32], lines: usize, stretch: &[u32], pos: u32, neg: u32) ->
     }
     if has_gap(work, lines, stretch) {
         return Checked::Refused(Refusal::StretchGap);
+    }
+    if has_ban(work, lines, stretch) {
+        return Checked::Refused(Refusal::StretchBan);
     }
     if total_length(work, lines, stretch) <= wide(pos) + wide(neg) {
         return Checked::Refused(Refusal::StretchOffsets);

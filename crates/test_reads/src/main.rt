@@ -98,11 +98,11 @@ fn run(bytes: &[u8], work: &mut [u32], lines: &mut [u32]) {
     }
 }
 
-// The line buffer holds the longest reading that there is, of 32,769 lines, and some numbers more.
+// The line buffer holds the longest reading of the cases, of 65,473 lines, and some numbers more.
 fn main() {
     let mut bytes = cases::megabyte();
-    let mut work = [0; 12300];
-    let mut lines = [0; 32800];
+    let mut work = [0; 14_340];
+    let mut lines = [0; 65_480];
     let n = console::load(b"cases.bin", &mut bytes);
     run(&bytes[..n], &mut work, &mut lines);
 }

@@ -167,7 +167,7 @@ fn run(file: &[u8], work: &mut [u32]) {
 
 fn main() {
     let mut file = cases::megabyte();
-    let mut work = [0; 12300];
+    let mut work = [0; 14_340];
     let n = console::load(b"cases.bin", &mut file);
     run(&file[..n], &mut work);
 }

@@ -1,5 +1,5 @@
 -- What stays known when other parts of the work area change. For the callers of the search.
-use Rattle.work_area.specs.Area.{lengthsFrom, predecessorsFrom, headsFrom, nextFrom, nearestFrom, Held}
+use Rattle.work_area.specs.Area.{lengthsFrom, predecessorsFrom, headsFrom, nextFrom, nearestFrom, bansFrom, Held}
 use Rattle.model.specs.Map.{Map}
 use Rattle.search.specs.Area.{listWeight, Chained, lengthTo, Searched}
 use Prim.Native.Nat.{ℕ, _+_, _/_, _%_, _≤_, _<_}
@@ -13,7 +13,7 @@ use Rattle.ways.proofs.Ties.{before-kept}
 
 module _ {lo hi n : ℕ} {w v : List ℕ} {m : Map} where
   -- `nearest_lines` leaves what a search found, the adjacency lists and the list of reached lines.
-  pub searched-kept : {c f limit : ℕ} → headsFrom ≤ lo → Kept lo hi w v → Searched m n c f limit w → Searched m n c f limit v
+  pub searched-kept : {c f limit : ℕ} → (headsFrom ≤ lo) × (hi ≤ bansFrom) → Kept lo hi w v → Searched m n c f limit w → Searched m n c f limit v
   searched-kept low k s =
       let h = s .held in
       let n≤ = few h in

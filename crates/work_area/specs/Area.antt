@@ -1,9 +1,11 @@
 -- The work area: where everything stands in it, and what it is to hold a map. src/lib.rt has the same places for the code; no other file has an address.
-use Prim.Native.Nat.{ℕ, _+_, _*_, _≤_, _<_}
+use Prim.Native.Nat.{ℕ, zero, suc, _+_, _*_, _≤_, _<_}
 use mathlib.Core.Path.{_≡_}
+use mathlib.Core.Bool.{cond}
 use mathlib.Core.List.{List, [], _∷_}
 use lib.ListN.{length, getD}
-use Rattle.model.specs.Map.{Node, Line, Map, greatestNodeCount, greatestLineCount}
+use lib.Dec.{eqb}
+use Rattle.model.specs.Map.{Node, Line, Turn, Map, greatestNodeCount, greatestLineCount, greatestBanCount}
 use Rattle.model.specs.Lines.{nodeAt, lineAt}
 use Rattle.model.specs.WellFormed.{WellFormed}
 use Rattle.model.specs.Work.{workLength}
@@ -76,7 +78,32 @@ nearestFrom = nextFrom + greatestLineCount
 abbrev pub searchTo : ℕ
 searchTo = nearestFrom + greatestNodeCount
 
--- ---- the same cells while a map is read: the test of equal codes
+-- ---- behind the search: the banned turns (W1)
+
+-- For each line 1 + the last banned turn from it, or 0. For each banned turn its second line, and 1 + the one before it from the same first line,
+-- or 0. So the turns from one line are a chain.
+abbrev pub bansFrom : ℕ
+bansFrom = searchTo
+
+abbrev pub banHead : ℕ → ℕ
+banHead l = bansFrom + l
+
+abbrev pub secondsFrom : ℕ
+secondsFrom = bansFrom + greatestLineCount
+
+abbrev pub banSecond : ℕ → ℕ
+banSecond i = secondsFrom + i
+
+abbrev pub earlierFrom : ℕ
+earlierFrom = secondsFrom + greatestBanCount
+
+abbrev pub banEarlier : ℕ → ℕ
+banEarlier i = earlierFrom + i
+
+abbrev pub bansTo : ℕ
+bansTo = earlierFrom + greatestBanCount
+
+-- ---- the cells of searches while a map is read: the test of equal codes
 
 -- For each node its two codes and the node before it in its bucket; for each bucket its last node.
 abbrev pub buckets : ℕ
@@ -103,6 +130,25 @@ nodeNumbers a = a .lon ∷ a .lat ∷ []
 abbrev pub lineNumbers : Line → List ℕ
 lineNumbers l = l .start ∷ l .end ∷ l .length ∷ l .frc ∷ l .fow ∷ l .out ∷ l .back ∷ []
 
+abbrev pub banAt : List Turn → ℕ → Turn
+banAt bans i = getD bans i (record { first = 0; second = 0 })
+
+-- 1 + the last of the first `i` turns that is one from line `l`, or 0.
+abbrev pub latestBan : List Turn → ℕ → ℕ → ℕ
+latestBan bans l zero = 0
+latestBan bans l (suc i) = cond (eqb (banAt bans i .first) l) (suc i) (latestBan bans l i)
+
+-- Where the chain of line `l` starts.
+abbrev pub banChain : List Turn → ℕ → ℕ
+banChain bans l = latestBan bans l (length bans)
+
+-- The work area `w` holds these banned turns of a map of so many lines.
+pub record BansHeld (w : List ℕ) (lines : ℕ) (bans : List Turn) : Type 0 where
+  pub few : length bans ≤ greatestBanCount
+  pub heads : (l : ℕ) → l < lines → getD w (banHead l) 0 ≡ banChain bans l
+  pub seconds : (i : ℕ) → i < length bans → getD w (banSecond i) 0 ≡ banAt bans i .second
+  pub earlier : (i : ℕ) → i < length bans → getD w (banEarlier i) 0 ≡ latestBan bans (banAt bans i .first) i
+
 -- The work area `w` holds the well-formed map `m`, which has so many nodes and lines.
 pub record Holds (w : List ℕ) (nodes lines : ℕ) (m : Map) : Type 0 where
   pub full : workLength ≤ length w
@@ -111,6 +157,7 @@ pub record Holds (w : List ℕ) (nodes lines : ℕ) (m : Map) : Type 0 where
   pub line-count : length (m .lines) ≡ lines
   pub node-held : (i k : ℕ) → i < nodes → k < nodeSize → getD w (nodePlace i + k) 0 ≡ getD (nodeNumbers (nodeAt m i)) k 0
   pub line-held : (i k : ℕ) → i < lines → k < lineSize → getD w (linePlace i + k) 0 ≡ getD (lineNumbers (lineAt m i)) k 0
+  pub bans-held : BansHeld w lines (m .bans)
 
 -- The work area holds the map `m`, which has so many lines.
 abbrev pub Held : List ℕ → ℕ → Map → Type 0

@@ -1,5 +1,6 @@
 // The work area: where everything stands in it, how a line's numbers are read, and how it is cleared.
 // specs/Area.antt has the same places by name. No other file has an address.
+use model::limits::GREATEST_BAN_COUNT;
 use model::limits::GREATEST_LINE_COUNT;
 use model::limits::GREATEST_NODE_COUNT;
 use model::limits::WORK_LENGTH;
@@ -13,10 +14,12 @@ ghost use Rattle.work_area.specs.Area.{lineSize, linePlace};
 // How many numbers a node has. The first node's stand at 0.
 pub const NODE_NUMBERS: usize = 2;
 
-// The greatest count of nodes and of lines, as counts of numbers in the area.
+// The greatest count of nodes, of lines and of banned turns, as counts of numbers in the area.
 pub const NODES: usize = GREATEST_NODE_COUNT as usize;
 
 pub const MAP_LINES: usize = GREATEST_LINE_COUNT as usize;
+
+pub const BANS: usize = GREATEST_BAN_COUNT as usize;
 
 // Where the first line's numbers stand, and how many a line has.
 pub const LINES: usize = NODE_NUMBERS * NODES;
@@ -51,7 +54,15 @@ pub const NEXT: usize = HEADS + NODES;
 // A number for each node: the nearest line that ends there.
 pub const NEAREST: usize = NEXT + MAP_LINES;
 
-// The same cells while a map is read, for the test of equal codes: the codes of each node, the node before it in its bucket, and the last node
+// Behind the search, the banned turns: 1 + the last one from each line, or 0; the second line of each, and 1 + the one before it from the same first
+// line, or 0.
+pub const BAN_HEADS: usize = NEAREST + NODES;
+
+pub const BAN_SECONDS: usize = BAN_HEADS + MAP_LINES;
+
+pub const BAN_EARLIER: usize = BAN_SECONDS + BANS;
+
+// The cells of searches while a map is read, for the test of equal codes: the codes of each node, the node before it in its bucket, and the last node
 // of each bucket.
 pub const BUCKETS: usize = 512;
 

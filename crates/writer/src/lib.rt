@@ -95,7 +95,7 @@ fn on_area(
 }
 
 // Writes a stretch of lines with its offsets, in decimetres, on a map. An answer that it is written has the count of bytes, which stand first in
-// `bytes`. The work area needs 12,288 numbers. They are 0 afterwards.
+// `bytes`. The work area needs 14,336 numbers. They are 0 afterwards.
 pub fn write(
     map: &[u8],
     stretch: &[u32],

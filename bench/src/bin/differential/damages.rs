@@ -1,13 +1,13 @@
 //! Maps and references with something changed.
 
-use plain::depot_map::DepotMap;
+use plain::depot_map::{Ban, DepotMap};
 use plain::fields::{
     coordinate_code, FIRST_POINT_BYTES, MIDDLE_POINT_BYTES, NEGATIVE_FLAG, POSITIVE_FLAG,
     SHORTEST_REFERENCE,
 };
 use plain::maps::{push_number, MapPlan, Xorshift};
 
-use crate::inputs::random_bytes;
+use crate::inputs::{random_bytes, MOST_BANS};
 
 /// At the edges of the ranges of a map's numbers.
 #[rustfmt::skip]
@@ -19,15 +19,26 @@ const EDGE_NUMBERS: [u32; 20] = [
 /// The bytes of a map with something changed. They may still be those of a map.
 pub fn damaged_map(rng: &mut Xorshift, plan: &MapPlan) -> Vec<u8> {
     let mut bytes = plan.encode();
-    match rng.below(8) {
-        0 => change_bytes(rng, &mut bytes),
-        1 => bytes.truncate(rng.below(bytes.len() as u32) as usize),
+    let part = any_part(rng, plan);
+    match rng.below(9) {
+        0 => change_bytes(rng, &mut bytes[part..]),
+        1 => bytes.truncate(part + rng.below((bytes.len() - part) as u32) as usize),
         2 => bytes.extend(random_bytes(rng, &[1, 2, 7])),
         3 => return with_same_codes(rng, plan),
-        4 => bytes = random_bytes(rng, &[0, 1, 2, 10, 60]),
+        4 => return with_no_turn(rng, plan),
+        5 => bytes = random_bytes(rng, &[0, 1, 2, 10, 60]),
         _ => return with_other_numbers(rng, plan),
     }
     bytes
+}
+
+/// The start of the whole map or of the bans.
+fn any_part(rng: &mut Xorshift, plan: &MapPlan) -> usize {
+    let without_bans = MapPlan {
+        bans: Vec::new(),
+        ..plan.clone()
+    };
+    *rng.pick(&[0, without_bans.encode().len() - 1])
 }
 
 fn change_bytes(rng: &mut Xorshift, bytes: &mut [u8]) {
@@ -40,7 +51,7 @@ fn change_bytes(rng: &mut Xorshift, bytes: &mut [u8]) {
     }
 }
 
-/// A node moved to another, or next to it.
+/// A node moved to another, or next to it; at times with a ban of no turn as well.
 fn with_same_codes(rng: &mut Xorshift, plan: &MapPlan) -> Vec<u8> {
     let mut plan = plan.clone();
     let mut place = *rng.pick(&plan.nodes);
@@ -48,21 +59,51 @@ fn with_same_codes(rng: &mut Xorshift, plan: &MapPlan) -> Vec<u8> {
     place.latitude += rng.below(3) as i32 - 1;
     let moved = rng.below(plan.nodes.len() as u32) as usize;
     plan.nodes[moved] = place;
+    match rng.below(4) {
+        0 => with_no_turn(rng, &plan),
+        _ => plan.encode(),
+    }
+}
+
+/// One ban more, or where there is no room in place of another, of lines that need not meet or of no
+/// line.
+fn with_no_turn(rng: &mut Xorshift, plan: &MapPlan) -> Vec<u8> {
+    let mut plan = plan.clone();
+    let line_count = plan.lines.len() as u32;
+    let mut ban = Ban {
+        line: rng.below(line_count),
+        next: rng.below(line_count),
+    };
+    let no_line = *rng.pick(&[line_count, line_count + 1, 1024, u32::MAX]);
+    match rng.below(4) {
+        0 => ban.line = no_line,
+        1 => ban.next = no_line,
+        _ => {}
+    }
+    let place = rng.below(plan.bans.len() as u32 + 1) as usize;
+    if plan.bans.len() < MOST_BANS {
+        plan.bans.insert(place, ban);
+    } else {
+        plan.bans[place % MOST_BANS] = ban;
+    }
     plan.encode()
 }
 
-/// One of the counts, coordinates and fields becomes another number, or some do.
+/// One of the counts, coordinates, fields and bans becomes another number, or some do.
 fn with_other_numbers(rng: &mut Xorshift, plan: &MapPlan) -> Vec<u8> {
     let bytes = plan.encode();
     let numbers = bytes.split_inclusive(|&byte| byte < 0x80);
     let mut numbers: Vec<Vec<u8>> = numbers.map(<[u8]>::to_vec).collect();
     let (nodes, lines) = (plan.nodes.len() as u32, plan.lines.len() as u32);
     let count_of_lines = 1 + 2 * nodes;
+    let count_of_bans = count_of_lines + 1 + 7 * lines;
     for _ in 0..*rng.pick(&[1, 1, 3]) {
-        let place = match rng.below(8) {
+        let place = match rng.below(10) {
             0 => 0,
             1 => count_of_lines,
-            2..=4 => rng.within(1, 2 * nodes),
+            2 => count_of_bans,
+            3..=5 => rng.within(1, 2 * nodes),
+            6 => rng.within(count_of_bans, numbers.len() as u32 - 1),
             _ => count_of_lines + rng.within(1, 7 * lines),
         };
         let number = &mut numbers[place as usize];

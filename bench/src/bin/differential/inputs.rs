@@ -1,13 +1,16 @@
 //! Maps, stretches, offsets and references from a random source.
 
-use plain::depot_map::DepotMap;
+use plain::depot_map::{Ban, DepotMap};
 use plain::fields::STATUS_BYTE;
-use plain::maps::{chain, grid, random_graph, random_walk, small_map, Lengths, MapPlan, Xorshift};
+use plain::maps::{
+    chain, grid, random_graph, random_walk, small_map, Bans, Lengths, MapPlan, Turns, Xorshift,
+};
 use plain::writer::{reference_bytes, Stretch, MOST_LINES};
 
 use crate::calls::line_bytes;
 
 const MOST_LEGS: usize = 64;
+pub const MOST_BANS: usize = 512;
 
 /// At the edges of D, and the longest.
 const EDGE_LENGTHS: [u32; 9] = [1, 585, 586, 587, 1171, 1172, 75_000, 149_999, 150_000];
@@ -23,7 +26,21 @@ pub fn any_small_plan(rng: &mut Xorshift) -> MapPlan {
     if rng.below(4) == 0 {
         move_to_corner(rng, &mut plan);
     }
+    plan.bans = any_bans(rng, &plan);
     plan
+}
+
+/// Some turns of the map: none, one, a few or many, and some of them listed again.
+fn any_bans(rng: &mut Xorshift, plan: &MapPlan) -> Vec<Ban> {
+    let mut bans = plan.turns();
+    rng.shuffle(&mut bans);
+    let many = rng.below(bans.len() as u32 + 1) as usize;
+    let counts = [0, 1, 2, 3, 5, many / 4, many / 2];
+    bans.truncate(*rng.pick(&counts));
+    let again = *rng.pick(&[0, 0, 1, bans.len()]);
+    bans.extend_from_within(..again.min(bans.len()));
+    bans.truncate(MOST_BANS);
+    bans
 }
 
 /// Moves all nodes as far as coordinates go. Codes may fall together.
@@ -50,7 +67,8 @@ fn to_edge(
     }
 }
 
-/// Maps of 512 nodes and 1,024 lines, of each kind in turn.
+/// Maps of 512 nodes and 1,024 lines, of each kind in turn, and of each with no bans, with some and
+/// with as many as there may be.
 pub fn full_size_plan(rng: &mut Xorshift, turn: u64) -> MapPlan {
     let seed = rng.draw();
     let plan = match turn % 5 {
@@ -60,20 +78,27 @@ pub fn full_size_plan(rng: &mut Xorshift, turn: u64) -> MapPlan {
         3 => grid(seed, Lengths::SlightlyDifferent),
         _ => chain(seed, Lengths::Equal),
     };
-    plan.shuffled(seed)
+    let plan = plan.shuffled(seed);
+    match turn / 5 % 4 {
+        0 => plan,
+        1 => plan.with_bans(seed, rng.within(1, 60) as usize, Bans::Spread),
+        2 => plan.with_bans(seed, MOST_BANS, Bans::Spread),
+        _ => plan.with_bans(seed, MOST_BANS, Bans::AtOneJunction),
+    }
 }
 
 /// A walk of this many lines, or of fewer where dead ends are met. One line is always found.
-fn walk(rng: &mut Xorshift, map: &DepotMap, count: u32) -> Vec<u32> {
+fn walk(rng: &mut Xorshift, map: &DepotMap, count: u32, turns: Turns) -> Vec<u32> {
     let mut counts = (0..32).map(|turn| (count >> turn).max(1) as usize);
-    let found = counts.find_map(|count| random_walk(rng, map, count));
+    let found = counts.find_map(|count| random_walk(rng, map, count, turns));
     found.unwrap_or_default()
 }
 
 /// The bytes of a stretch, mostly of a walk of one to 64 lines.
 pub fn any_stretch(rng: &mut Xorshift, map: &DepotMap) -> Vec<u8> {
     let count = any_count(rng);
-    let mut lines = walk(rng, map, count);
+    let turns = any_turns(rng, 6);
+    let mut lines = walk(rng, map, count, turns);
     let place = rng.below(lines.len() as u32) as usize;
     let line_count = map.lines.len() as u32;
     let mut more = 0;
@@ -82,14 +107,22 @@ pub fn any_stretch(rng: &mut Xorshift, map: &DepotMap) -> Vec<u8> {
         1 => lines[place] = *rng.pick(&[line_count, line_count + 1, u32::MAX]),
         2 => lines[place] = rng.below(line_count),
         3 => lines.fill_with(|| rng.below(line_count)),
-        4 => lines = walk(rng, map, 65),
-        5 => lines = walk(rng, map, 300),
+        4 => lines = walk(rng, map, 65, turns),
+        5 => lines = walk(rng, map, 300, turns),
         6 => more = rng.within(1, 3),
         _ => {}
     }
     let mut bytes = line_bytes(&lines);
     bytes.extend(random_bytes(rng, &[more]));
     bytes
+}
+
+/// Once in so many times banned turns too.
+fn any_turns(rng: &mut Xorshift, rarity: u32) -> Turns {
+    match rng.below(rarity) {
+        0 => Turns::BannedToo,
+        _ => Turns::Allowed,
+    }
 }
 
 fn any_count(rng: &mut Xorshift) -> u32 {
@@ -146,12 +179,18 @@ pub fn any_reference(rng: &mut Xorshift, map: &DepotMap) -> Vec<u8> {
     }
 }
 
-/// The reference of a walk that is cut anywhere. Its legs need not be readings.
+/// The reference of a walk that is cut anywhere, and mostly where a turn is banned. Its legs need not
+/// be readings.
 fn composed_reference(rng: &mut Xorshift, map: &DepotMap) -> Vec<u8> {
     let count = any_count(rng);
-    let lines = walk(rng, map, count);
+    let turns = any_turns(rng, 3);
+    let lines = walk(rng, map, count, turns);
     let rarity = *rng.pick(&[1, 2, 4, 16]);
-    let inner = (1..lines.len()).filter(|_| rng.below(rarity) == 0);
+    let is_banned = |place: usize| map.is_banned(lines[place - 1], lines[place]);
+    let inner = (1..lines.len()).filter(|&place| match is_banned(place) {
+        true => rng.below(8) != 0,
+        false => rng.below(rarity) == 0,
+    });
     let places: Vec<usize> = std::iter::once(0)
         .chain(inner)
         .chain([lines.len()])
@@ -191,9 +230,9 @@ pub fn reference_along_chain(map: &DepotMap, count: usize) -> Vec<u8> {
 }
 
 fn shortest_line(map: &DepotMap, start: u32, end: u32) -> Option<u32> {
-    let between = |line: &&u32| map.line(**line).end == end;
-    let lines = map.outgoing.of(start).iter().filter(between);
-    lines.min_by_key(|line| map.line(**line).length).copied()
+    let between = |line: &u32| map.line(*line).end == end;
+    let lines = map.lines_from(start).filter(between);
+    lines.min_by_key(|line| map.line(*line).length)
 }
 
 /// As many bytes as one of the counts says.

@@ -1,10 +1,8 @@
 //! The calls on one map after another, and how many had each answer.
 
-use std::ops::RangeInclusive;
-
 use plain::depot_map::DepotMap;
 use plain::maps::{chain, Lengths, MapPlan, Xorshift};
-use plain::outcome::{Outcome, Reading, Span};
+use plain::outcome::{Outcome, Reading, Refusal, Span};
 use plain::writer::Stretch;
 
 use crate::calls::{line_numbers, ReadCall, WriteCall, MOST_LINES_READ};
@@ -20,10 +18,9 @@ const FULL_SIZE_EVERY: u64 = 10;
 const ENOUGH_FOR_LINES: usize = 4 * MOST_LINES_READ;
 
 /// How many calls had each answer: accepted, and then every refusal by its number.
-type Answers = [u64; 21];
-const OF_MAPS: RangeInclusive<usize> = 2..=6;
-const OF_WRITER: RangeInclusive<usize> = 7..=11;
-const OF_READER: RangeInclusive<usize> = 12..=20;
+type Answers = [u64; 24];
+const OF_WRITER: [usize; 12] = [2, 3, 4, 5, 6, 23, 7, 8, 21, 9, 10, 11];
+const OF_READER: [usize; 16] = [2, 3, 4, 5, 6, 23, 12, 13, 14, 15, 16, 17, 18, 22, 19, 20];
 
 #[derive(Default)]
 pub struct Run {
@@ -32,6 +29,8 @@ pub struct Run {
     reads: Answers,
     longest_reference: usize,
     most_lines: usize,
+    /// Calls with refusal 21 in which all banned turns are in lines skipped whole.
+    banned_where_skipped: u64,
 }
 
 /// A map with its bytes.
@@ -197,9 +196,15 @@ impl Run {
         let compared = call.compare();
         let outcome = compared.map_err(|difference| format!("{call}\n{difference}"))?;
         count(&mut self.writes, &outcome);
-        if let Ok(reference) = &outcome {
-            self.longest_reference = self.longest_reference.max(reference.len());
-            self.read_back(call, reference)?;
+        match &outcome {
+            Ok(reference) => {
+                self.longest_reference = self.longest_reference.max(reference.len());
+                self.read_back(call, reference)?;
+            }
+            Err(Refusal::BannedInStretch) => {
+                self.banned_where_skipped += u64::from(is_banned_where_skipped(call));
+            }
+            Err(_) => {}
         }
         Ok(outcome)
     }
@@ -230,9 +235,30 @@ impl Run {
     pub fn report(&self) -> Result<(), String> {
         let (bytes, lines) = (self.longest_reference, self.most_lines);
         println!("longest reference written {bytes} bytes, most lines read {lines}");
-        print_answers("write", &self.writes, OF_MAPS.chain(OF_WRITER))?;
-        print_answers("read", &self.reads, OF_MAPS.chain(OF_READER))
+        let skipped = self.banned_where_skipped;
+        println!("banned turns in lines skipped whole alone {skipped}");
+        if skipped == 0 {
+            return Err("no banned turn was in lines skipped whole alone".to_string());
+        }
+        print_answers("write", &self.writes, &OF_WRITER)?;
+        print_answers("read", &self.reads, &OF_READER)
     }
+}
+
+/// Of a stretch with a banned turn.
+fn is_banned_where_skipped(call: WriteCall) -> bool {
+    let Ok(map) = DepotMap::decode(call.map) else {
+        return false;
+    };
+    let lines = line_numbers(call.stretch);
+    let left = Stretch {
+        lines: &lines,
+        positive: call.pos,
+        negative: call.neg,
+    };
+    let left = left.without_skipped_lines(&map).lines;
+    let banned = |pair: &[u32]| map.is_banned(pair[0], pair[1]);
+    !left.is_empty() && !left.windows(2).any(banned)
 }
 
 fn count<T>(answers: &mut Answers, outcome: &Outcome<T>) {
@@ -249,19 +275,16 @@ fn stands_for(reading: &Reading, left: &Stretch) -> bool {
         && holds(reading.negative, left.negative)
 }
 
-fn print_answers(
-    name: &str,
-    answers: &Answers,
-    refusals: impl Iterator<Item = usize>,
-) -> Result<(), String> {
-    let numbers: Vec<usize> = std::iter::once(0).chain(refusals).collect();
+fn print_answers(name: &str, answers: &Answers, refusals: &[usize]) -> Result<(), String> {
     print!("{name}: accepted {}, refused", answers[0]);
-    for &refusal in &numbers[1..] {
+    for &refusal in refusals {
         print!(" {refusal}: {}", answers[refusal]);
     }
     println!();
-    match numbers.into_iter().find(|&number| answers[number] == 0) {
-        Some(0) => Err(format!("{name}: no call was accepted")),
+    if answers[0] == 0 {
+        return Err(format!("{name}: no call was accepted"));
+    }
+    match refusals.iter().find(|&&refusal| answers[refusal] == 0) {
         Some(refusal) => Err(format!("{name}: no call had refusal {refusal}")),
         None => Ok(()),
     }

@@ -1,9 +1,9 @@
 -- `count_lines` meets its contract: a refused count, or the stage of the lines.
-use Rattle.model.specs.Refusal.{refusalOf}
+use Rattle.depot_map.specs.Step.{faultOf}
 use Rattle.model.specs.Map.{decodeNodes}
 use Rattle.buffers.proofs.Kept.{kept-none}
 use Rattle.depot_map.proofs.Steps.{field-on, field-off, field-range}
-use Rattle.depot_map.proofs.Stages.{stage-refused, stage-then}
+use Rattle.depot_map.proofs.Stages.{stage-faulty, stage-then}
 use native.Mathlib.Omega.{arith}
 use borrow.Author.Needs.{needs}
 use Rattle.depot_map.proofs.count_lines.Statement.{statement}
@@ -24,21 +24,24 @@ read-lines-requires c κs =
 enum-known-why : tie.Need-enum-known-why
 enum-known-why c = search needs
 
+refusal-of-requires : tie.Need-refusal-of-requires
+refusal-of-requires c κs = search needs
+
 same-length : tie.Need-same-length
 same-length c = search needs
 
 returns : tie.Need-returns
-unfolding decodeNodes refusalOf
+unfolding decodeNodes faultOf
 returns c =
     let known = c .before .before .before .before .before in
     let field = known .before .before in
     stage-then (field-on (field .field .ensures) (known .lines .given .1) _) kept-none (omega arith) (c .before .before .read-lines .ensures)
 
 returns-2 : tie.Need-returns-2
-unfolding decodeNodes refusalOf
+unfolding decodeNodes faultOf
 returns-2 c =
-    let field = c .before .before .before in
-    stage-refused (field-off (field .field .ensures) (c .before .why .given .1) _) kept-none
+    let field = c .before .before .before .before in
+    stage-faulty (c .refusal-of .ensures) (field-off (field .field .ensures) (c .before .before .why .given .1) _) kept-none
 
 pub count-lines-spec : {M : Type 1} → statement M
 count-lines-spec =
@@ -48,6 +51,7 @@ count-lines-spec =
     enum-known-lines
     read-lines-requires
     enum-known-why
+    refusal-of-requires
     same-length
     returns
     returns-2)

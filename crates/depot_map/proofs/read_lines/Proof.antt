@@ -30,15 +30,18 @@ enum-known-next c = search needs
 enum-known-why : tie.Need-enum-known-why Inv-loop μ-loop
 enum-known-why c = search needs
 
+refusal-of-requires : tie.Need-refusal-of-requires Inv-loop μ-loop
+refusal-of-requires c κs = search needs
+
 same-length : tie.Need-same-length Inv-loop μ-loop
 same-length c =
-    let one = c .before .before .before .before .before in
+    let one = c .before .before .before .before .before .before in
     one .read-line .kept .1 .1 .0 ∙ one .before .before .before .loop .inv .kept .same
 
 returns : tie.Need-returns Inv-loop μ-loop
 returns c =
-    let one = c .before .before .before .before .before in
-    lines-off (one .before .before .before .loop .inv) (omega arith) (omega arith) (one .read-line .ensures) (c .before .why .given .1)
+    let one = c .before .before .before .before .before .before in
+    lines-off (one .before .before .before .loop .inv) (omega arith) (omega arith) (one .read-line .ensures) (c .refusal-of .ensures) (c .before .before .why .given .1)
 
 add-i : tie.Need-add-i Inv-loop μ-loop
 add-i c = search needs
@@ -51,18 +54,18 @@ loop-again c =
     let one = c .before .before .before .before .before in
     lines-on (one .before .before .before .loop .inv) (omega arith) (omega arith) (one .read-line .ensures) (c .before .next .given .1)
 
-finish-requires : tie.Need-finish-requires Inv-loop μ-loop
-finish-requires c κs = omega (arith, c .before .before .loop .inv .kept .same)
+count-bans-requires : tie.Need-count-bans-requires Inv-loop μ-loop
+count-bans-requires c κs = omega (arith, c .before .before .loop .inv .kept .same)
 
 same-length-2 : tie.Need-same-length-2 Inv-loop μ-loop
 same-length-2 c =
     let end = c .before .before in
-    end .finish .kept .1 .1 .0 ∙ end .before .before .before .loop .inv .kept .same
+    end .count-bans .kept .1 .1 .0 ∙ end .before .before .before .loop .inv .kept .same
 
 returns-2 : tie.Need-returns-2 Inv-loop μ-loop
 returns-2 c =
     let end = c .before .before in
-    lines-end (end .before .before .before .loop .inv) (omega arith) (omega arith) (end .finish .ensures)
+    lines-end (end .before .before .before .loop .inv) (omega arith) (omega arith) (end .count-bans .ensures)
 
 pub read-lines-spec : {M : Type 1} → statement M
 read-lines-spec =
@@ -74,11 +77,12 @@ read-lines-spec =
     read-line-requires
     enum-known-next
     enum-known-why
+    refusal-of-requires
     same-length
     returns
     add-i
     loop-less
     loop-again
-    finish-requires
+    count-bans-requires
     same-length-2
     returns-2)

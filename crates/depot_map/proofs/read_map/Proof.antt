@@ -1,9 +1,9 @@
 -- `read_map` meets its contract: a refused count, or the stage of the nodes.
-use Rattle.model.specs.Refusal.{refusalOf}
+use Rattle.depot_map.specs.Step.{faultOf}
 use Rattle.model.specs.Map.{decode}
 use Rattle.buffers.proofs.Kept.{kept-none}
 use Rattle.depot_map.proofs.Steps.{field-on, field-off, field-range}
-use Rattle.depot_map.proofs.Stages.{stage-refused, stage-then, map-is-read}
+use Rattle.depot_map.proofs.Stages.{stage-faulty, stage-then, map-is-read}
 use native.Mathlib.Omega.{arith}
 use borrow.Author.Needs.{needs}
 use Rattle.depot_map.proofs.read_map.Statement.{statement}
@@ -24,11 +24,14 @@ read-nodes-requires c κs =
 enum-known-why : tie.Need-enum-known-why
 enum-known-why c = search needs
 
+refusal-of-requires : tie.Need-refusal-of-requires
+refusal-of-requires c κs = search needs
+
 same-length : tie.Need-same-length
 same-length c = search needs
 
 returns : tie.Need-returns
-unfolding decode refusalOf
+unfolding decode faultOf
 returns c =
     let known = c .before .before .before .before .before in
     let field = known .before .before in
@@ -36,10 +39,10 @@ returns c =
     (stage-then (field-on (field .field .ensures) (known .nodes .given .1) _) kept-none (omega arith) (c .before .before .read-nodes .ensures))
 
 returns-2 : tie.Need-returns-2
-unfolding decode refusalOf
+unfolding decode faultOf
 returns-2 c =
-    let field = c .before .before .before in
-    map-is-read (field .before .before .before .pre) (stage-refused (field-off (field .field .ensures) (c .before .why .given .1) _) kept-none)
+    let field = c .before .before .before .before in
+    map-is-read (field .before .before .before .pre) (stage-faulty (c .refusal-of .ensures) (field-off (field .field .ensures) (c .before .before .why .given .1) _) kept-none)
 
 pub read-map-spec : {M : Type 1} → statement M
 read-map-spec =
@@ -49,6 +52,7 @@ read-map-spec =
     enum-known-nodes
     read-nodes-requires
     enum-known-why
+    refusal-of-requires
     same-length
     returns
     returns-2)

@@ -29,15 +29,18 @@ enum-known-next c = search needs
 enum-known-why : tie.Need-enum-known-why Inv-loop μ-loop
 enum-known-why c = search needs
 
+refusal-of-requires : tie.Need-refusal-of-requires Inv-loop μ-loop
+refusal-of-requires c κs = search needs
+
 same-length : tie.Need-same-length Inv-loop μ-loop
 same-length c =
-    let one = c .before .before .before .before .before in
+    let one = c .before .before .before .before .before .before in
     one .read-node .kept .1 .1 .0 ∙ one .before .before .before .loop .inv .kept .same
 
 returns : tie.Need-returns Inv-loop μ-loop
 returns c =
-    let one = c .before .before .before .before .before in
-    nodes-off (one .before .before .before .loop .inv) (omega arith) (omega arith) (one .read-node .ensures) (c .before .why .given .1)
+    let one = c .before .before .before .before .before .before in
+    nodes-off (one .before .before .before .loop .inv) (omega arith) (omega arith) (one .read-node .ensures) (c .refusal-of .ensures) (c .before .before .why .given .1)
 
 add-i : tie.Need-add-i Inv-loop μ-loop
 add-i c = search needs
@@ -73,6 +76,7 @@ read-nodes-spec =
     read-node-requires
     enum-known-next
     enum-known-why
+    refusal-of-requires
     same-length
     returns
     add-i

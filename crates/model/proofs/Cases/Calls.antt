@@ -26,20 +26,20 @@ hosted refusal place lines =
     record { refusal = refusal; place = place; lines = lines; posLeast = 0; posGreatest = 0; negLeast = 0; negGreatest = 0 }
 
 pub record CallCases : Type 0 where
-  -- A work area of 12,287 is refusal 1 for every call, one of 12,288 is not; then the map (2), then the stretch (7) or the reference (12).
-  pub short-read : (mb ref : List ℕ) (room : ℕ) → Reads mb ref 12_287 room (ReadOutcome.refused (row 1))
-  pub short-write : (mb : List ℕ) (s : Stretch) (room : ℕ) → Writes mb s 12_287 room (WriteOutcome.refused (row 1))
-  pub map-first : Reads [] [] 12_288 0 (ReadOutcome.refused (row 2)) × Writes [] nowhere 12_288 0 (WriteOutcome.refused (row 2))
-  pub then-the-rest : Reads mapBytes [] 12_288 0 (ReadOutcome.refused (row 12)) × Writes mapBytes nowhere 12_288 0 (WriteOutcome.refused (row 7))
+  -- A work area of 14,335 is refusal 1 for every call, one of 14,336 is not; then the map (2), then the stretch (7) or the reference (12).
+  pub short-read : (mb ref : List ℕ) (room : ℕ) → Reads mb ref 14_335 room (ReadOutcome.refused (row 1))
+  pub short-write : (mb : List ℕ) (s : Stretch) (room : ℕ) → Writes mb s 14_335 room (WriteOutcome.refused (row 1))
+  pub map-first : Reads [] [] 14_336 0 (ReadOutcome.refused (row 2)) × Writes [] nowhere 14_336 0 (WriteOutcome.refused (row 2))
+  pub then-the-rest : Reads mapBytes [] 14_336 0 (ReadOutcome.refused (row 12)) × Writes mapBytes nowhere 14_336 0 (WriteOutcome.refused (row 7))
   -- "The result stands first in its buffer, the rest unchanged"; "a refusal leaves the byte and line buffers unchanged".
   pub places : placed (1 ∷ 2 ∷ []) (7 ∷ 8 ∷ 9 ∷ []) ≡ 1 ∷ 2 ∷ 9 ∷ []
   pub line-buffers : map (λ o. linesAfter o (7 ∷ 8 ∷ 9 ∷ [])) (read (1 ∷ []) (span 2 3) (span 4 5) ∷ ReadOutcome.refused (row 20) ∷ []) ≡
       (1 ∷ 8 ∷ 9 ∷ []) ∷ (7 ∷ 8 ∷ 9 ∷ []) ∷ []
   pub byte-buffers : map (λ o. bytesAfter o (7 ∷ 8 ∷ 9 ∷ [])) (written (1 ∷ []) ∷ WriteOutcome.refused (row 11) ∷ []) ≡
       (1 ∷ 8 ∷ 9 ∷ []) ∷ (7 ∷ 8 ∷ 9 ∷ []) ∷ []
-  -- "The first 12,288 of the work area are zero and the rest unchanged; refusal 1 changes nothing."
-  pub zeroed : cleared (replicate 12_288 7 ++ 8 ∷ 9 ∷ []) ≡ replicate 12_288 0 ++ 8 ∷ 9 ∷ []
-  pub not-zeroed : cleared (replicate 12_287 7) ≡ replicate 12_287 7
+  -- "The first 14,336 of the work area are zero and the rest unchanged; refusal 1 changes nothing."
+  pub zeroed : cleared (replicate 14_336 7 ++ 8 ∷ 9 ∷ []) ≡ replicate 14_336 0 ++ 8 ∷ 9 ∷ []
+  pub not-zeroed : cleared (replicate 14_335 7) ≡ replicate 14_335 7
   -- Answers count.
   pub read-count : ReadAnswers (Reader.Read 2 (span 2 3) (span 4 5)) (read (0 ∷ 1 ∷ []) (span 2 3) (span 4 5))
   pub write-count : WriteAnswers (Writer.Written 3) (written (7 ∷ 8 ∷ 9 ∷ []))

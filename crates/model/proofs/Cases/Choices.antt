@@ -33,6 +33,7 @@ bypass =
           ∷ record { start = 1; end = 3; length = 750; frc = 4; fow = 1; out = 0; back = 180 }
           ∷ record { start = 3; end = 4; length = 750; frc = 3; fow = 6; out = 180; back = 300 }
           ∷ [];
+      bans = [];
     }
 
 two-lines : Good bypass false (0 ∷ 1 ∷ [])

@@ -1,12 +1,12 @@
 -- One name for all definitions that compute: to unfold it is to unfold what its line names.
 use Rattle.model.specs.Number.{groups, number, groupBytes, numberBytes}
 use Rattle.model.specs.Field.{codeSize, code, sector, distance, offsetByte}
-use Rattle.model.specs.Map.{field, lonCode, latCode, sameCodes, among, clash, ended, readLine, decodeLines, readNode, decodeNodes, decode}
+use Rattle.model.specs.Map.{field, lonCode, latCode, sameCodes, among, clash, fitting, allFitting, ended, readBan, decodeBans, readLine, decodeLines, readNode, decodeNodes, decode}
 use Rattle.model.specs.Difference.{difference, moved, differences, standsAt}
-use Rattle.model.specs.Lines.{lineAt, nodeAt, total, lowest, firstOf, lastOf, leaving, arriving}
-use Rattle.model.specs.Stretch.{unknown, gap, skip, remaining, checkStretch}
+use Rattle.model.specs.Lines.{lineAt, nodeAt, turnAmong, banned, total, lowest, firstOf, lastOf, leaving, arriving}
+use Rattle.model.specs.Stretch.{unknown, somePair, apart, skip, remaining, checkStretch}
 use Rattle.model.specs.Reference.{bytes2, bytes3, byteP, byteQ, flag, byteR, pointBytes, offsetBytes, bytesOf, at2, at3, attributes, pointAt, pointsAt, positive, negative, offsetAt, pointCount, referenceAt, spareBits, flags, parse}
-use Rattle.model.specs.Reading.{joined}
+use Rattle.model.specs.Reading.{joined, bannedMeeting}
 use Rattle.model.specs.Choice.{fromNode, toNode, arrivalOf, legOf, firstLeg, lastLeg, pointOf, pointsOf, offsetOf, referenceOf, stretchBytes}
 use Rattle.model.specs.Refusal.{numberOf, placeOf, refusalOf}
 use Rattle.model.specs.Locate.{seek, leg-first, arrivalBefore, legsFrom, hasCodes, locate}
@@ -17,10 +17,10 @@ use Rattle.model.specs.Host.{words, wordBytes, hostStretch, hostRoom, ho
 
 unfoldable pub computing : Unit {0}
 unfolding
-    groups number groupBytes numberBytes codeSize code sector distance offsetByte field lonCode latCode sameCodes among clash ended readLine
-    decodeLines readNode decodeNodes decode difference moved differences standsAt lineAt nodeAt total lowest firstOf lastOf leaving arriving
-    unknown gap skip remaining checkStretch bytes2 bytes3 byteP byteQ flag byteR pointBytes offsetBytes bytesOf at2 at3 attributes pointAt
-    pointsAt positive negative offsetAt pointCount referenceAt spareBits flags parse joined fromNode toNode arrivalOf legOf firstLeg lastLeg
+    groups number groupBytes numberBytes codeSize code sector distance offsetByte field lonCode latCode sameCodes among clash fitting allFitting ended readBan decodeBans readLine
+    decodeLines readNode decodeNodes decode difference moved differences standsAt lineAt nodeAt turnAmong banned total lowest firstOf lastOf leaving arriving
+    unknown somePair apart skip remaining checkStretch bytes2 bytes3 byteP byteQ flag byteR pointBytes offsetBytes bytesOf at2 at3 attributes pointAt
+    pointsAt positive negative offsetAt pointCount referenceAt spareBits flags parse joined bannedMeeting fromNode toNode arrivalOf legOf firstLeg lastLeg
     pointOf pointsOf offsetOf referenceOf stretchBytes numberOf placeOf refusalOf seek leg-first arrivalBefore legsFrom hasCodes locate cleared placed
     linesAfter bytesAfter digits decimal numbered each acceptance refusal text told words wordBytes hostStretch hostRoom hostRead hostWritten hostLinesAfter hostBytesAfter
 computing = tt

@@ -27,6 +27,7 @@ detour =
           ∷ record { start = 1; end = 2; length = 100; frc = 5; fow = 3; out = 0; back = 180 }
           ∷ line 2 3 100 135 315
           ∷ [];
+      bans = [];
     }
 
 -- "Every FRC is at most the leg's lowest class": 3 reads 0, 1 and 5 reads the detour.
@@ -58,6 +59,7 @@ long =
     record {
       nodes = node 0 0 ∷ node 1_000 0 ∷ node 2_000 0 ∷ [];
       lines = line 0 1 150_000 90 270 ∷ line 1 2 1 90 270 ∷ [];
+      bans = [];
     }
 
 -- 150,000 is read, as D 255; 150,001, which gives D 255 as well, is not: refusal 17.
@@ -87,6 +89,7 @@ marks =
           ∷ record { start = 1; end = 2; length = 100; frc = 3; fow = 4; out = 90; back = 270 }
           ∷ line 1 2 100 180 90
           ∷ [];
+      bans = [];
     }
 
 -- "A line matching P and Q's sector" leaves the point; "on the last leg the last line matches the last P and R's sector".

@@ -26,6 +26,7 @@ toAndFro =
           record { start = 0; end = 1; length = 10; frc = 3; fow = 5; out = 90; back = 180 }
           ∷ record { start = 1; end = 0; length = 20; frc = 5; fow = 2; out = 270; back = 45 }
           ∷ [];
+      bans = [];
     }
 
 abbrev stretch : List ℕ → ℕ → ℕ → Stretch

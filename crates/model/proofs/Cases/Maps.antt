@@ -1,7 +1,7 @@
--- Worked cases of paper 01, "The depot map", and of refusals 2 to 6: one table, one theorem.
+-- Worked cases of paper 01, "The depot map", of W1's banned turns, and of refusals 2 to 6 and 23: one table, one theorem.
 use Prim.Native.Nat.{ℕ}
 use mathlib.Core.Path.{_≡_, refl}
-use mathlib.Core.List.{List, [], _∷_, _++_, map}
+use mathlib.Core.List.{List, [], _∷_, map}
 use lib.ListN.{replicate}
 use Rattle.model.specs.Refusal.{row}
 use Rattle.model.specs.Number.{got, faulty, number, numberBytes}
@@ -24,8 +24,12 @@ oneLine numbers = twoNodes (1 ∷ numbers)
 abbrev close : List ℕ → List ℕ
 close rest = 2 ∷ 0 ∷ 0 ∷ 1 ∷ 0 ∷ rest
 
-abbrev pub someLine : List ℕ
-someLine = 1 ∷ 0 ∷ 1 ∷ 10 ∷ 3 ∷ 3 ∷ 90 ∷ 90 ∷ []
+abbrev pub someLine : List ℕ → List ℕ
+someLine rest = 1 ∷ 0 ∷ 1 ∷ 10 ∷ 3 ∷ 3 ∷ 90 ∷ 90 ∷ rest
+
+-- Two lines, to and fro.
+abbrev twoLines : List ℕ → List ℕ
+twoLines rest = 2 ∷ 0 ∷ 1 ∷ 10 ∷ 3 ∷ 3 ∷ 90 ∷ 90 ∷ 1 ∷ 0 ∷ 20 ∷ 3 ∷ 3 ∷ 90 ∷ 90 ∷ rest
 
 pub record MapCases : Type 0 where
   -- "In groups of seven bits, lowest group first", "in its shortest form and at most 4,294,967,295".
@@ -61,22 +65,47 @@ pub record MapCases : Type 0 where
       ∷ oneLine (0 ∷ 1 ∷ 1 ∷ 7 ∷ 7 ∷ 0xE8 ∷ 0x02 ∷ []) ∷ oneLine (0 ∷ 1 ∷ 1 ∷ 7 ∷ 7 ∷ 0 ∷ 0xE8 ∷ 0x02 ∷ []) ∷ [])
   -- The upper ends of all ranges, and seven fields that differ.
   pub greatest : decode
-      (2 ∷ 0xFE ∷ 0xA1 ∷ 0x95 ∷ 0x11 ∷ 0x80 ∷ 0xD1 ∷ 0xCA ∷ 0x08 ∷ 0 ∷ 5 ∷ 1 ∷ 0 ∷ 1 ∷ 0xF0 ∷ 0x93 ∷ 0x09 ∷ 7 ∷ 7 ∷ 0xE7 ∷ 0x02 ∷ 0xE7 ∷ 0x02 ∷ []) ≡
+      (2 ∷ 0xFE ∷ 0xA1 ∷ 0x95 ∷ 0x11 ∷ 0x80 ∷ 0xD1 ∷ 0xCA ∷ 0x08 ∷ 0 ∷ 5 ∷ 1 ∷ 0 ∷ 1 ∷ 0xF0 ∷ 0x93 ∷ 0x09 ∷ 7 ∷ 7 ∷ 0xE7 ∷ 0x02 ∷ 0xE7 ∷ 0x02 ∷ 0 ∷ []) ≡
       whole
       (record {
         nodes = record { lon = 35_999_998; lat = 18_000_000 } ∷ record { lon = 0; lat = 5 } ∷ [];
         lines = record { start = 0; end = 1; length = 150_000; frc = 7; fow = 7; out = 359; back = 359 } ∷ [];
+        bans = [];
       })
-  pub in-order : decode (oneLine (1 ∷ 0 ∷ 0xAC ∷ 0x02 ∷ 2 ∷ 5 ∷ 90 ∷ 100 ∷ [])) ≡
+  pub in-order : decode (oneLine (1 ∷ 0 ∷ 0xAC ∷ 0x02 ∷ 2 ∷ 5 ∷ 90 ∷ 100 ∷ 0 ∷ [])) ≡
       whole
       (record {
         nodes = record { lon = 0; lat = 0 } ∷ record { lon = 100; lat = 0 } ∷ [];
         lines = record { start = 1; end = 0; length = 300; frc = 2; fow = 5; out = 90; back = 100 } ∷ [];
+        bans = [];
       })
   -- "Left-over bytes come last", but before refusal 6, which 5 precedes as well. Also two nodes that do not stand side by side.
-  pub left-over : Refuses 2 (twoNodes (someLine ++ 0 ∷ []) ∷ close (someLine ++ 0 ∷ []) ∷ [])
+  pub left-over : Refuses 2 (twoNodes (someLine (0 ∷ 0 ∷ [])) ∷ close (someLine (0 ∷ 0 ∷ [])) ∷ [])
   pub line-first : Refuses 5 (close (1 ∷ 0 ∷ 0 ∷ []) ∷ oneLine (0 ∷ 1 ∷ 1 ∷ 7 ∷ 7 ∷ 0 ∷ 0xE8 ∷ 0x02 ∷ 0 ∷ []) ∷ [])
-  pub same-codes : Refuses 6 (close someLine ∷ (3 ∷ 0 ∷ 0 ∷ 100 ∷ 0 ∷ 1 ∷ 0 ∷ someLine) ∷ [])
+  pub same-codes : Refuses 6 (close (someLine (0 ∷ [])) ∷ (3 ∷ 0 ∷ 0 ∷ 100 ∷ 0 ∷ 1 ∷ 0 ∷ someLine (0 ∷ [])) ∷ [])
+  -- Counts of 1 and 512 banned turns, and none; 513. A pair's numbers: missing, or not shortest, also after a pair that names no line.
+  pub ban-counts : Refuses 2 (twoNodes (someLine []) ∷ twoNodes (someLine (1 ∷ [])) ∷ twoNodes (someLine (0x80 ∷ 0x04 ∷ [])) ∷ [])
+  pub bad-ban-counts : Refuses 3 (twoNodes (someLine (0x81 ∷ 0x04 ∷ [])) ∷ [])
+  pub ban-numbers : Refuses 2
+      (twoNodes (twoLines (1 ∷ 0 ∷ [])) ∷ twoNodes (twoLines (1 ∷ 0x80 ∷ 0 ∷ 1 ∷ [])) ∷ twoNodes (twoLines (2 ∷ 0 ∷ 9 ∷ 0x80 ∷ 0 ∷ 1 ∷ []))
+      ∷ twoNodes (twoLines (1 ∷ 0 ∷ 9 ∷ 0 ∷ [])) ∷ [])
+  pub bans-in-order : decode (twoNodes (twoLines (3 ∷ 1 ∷ 0 ∷ 0 ∷ 1 ∷ 1 ∷ 0 ∷ []))) ≡
+      whole
+      (record {
+        nodes = record { lon = 0; lat = 0 } ∷ record { lon = 100; lat = 0 } ∷ [];
+        lines =
+            record { start = 0; end = 1; length = 10; frc = 3; fow = 3; out = 90; back = 90 }
+            ∷ record { start = 1; end = 0; length = 20; frc = 3; fow = 3; out = 90; back = 90 }
+            ∷ [];
+        bans = record { first = 1; second = 0 } ∷ record { first = 0; second = 1 } ∷ record { first = 1; second = 0 } ∷ [];
+      })
+  -- "A pair names no line": line 2, after either line, and 4,294,967,295; "or its second line does not start where its first ends", also where a pair fits before
+  -- it or after it. After 6.
+  pub stray-bans : Refuses 23
+      (twoNodes (twoLines (1 ∷ 2 ∷ 0 ∷ [])) ∷ twoNodes (twoLines (1 ∷ 0 ∷ 2 ∷ [])) ∷ twoNodes (twoLines (1 ∷ 1 ∷ 2 ∷ []))
+      ∷ twoNodes (twoLines (1 ∷ 0xFF ∷ 0xFF ∷ 0xFF ∷ 0xFF ∷ 0x0F ∷ 0 ∷ []))
+      ∷ twoNodes (twoLines (1 ∷ 0 ∷ 0 ∷ [])) ∷ twoNodes (twoLines (2 ∷ 0 ∷ 1 ∷ 1 ∷ 1 ∷ [])) ∷ twoNodes (twoLines (2 ∷ 1 ∷ 1 ∷ 0 ∷ 1 ∷ [])) ∷ [])
+  pub codes-first : Refuses 6 (close (twoLines (1 ∷ 0 ∷ 0 ∷ [])) ∷ [])
 
 pub map-cases : MapCases
 unfolding computing
@@ -98,4 +127,10 @@ map-cases =
       left-over = refl;
       line-first = refl;
       same-codes = refl;
+      ban-counts = refl;
+      bad-ban-counts = refl;
+      ban-numbers = refl;
+      bans-in-order = refl;
+      stray-bans = refl;
+      codes-first = refl;
     }

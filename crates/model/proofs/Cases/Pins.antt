@@ -50,6 +50,7 @@ uneven =
           line 0 1 1_000 90 270
           ∷ record { start = 1; end = 2; length = 1_000; frc = 5; fow = 3; out = 90; back = 270 }
           ∷ [];
+      bans = [];
     }
 
 abbrev first5 : Leg
@@ -82,7 +83,7 @@ lost =
 
 -- The end of a map's bytes: a line from node 0 to node 1; and a map whose two nodes have longitudes stored as 0 and 1.
 abbrev oneLine : List ℕ
-oneLine = 1 ∷ 0 ∷ 1 ∷ 10 ∷ 3 ∷ 3 ∷ 90 ∷ 90 ∷ []
+oneLine = 1 ∷ 0 ∷ 1 ∷ 10 ∷ 3 ∷ 3 ∷ 90 ∷ 90 ∷ 0 ∷ []
 
 abbrev clashing : List ℕ
 clashing = 2 ∷ 0 ∷ 0 ∷ 1 ∷ 0 ∷ oneLine
@@ -96,11 +97,12 @@ pub record Pins : Type 0 where
   pub no-line-2 : map (checkStretch long) (stretchOf (2 ∷ []) 0 0 ∷ stretchOf (2 ∷ 0 ∷ []) 0 0 ∷ stretchOf (0 ∷ 2 ∷ 1 ∷ []) 0 0 ∷ []) ≡
       replicate 3 (StretchAnswer.refused (row 7))
   -- FRC 0, FOW 0 and bearings of 0 are in their ranges.
-  pub lowest-values : decode (2 ∷ 0 ∷ 0 ∷ 100 ∷ 0 ∷ 1 ∷ 0 ∷ 1 ∷ 10 ∷ 0 ∷ 0 ∷ 0 ∷ 0 ∷ []) ≡
+  pub lowest-values : decode (2 ∷ 0 ∷ 0 ∷ 100 ∷ 0 ∷ 1 ∷ 0 ∷ 1 ∷ 10 ∷ 0 ∷ 0 ∷ 0 ∷ 0 ∷ 0 ∷ []) ≡
       whole
       (record {
         nodes = record { lon = 0; lat = 0 } ∷ record { lon = 100; lat = 0 } ∷ [];
         lines = record { start = 0; end = 1; length = 10; frc = 0; fow = 0; out = 0; back = 0 } ∷ [];
+        bans = [];
       })
   -- Two nodes with the same codes, neither of them the first: longitudes stored as 9, 0 and 1; and two with another between: 0, 9 and 1.
   pub later-codes : map decode ((3 ∷ 9 ∷ 0 ∷ 0 ∷ 0 ∷ 1 ∷ 0 ∷ oneLine) ∷ (3 ∷ 0 ∷ 0 ∷ 9 ∷ 0 ∷ 1 ∷ 0 ∷ oneLine) ∷ []) ≡
@@ -113,11 +115,11 @@ pub record Pins : Type 0 where
   -- Bytes beyond the last whole four say no line.
   pub whole-fours : map words ((7 ∷ 0 ∷ 0 ∷ 0 ∷ 1 ∷ []) ∷ (7 ∷ 0 ∷ 0 ∷ 0 ∷ 1 ∷ 0 ∷ []) ∷ (7 ∷ 0 ∷ 0 ∷ 0 ∷ 1 ∷ 0 ∷ 0 ∷ []) ∷ []) ≡ replicate 3 (7 ∷ [])
   -- The number of each part is that of the call.
-  pub map-rows : Reads clashing [] 12_288 0 (ReadOutcome.refused (row 6)) × Writes clashing (stretchOf [] 0 0) 12_288 0 (WriteOutcome.refused (row 6))
-  pub stretch-rows : Writes mapBytes (stretchOf (0 ∷ 2 ∷ 1 ∷ []) 0 0) 12_288 0 (WriteOutcome.refused (row 8)) ×
-      Writes mapBytes (stretchOf (3 ∷ 0 ∷ 1 ∷ []) 0 0) 12_288 0 (WriteOutcome.refused (row 8)) ×
-      Writes mapBytes (stretchOf (0 ∷ []) 1_000 0) 12_288 0 (WriteOutcome.refused (row 9))
-  pub form-rows : Reads mapBytes (0x0A ∷ replicate 15 0) 12_288 0 (ReadOutcome.refused (row 13))
+  pub map-rows : Reads clashing [] 14_336 0 (ReadOutcome.refused (row 6)) × Writes clashing (stretchOf [] 0 0) 14_336 0 (WriteOutcome.refused (row 6))
+  pub stretch-rows : Writes mapBytes (stretchOf (0 ∷ 2 ∷ 1 ∷ []) 0 0) 14_336 0 (WriteOutcome.refused (row 8)) ×
+      Writes mapBytes (stretchOf (3 ∷ 0 ∷ 1 ∷ []) 0 0) 14_336 0 (WriteOutcome.refused (row 8)) ×
+      Writes mapBytes (stretchOf (0 ∷ []) 1_000 0) 14_336 0 (WriteOutcome.refused (row 9))
+  pub form-rows : Reads mapBytes (0x0A ∷ replicate 15 0) 14_336 0 (ReadOutcome.refused (row 13))
   -- Six bytes are no multiple of four.
   pub six-bytes : map (λ bs. checkStretch ridge (hostStretch bs 0 0)) (replicate 6 0 ∷ replicate 7 0 ∷ []) ≡ replicate 2 (StretchAnswer.refused (row 7))
   -- 16 before 17: every point's node is asked before any leg.

@@ -15,7 +15,7 @@ use Rattle.model.proofs.Cases.Ridge.{node, line, road, point, leg}
 
 -- Two lines side by side with equal marks, the second one longer.
 abbrev pub pair : Map
-pair = record { nodes = node 0 0 ∷ node 1_000 0 ∷ []; lines = line 0 1 600 90 270 ∷ line 0 1 700 90 270 ∷ [] }
+pair = record { nodes = node 0 0 ∷ node 1_000 0 ∷ []; lines = line 0 1 600 90 270 ∷ line 0 1 700 90 270 ∷ []; bans = [] }
 
 -- The longer one is a reading too: least is "with the same first line".
 pub pair-several : Several pair (leg 0 1 1 any)
@@ -35,6 +35,7 @@ fork =
     record {
       nodes = node 0 0 ∷ node 1_000 0 ∷ node 2_000 0 ∷ node 3_000 0 ∷ [];
       lines = line 0 1 100 90 270 ∷ line 1 2 500 90 270 ∷ line 1 2 550 90 270 ∷ line 2 3 100 90 270 ∷ [];
+      bans = [];
     }
 
 -- On the last leg least is with the same first and last line: both 0, 1 and 0, 2 are readings.
@@ -55,6 +56,7 @@ merge =
     record {
       nodes = node 0 0 ∷ node 1_000 0 ∷ node 2_000 0 ∷ [];
       lines = line 0 1 500 90 270 ∷ line 0 1 550 90 270 ∷ line 1 2 100 90 270 ∷ [];
+      bans = [];
     }
 
 pub first-several : Several merge (leg 0 2 1 (matching (road 24)))

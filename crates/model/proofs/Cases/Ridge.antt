@@ -24,6 +24,7 @@ mapBytes =
     ∷ 1 ∷ 3 ∷ 0xE8 ∷ 0x07 ∷ 3 ∷ 3 ∷ 90 ∷ 0x8E ∷ 0x02
     ∷ 1 ∷ 2 ∷ 0xF4 ∷ 0x03 ∷ 3 ∷ 3 ∷ 0 ∷ 0xB4 ∷ 0x01
     ∷ 2 ∷ 3 ∷ 0xF4 ∷ 0x03 ∷ 3 ∷ 3 ∷ 0x87 ∷ 0x01 ∷ 0x90 ∷ 0x02
+    ∷ 0
     ∷ []
 
 -- A node so far east and north of longitude 0 and latitude 0.
@@ -39,6 +40,7 @@ ridge =
     record {
       nodes = node 0 0 ∷ node 1_000 0 ∷ node 1_000 1_000 ∷ node 2_000 0 ∷ [];
       lines = line 0 1 1_000 90 270 ∷ line 1 3 1_000 90 270 ∷ line 1 2 500 0 180 ∷ line 2 3 500 135 272 ∷ [];
+      bans = [];
     }
 
 -- The paper's three references: three points, the same with positive offset 500, and two points.

@@ -59,15 +59,15 @@ cut-in-two =
     (λ c. Preferred.same, (λ c. absurd (not-several (passed (c .usable) .only) tie-several), tt))
 
 -- The stretch is written so with a full work area and a byte buffer that is just long enough; in a shorter one it is refusal 11.
-pub writes : Writes mapBytes (stretch 0) 12_288 23 (written threePoints)
+pub writes : Writes mapBytes (stretch 0) 14_336 23 (written threePoints)
 unfolding computing
 writes = WriteOn.accepted cut-in-two (omega arith)
 
-pub writes-from-500 : Writes mapBytes (stretch 500) 12_288 24 (written threeFrom500)
+pub writes-from-500 : Writes mapBytes (stretch 500) 14_336 24 (written threeFrom500)
 unfolding computing
 writes-from-500 = WriteOn.accepted cut-in-two (omega arith)
 
-pub too-few-bytes : Writes mapBytes (stretch 0) 12_288 22 (WriteOutcome.refused (row 11))
+pub too-few-bytes : Writes mapBytes (stretch 0) 14_336 22 (WriteOutcome.refused (row 11))
 unfolding computing
 too-few-bytes = WriteOn.no-room cut-in-two (omega arith)
 
@@ -85,23 +85,23 @@ pub spans-from-500 : SpansRead ridge (three (byte 0x80)) cuts from-500 none
 unfolding computing
 spans-from-500 = record { pos-read = byte-80; neg-read = unflagged }
 
-pub reads : Reads mapBytes threePoints 12_288 1_024 (read (0 ∷ 1 ∷ []) none none)
+pub reads : Reads mapBytes threePoints 14_336 1_024 (read (0 ∷ 1 ∷ []) none none)
 unfolding computing
 reads =
     ReadOn.every-leg (on-the-ridge .three-located) legs-read
     (ReadEnd.accepted (record { pos-read = unflagged; neg-read = unflagged }) (omega arith) (omega arith))
 
-pub reads-from-500 : Reads mapBytes threeFrom500 12_288 2 (read (0 ∷ 1 ∷ []) from-500 none)
+pub reads-from-500 : Reads mapBytes threeFrom500 14_336 2 (read (0 ∷ 1 ∷ []) from-500 none)
 unfolding computing
 reads-from-500 =
     ReadOn.every-leg (on-the-ridge .three-from-500-located) legs-read (ReadEnd.accepted spans-from-500 (omega arith) (omega arith))
 
-pub too-few-lines : Reads mapBytes threeFrom500 12_288 1 (ReadOutcome.refused (row 20))
+pub too-few-lines : Reads mapBytes threeFrom500 14_336 1 (ReadOutcome.refused (row 20))
 unfolding computing
 too-few-lines =
     ReadOn.every-leg (on-the-ridge .three-from-500-located) legs-read (ReadEnd.no-room spans-from-500 (omega arith) (omega arith))
 
 -- Two points fit both ways: refusal 18 at leg 0.
-pub refuses : Reads mapBytes twoPoints 12_288 1_024 (ReadOutcome.refused (rowAt 18 0))
+pub refuses : Reads mapBytes twoPoints 14_336 1_024 (ReadOutcome.refused (rowAt 18 0))
 unfolding computing
 refuses = ReadOn.no-leg (on-the-ridge .two-located) (LegsRead.several tie-several)

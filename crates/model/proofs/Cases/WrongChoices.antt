@@ -61,7 +61,7 @@ bypassed = record { lines = 0 ∷ 1 ∷ 2 ∷ []; pos = 500; neg = 250 }
 
 -- Two lines in a row, to nodes 32,768 apart: "differences fit 16 bits", and this one does not.
 abbrev pub apart : Node → Node → Map
-apart middle end = record { nodes = node 0 0 ∷ middle ∷ end ∷ []; lines = line 0 1 1_000 90 270 ∷ line 1 2 1_000 90 270 ∷ [] }
+apart middle end = record { nodes = node 0 0 ∷ middle ∷ end ∷ []; lines = line 0 1 1_000 90 270 ∷ line 1 2 1_000 90 270 ∷ []; bans = [] }
 
 abbrev pub eastwards : Map
 eastwards = apart (node 1_000 0) (node 32_768 0)
@@ -95,6 +95,7 @@ straight =
     record {
       nodes = node 0 0 ∷ node 1_000 0 ∷ node 2_000 0 ∷ node 3_000 0 ∷ [];
       lines = line 0 1 9_000 90 270 ∷ line 1 2 5_000 90 270 ∷ line 2 3 5_000 90 270 ∷ [];
+      bans = [];
     }
 
 straight-good : Good straight true (0 ∷ 1 ∷ 2 ∷ [])
@@ -118,6 +119,7 @@ sideways =
       nodes = node 0 0 ∷ node 1_000 0 ∷ node 2_000 0 ∷ node 3_000 0 ∷ [];
       lines =
           line 0 1 100 90 270 ∷ line 1 2 1_800 90 270 ∷ line 2 3 100 90 270 ∷ line 1 2 100 90 270 ∷ line 1 3 1_900 90 270 ∷ [];
+      bans = [];
     }
 
 by-3 : Allowed sideways (legOf sideways true (0 ∷ 1 ∷ 2 ∷ [])) (0 ∷ 3 ∷ 2 ∷ [])
@@ -134,6 +136,7 @@ shortcut =
     record {
       nodes = node 0 0 ∷ node 1_000 0 ∷ node 2_000 0 ∷ node 3_000 0 ∷ [];
       lines = line 0 1 100 90 270 ∷ line 1 2 200 90 270 ∷ line 2 3 100 90 270 ∷ line 1 2 100 90 270 ∷ [];
+      bans = [];
     }
 
 by-shortcut : Allowed shortcut (legOf shortcut true (0 ∷ 1 ∷ 2 ∷ [])) (0 ∷ 3 ∷ 2 ∷ [])

@@ -55,7 +55,7 @@ pub no-padded-number : OnlyRefused (oneLine (0 ∷ 0x80 ∷ 0 ∷ [])) 2
 unfolding computing
 no-padded-number = only-refused _ 2 refl
 
--- One that takes bytes after the last line: it would go on to the reference.
-pub no-left-over-bytes : OnlyRefused (twoNodes (someLine ++ 0 ∷ [])) 2
+-- One that takes bytes after the last number: it would go on to the reference.
+pub no-left-over-bytes : OnlyRefused (twoNodes (someLine (0 ∷ 0 ∷ []))) 2
 unfolding computing
 no-left-over-bytes = only-refused _ 2 refl

@@ -117,7 +117,7 @@ module _ (work lines : List ℕ) (full : workLength ≤ length work) where
     no-one-list c d same =
         no-other-list c λ e. no-other-order d λ f. omega (arith, same, ap (λ (ls : List ℕ). getD ls 0 0) e, ap (λ (ls : List ℕ). getD ls 0 0) f)
 
--- One that leaves a number in the work area, be it the last one of the 12,288.
+-- One that leaves a number in the work area, be it the last one of the 14,336.
 zeros-first : (n i : ℕ) (rest : List ℕ) → i < n → getD (replicate n 0 ++ rest) i 0 ≡ 0
 zeros-first zero i rest h = absurd (omega arith)
 zeros-first (suc n) zero rest h = refl

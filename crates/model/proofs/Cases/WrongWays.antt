@@ -35,6 +35,7 @@ beyond =
     record {
       nodes = node 0 0 ∷ node 1_000 0 ∷ node 1_000 1_000 ∷ node 2_000 0 ∷ node 3_000 0 ∷ [];
       lines = line 0 1 1_000 90 270 ∷ line 1 3 1_000 90 270 ∷ line 1 2 500 0 180 ∷ line 2 3 500 135 272 ∷ line 3 4 1_000 90 270 ∷ [];
+      bans = [];
     }
 
 -- Two equal ways to one last line: 0, 1, 4 and 0, 2, 3, 4.
@@ -132,6 +133,7 @@ detourBeyond =
           ∷ line 2 3 100 135 315
           ∷ line 3 4 1_000 90 270
           ∷ [];
+      bans = [];
     }
 
 no-detour : Only detourBeyond (leg 0 3 3 any) (0 ∷ 1 ∷ [])

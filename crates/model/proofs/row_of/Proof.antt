@@ -64,6 +64,15 @@ enum-told-16 c = search needs
 enum-told-17 : tie.Need-enum-told-17
 enum-told-17 c = search needs
 
+enum-told-18 : tie.Need-enum-told-18
+enum-told-18 c = search needs
+
+enum-told-19 : tie.Need-enum-told-19
+enum-told-19 c = search needs
+
+enum-told-20 : tie.Need-enum-told-20
+enum-told-20 c = search needs
+
 returns : tie.Need-returns
 unfolding numberOf placeOf refusalOf
 returns c = (simp (c .enum-told .given .1), simp (c .enum-told .given .1))
@@ -144,6 +153,18 @@ returns-20 : tie.Need-returns-20
 unfolding numberOf placeOf refusalOf
 returns-20 c = (simp (c .enum-told17 .given .1), simp (c .enum-told17 .given .1))
 
+returns-21 : tie.Need-returns-21
+unfolding numberOf placeOf refusalOf
+returns-21 c = (simp (c .enum-told18 .given .1), simp (c .enum-told18 .given .1))
+
+returns-22 : tie.Need-returns-22
+unfolding numberOf placeOf refusalOf
+returns-22 c = (simp (c .enum-told19 .given .1), simp (c .enum-told19 .given .1))
+
+returns-23 : tie.Need-returns-23
+unfolding numberOf placeOf refusalOf
+returns-23 c = (simp (c .enum-told20 .given .1), simp (c .enum-told20 .given .1))
+
 pub row-of-spec : {M : Type 1} → statement M
 row-of-spec =
     tie.close
@@ -168,6 +189,9 @@ row-of-spec =
     enum-known-why-3
     enum-told-16
     enum-told-17
+    enum-told-18
+    enum-told-19
+    enum-told-20
     returns
     returns-2
     returns-3
@@ -187,4 +211,7 @@ row-of-spec =
     returns-17
     returns-18
     returns-19
-    returns-20)
+    returns-20
+    returns-21
+    returns-22
+    returns-23)

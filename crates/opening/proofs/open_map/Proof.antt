@@ -1,7 +1,6 @@
 -- `open_map` meets its contract: the map that is read, linked; or its refusal.
 use native.Mathlib.Omega.{arith}
 use borrow.Author.Needs.{needs}
-use Rattle.buffers.proofs.Kept.{kept-within}
 use Rattle.work_area.proofs.Holding.{held}
 use Rattle.depot_map.proofs.Whole.{read-whole, read-refused}
 use Rattle.opening.proofs.Told.{opened}
@@ -39,7 +38,7 @@ same-length-2 c = search needs
 returns-2 : tie.Need-returns-2
 returns-2 c =
     let m = c .before .before .before .before .before .read-map .ensures in
-    record { answers = read-refused m (c .before .why .given .1); kept = kept-within (omega arith) (omega arith) (m .kept) }
+    record { answers = read-refused m (c .before .why .given .1); kept = m .kept }
 
 pub open-map-spec : {M : Type 1} → statement M
 open-map-spec =

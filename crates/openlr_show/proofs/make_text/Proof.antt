@@ -2,6 +2,7 @@
 use mathlib.Core.Path.{_≡_}
 use lib.ListN.{length}
 use Rattle.model.specs.Text.{printedLines}
+use Rattle.model.specs.Work.{workLength}
 use Rattle.openlr_show.proofs.Printed.{zeros, made}
 use native.Mathlib.Omega.{arith}
 use borrow.Author.Needs.{needs}
@@ -33,7 +34,7 @@ returns c =
     let start = answered .before .before .before .before .before .before in
     let told = answered .read in
     let room : length (told .last .1 .1 .1 .0) ≡ printedLines = omega (arith, told .kept .1 .1 .1 .0) in
-    made (zeros 12_288) (zeros 1_024) room (told .ensures) (start .pre) (end .put-answer .ensures)
+    made (zeros workLength) (zeros 1_024) room (told .ensures) (start .pre) (end .put-answer .ensures)
 
 pub make-text-spec : {M : Type 1} → statement M
 make-text-spec =

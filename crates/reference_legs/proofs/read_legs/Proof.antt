@@ -139,8 +139,8 @@ both-requires c κs = search needs
 enum-told : tie.Need-enum-told Inv-loop μ-loop Inv-legs μ-legs
 enum-told c = search needs
 
-cast-t27 : tie.Need-cast-t27 Inv-loop μ-loop Inv-legs μ-legs
-cast-t27 c = omega (arith, c .before .before .before .before .before .before .before .before .before .before .before .before .before .before .before .before .before .if1 .left, c .before .before .before .before .before .before .before .before .before .before .before .before .before .before .before .before .before .before .before .before .before .before .before .pre .0 .0 .few)
+cast-t28 : tie.Need-cast-t28 Inv-loop μ-loop Inv-legs μ-legs
+cast-t28 c = omega (arith, c .before .before .before .before .before .before .before .before .before .before .before .before .before .before .before .before .before .if1 .left, c .before .before .before .before .before .before .before .before .before .before .before .before .before .before .before .before .before .before .before .before .before .before .before .pre .0 .0 .few)
 
 next-leaving-requires : tie.Need-next-leaving-requires Inv-loop μ-loop Inv-legs μ-legs
 next-leaving-requires c κs =
@@ -176,37 +176,46 @@ loop-again c = (
 enum-known-found : tie.Need-enum-known-found Inv-loop μ-loop Inv-legs μ-legs
 enum-known-found c = search needs
 
-cast-t30 : tie.Need-cast-t30 Inv-loop μ-loop Inv-legs μ-legs
-cast-t30 c = search needs
+cast-t31 : tie.Need-cast-t31 Inv-loop μ-loop Inv-legs μ-legs
+cast-t31 c = search needs
+
+barred-with-requires : tie.Need-barred-with-requires Inv-loop μ-loop Inv-legs μ-legs
+barred-with-requires c κs =
+    let p = c .before .before .before .before .before .before .before .before .before .before .before .before .before .before .before .pre .1 in
+    let g = gathered (c .before .before .before .before .before .before .before .before) (p .0) (p .1) (p .2) in
+    let from = from-known (c .before .before .before .before .before .before .before .before) (p .0) (p .1) (p .2) in
+    let to = to-known (c .before .before .before .before .before .before .before .before) (p .0) (p .1) (p .2) in
+    let v = walk-end (c .before .before .before .before .before .loop .inv .4 (p .0) (g .set) from to) (omega (arith, c .before .before .before .before .loop-test .left)) in
+    (g .arrived, (p .0, v .set .held))
 
 with-leg-requires : tie.Need-with-leg-requires Inv-loop μ-loop Inv-legs μ-legs
 with-leg-requires c κs =
-    let p = c .before .before .before .before .before .before .before .before .before .before .before .before .before .before .pre .1 in
-    let g = gathered (c .before .before .before .before .before .before .before) (p .0) (p .1) (p .2) in
-    let from = from-known (c .before .before .before .before .before .before .before) (p .0) (p .1) (p .2) in
-    let to = to-known (c .before .before .before .before .before .before .before) (p .0) (p .1) (p .2) in
-    let v = walk-end (c .before .before .before .before .loop .inv .4 (p .0) (g .set) from to) (omega (arith, c .before .before .before .loop-test .left)) in
-    let bounds = read-bounds (g .set .held .formed) (rw (c .before .found .given .1) at (v .says)) in
-    ((omega (arith, c .before .before .before .before .before .before .before .before .if1 .left, c .before .before .before .before .before .before .before .before .before .before .before .before .before .before .pre .0 .0 .few), g .few, g .short), bounds)
+    let p = c .before .before .before .before .before .before .before .before .before .before .before .before .before .before .before .before .pre .1 in
+    let g = gathered (c .before .before .before .before .before .before .before .before .before) (p .0) (p .1) (p .2) in
+    let from = from-known (c .before .before .before .before .before .before .before .before .before) (p .0) (p .1) (p .2) in
+    let to = to-known (c .before .before .before .before .before .before .before .before .before) (p .0) (p .1) (p .2) in
+    let v = walk-end (c .before .before .before .before .before .before .loop .inv .4 (p .0) (g .set) from to) (omega (arith, c .before .before .before .before .before .loop-test .left)) in
+    let bounds = read-bounds (g .set .held .formed) (rw (c .before .before .before .found .given .1) at (v .says)) in
+    ((omega (arith, c .before .before .before .before .before .before .before .before .before .before .if1 .left, c .before .before .before .before .before .before .before .before .before .before .before .before .before .before .before .before .pre .0 .0 .few), g .few, g .short), bounds)
 
 add-k : tie.Need-add-k Inv-loop μ-loop Inv-legs μ-legs
-add-k c = search needs
+add-k c = omega (arith, c .before .before .before .before .before .before .before .before .before .before .before .if1 .left, c .before .before .before .before .before .before .before .before .before .before .before .before .before .before .before .before .before .pre .0 .0 .few)
 
 legs-less : tie.Need-legs-less Inv-loop μ-loop Inv-legs μ-legs
 legs-less c = search needs
 
 legs-again : tie.Need-legs-again Inv-loop μ-loop Inv-legs μ-legs
 legs-again c =
-    let held = c .before .before .before .before .before .loop .inv in (
-      omega (arith, c .before .before .before .before .before .before .before .before .before .if1 .left),
-      omega (arith, held .0, c .before .before .before .before .before .before .before .before .before .before .legs .inv .1),
-      omega (arith, held .1, c .before .before .before .before .before .before .before .before .before .before .legs .inv .2),
+    let held = c .before .before .before .before .before .before .before .loop .inv in (
+      omega (arith, c .before .before .before .before .before .before .before .before .before .before .before .if1 .left),
+      omega (arith, held .0, c .before .before .before .before .before .before .before .before .before .before .before .before .legs .inv .1),
+      omega (arith, held .1, c .before .before .before .before .before .before .before .before .before .before .before .before .legs .inv .2),
       λ m set places.
-          let g = gathered (c .before .before .before .before .before .before .before .before) m set places in
-          let from = from-known (c .before .before .before .before .before .before .before .before) m set places in
-          let to = to-known (c .before .before .before .before .before .before .before .before) m set places in
-          let v = walk-end (held .4 m (g .set) from to) (omega (arith, c .before .before .before .before .loop-test .left)) in
-          rw (c .with-leg .ensures) (gather-on g (c .before .before .before .before .before .before .before .before .before .before .legs .inv .2) (v .set) (rw (c .before .before .found .given .1) at (v .says))),
+          let g = gathered (c .before .before .before .before .before .before .before .before .before .before) m set places in
+          let from = from-known (c .before .before .before .before .before .before .before .before .before .before) m set places in
+          let to = to-known (c .before .before .before .before .before .before .before .before .before .before) m set places in
+          let v = walk-end (held .4 m (g .set) from to) (omega (arith, c .before .before .before .before .before .before .loop-test .left)) in
+          rw (c .with-leg .ensures, c .before .barred-with .ensures m (v .set .held)) (gather-on g (c .before .before .before .before .before .before .before .before .before .before .before .before .legs .inv .2) (v .set) (rw (c .before .before .before .before .found .given .1) at (v .says))),
     )
 
 same-length : tie.Need-same-length Inv-loop μ-loop Inv-legs μ-legs
@@ -269,12 +278,13 @@ read-legs-spec =
     put-reading-requires
     both-requires
     enum-told
-    cast-t27
+    cast-t28
     next-leaving-requires
     loop-less
     loop-again
     enum-known-found
-    cast-t30
+    cast-t31
+    barred-with-requires
     with-leg-requires
     add-k
     legs-less

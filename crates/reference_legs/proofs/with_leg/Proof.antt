@@ -10,11 +10,11 @@ use Rattle.reference_legs.specs.Legs.{sumsWith}
 use Rattle.reference_legs.proofs.with_leg.Statement.{statement}
 use Rattle.reference_legs.proofs.with_leg.Tie as tie
 
-add-t7 : tie.Need-add-t7
-add-t7 c = search needs
-
 add-t8 : tie.Need-add-t8
 add-t8 c = search needs
+
+add-t9 : tie.Need-add-t9
+add-t9 c = search needs
 
 returns : tie.Need-returns
 unfolding sumsWith
@@ -23,7 +23,7 @@ returns c =
     let first : c .before .before .before .before .if1 .first ≡ cond (eqb (a .k) 0) (a .reading .length) (a .sums .first) =
     ⊎-elim (λ h. rw (eq-eqb _ _ (h .0 .taken)) (h .1)) (λ h. rw (ne-eqb _ _ (h .0 .left)) (h .1)) (c .before .before .before .before .if1 .came) in
     λ i.
-    record { count = a .sums .count + a .reading .count; length = a .sums .length + a .reading .length; first = first i; last = a .reading .length }
+    record { count = a .sums .count + a .reading .count; length = a .sums .length + a .reading .length; first = first i; last = a .reading .length; arrives = a .reading .last; barred = a .barred }
 
 pub with-leg-spec : {M : Type 1} → statement M
-with-leg-spec = tie.close (tie.spec add-t7 add-t8 returns)
+with-leg-spec = tie.close (tie.spec add-t8 add-t9 returns)

@@ -21,6 +21,17 @@ read-map-requires c κs = search needs
 enum-known-nodes : tie.Need-enum-known-nodes
 enum-known-nodes c = search needs
 
+cast-count : tie.Need-cast-count
+cast-count c = search needs
+
+slice-aggregate-put-chains : tie.Need-slice-aggregate-put-chains
+slice-aggregate-put-chains c = search needs
+
+put-chains-requires : tie.Need-put-chains-requires
+put-chains-requires c κs =
+    let w = read-whole (c .before .before .before .before .before .before .before .read-map .ensures) (c .before .before .before .nodes .given .1) in
+    omega (arith, counts (w .held))
+
 cast-sum-of : tie.Need-cast-sum-of
 cast-sum-of c = search needs
 
@@ -29,8 +40,19 @@ mul-sum-of c = search needs
 
 sum-of-requires : tie.Need-sum-of-requires
 sum-of-requires c κs =
-    let w = read-whole (c .before .before .before .before .before .before .read-map .ensures) (c .before .before .nodes .given .1) in
+    let w = read-whole (c .before .before .before .before .before .before .before .before .before .before .read-map .ensures) (c .before .before .before .before .before .before .nodes .given .1) in
     omega (arith, counts (w .held))
+
+mul-sum-of-2 : tie.Need-mul-sum-of-2
+mul-sum-of-2 c = search needs
+
+add-sum-of : tie.Need-add-sum-of
+add-sum-of c = search needs
+
+sum-of-requires-2 : tie.Need-sum-of-requires-2
+sum-of-requires-2 c κs =
+    let w = read-whole (c .before .before .before .before .before .before .before .before .before .before .before .before .read-map .ensures) (c .before .before .before .before .before .before .before .before .nodes .given .1) in
+    omega (arith, counts (w .held), c .before .sum-of .ensures .1)
 
 slice-aggregate-print : tie.Need-slice-aggregate-print
 slice-aggregate-print c = search needs
@@ -53,28 +75,26 @@ print-requires-2 c κs = search needs
 slice-aggregate-print-3 : tie.Need-slice-aggregate-print-3
 slice-aggregate-print-3 c = search needs
 
-cast-sum-of-2 : tie.Need-cast-sum-of-2
-cast-sum-of-2 c = search needs
-
-mul-sum-of-2 : tie.Need-mul-sum-of-2
-mul-sum-of-2 c = search needs
-
-add-sum-of : tie.Need-add-sum-of
-add-sum-of c = search needs
-
-sum-of-requires-2 : tie.Need-sum-of-requires-2
-sum-of-requires-2 c κs =
-    let w = read-whole (c .before .before .before .before .before .before .before .before .before .before .before .before .before .read-map .ensures) (c .before .before .before .before .before .before .before .before .before .nodes .given .1) in
-    omega (arith, counts (w .held), c .before .before .before .before .before .before .sum-of .ensures .1)
-
 print-requires-3 : tie.Need-print-requires-3
 print-requires-3 c κs = search needs
+
+slice-aggregate-print-4 : tie.Need-slice-aggregate-print-4
+slice-aggregate-print-4 c = search needs
+
+slice-aggregate-sum-of : tie.Need-slice-aggregate-sum-of
+slice-aggregate-sum-of c = search needs
+
+sum-of-requires-3 : tie.Need-sum-of-requires-3
+sum-of-requires-3 c κs = search needs
+
+print-requires-4 : tie.Need-print-requires-4
+print-requires-4 c κs = search needs
 
 enum-known-why : tie.Need-enum-known-why
 enum-known-why c = search needs
 
-slice-aggregate-print-4 : tie.Need-slice-aggregate-print-4
-slice-aggregate-print-4 c = search needs
+slice-aggregate-print-5 : tie.Need-slice-aggregate-print-5
+slice-aggregate-print-5 c = search needs
 
 number-of-requires : tie.Need-number-of-requires
 number-of-requires c κs = search needs
@@ -82,8 +102,8 @@ number-of-requires c κs = search needs
 cast-print-3 : tie.Need-cast-print-3
 cast-print-3 c = search needs
 
-print-requires-4 : tie.Need-print-requires-4
-print-requires-4 c κs = search needs
+print-requires-5 : tie.Need-print-requires-5
+print-requires-5 c κs = search needs
 
 slice-aggregate-hand-over : tie.Need-slice-aggregate-hand-over
 slice-aggregate-hand-over c = search needs
@@ -103,9 +123,15 @@ show-spec =
     (tie.spec
     read-map-requires
     enum-known-nodes
+    cast-count
+    slice-aggregate-put-chains
+    put-chains-requires
     cast-sum-of
     mul-sum-of
     sum-of-requires
+    mul-sum-of-2
+    add-sum-of
+    sum-of-requires-2
     slice-aggregate-print
     cast-print
     print-requires
@@ -113,16 +139,16 @@ show-spec =
     cast-print-2
     print-requires-2
     slice-aggregate-print-3
-    cast-sum-of-2
-    mul-sum-of-2
-    add-sum-of
-    sum-of-requires-2
     print-requires-3
-    enum-known-why
     slice-aggregate-print-4
+    slice-aggregate-sum-of
+    sum-of-requires-3
+    print-requires-4
+    enum-known-why
+    slice-aggregate-print-5
     number-of-requires
     cast-print-3
-    print-requires-4
+    print-requires-5
     slice-aggregate-hand-over
     hand-over-requires
     same-length

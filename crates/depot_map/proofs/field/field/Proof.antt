@@ -5,7 +5,7 @@ use mathlib.Core.List.{List}
 use Prim.Native.Nat.{ℕ}
 use denote.Ref.{now}
 use Rattle.model.specs.Number.{number, got}
-use Rattle.model.specs.Refusal.{refusalOf}
+use Rattle.depot_map.specs.Step.{faultOf}
 use Rattle.buffers.specs.Taken.{taken}
 use Rattle.depot_map.specs.Step.{goOn}
 use Rattle.depot_map.proofs.Steps.{field-faulty, field-in, field-low, field-high}
@@ -30,7 +30,7 @@ enum-told : tie.Need-enum-told
 enum-told c = search needs
 
 returns : tie.Need-returns
-unfolding goOn refusalOf
+unfolding goOn faultOf
 returns c =
     let bytes = now (c .before .before .before .before .args .map) in
     record {

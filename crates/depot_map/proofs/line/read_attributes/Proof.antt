@@ -2,7 +2,7 @@
 use mathlib.Core.Path.{_∙_}
 use lib.ListN.{length-set}
 use native.Mathlib.Numerals.{towards-suc}
-use Rattle.model.specs.Refusal.{refusalOf}
+use Rattle.depot_map.specs.Step.{faultOf}
 use Rattle.depot_map.specs.Step.{readAttributes}
 use Rattle.depot_map.proofs.Steps.{field-on, field-off, step-refused}
 use Rattle.depot_map.proofs.Parts.{attributes-read}
@@ -27,7 +27,7 @@ enum-told : tie.Need-enum-told
 enum-told c = search needs
 
 returns : tie.Need-returns
-unfolding readAttributes refusalOf
+unfolding readAttributes faultOf
 returns c =
     let why = c .enum-told .given .1 in
     step-refused _ why (λ rest.
@@ -43,7 +43,7 @@ enum-told-2 : tie.Need-enum-told-2
 enum-told-2 c = search needs
 
 returns-2 : tie.Need-returns-2
-unfolding readAttributes refusalOf
+unfolding readAttributes faultOf
 returns-2 c =
     let len = c .before .before .before in
     let why = c .enum-told2 .given .1 in
@@ -61,7 +61,7 @@ enum-told-3 : tie.Need-enum-told-3
 enum-told-3 c = search needs
 
 returns-3 : tie.Need-returns-3
-unfolding readAttributes refusalOf
+unfolding readAttributes faultOf
 returns-3 c =
     let frc = c .before .before .before in
     let len = frc .before .before .before .before in
@@ -81,7 +81,7 @@ enum-told-4 : tie.Need-enum-told-4
 enum-told-4 c = search needs
 
 returns-4 : tie.Need-returns-4
-unfolding readAttributes refusalOf
+unfolding readAttributes faultOf
 returns-4 c =
     let fow = c .before .before .before in
     let frc = fow .before .before .before .before in
@@ -103,7 +103,7 @@ enum-told-5 : tie.Need-enum-told-5
 enum-told-5 c = search needs
 
 returns-5 : tie.Need-returns-5
-unfolding readAttributes refusalOf
+unfolding readAttributes faultOf
 returns-5 c =
     let out = c .before .before .before in
     let fow = out .before .before .before .before in

@@ -2,7 +2,7 @@
 use mathlib.Core.Path.{_∙_}
 use lib.ListN.{length-set}
 use native.Mathlib.Numerals.{towards-suc}
-use Rattle.model.specs.Refusal.{refusalOf}
+use Rattle.depot_map.specs.Step.{faultOf}
 use Rattle.model.specs.Map.{readLine}
 use Rattle.depot_map.proofs.Steps.{field-on, field-off, step-refused}
 use Rattle.depot_map.proofs.Parts.{line-equal, line-read}
@@ -24,7 +24,7 @@ enum-told : tie.Need-enum-told
 enum-told c = search needs
 
 returns : tie.Need-returns
-unfolding readLine refusalOf
+unfolding readLine faultOf
 returns c =
     let why = c .enum-told .given .1 in
     step-refused _ why (λ rest. field-off (c .before .before .field .ensures) why _)
@@ -42,7 +42,7 @@ enum-told-2 : tie.Need-enum-told-2
 enum-told-2 c = search needs
 
 returns-2 : tie.Need-returns-2
-unfolding readLine refusalOf
+unfolding readLine faultOf
 returns-2 c =
     let start = c .before .before .before in
     let why = c .enum-told2 .given .1 in

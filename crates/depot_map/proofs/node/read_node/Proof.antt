@@ -2,7 +2,7 @@
 use mathlib.Core.Path.{_∙_}
 use lib.ListN.{length-set}
 use native.Mathlib.Numerals.{towards-suc}
-use Rattle.model.specs.Refusal.{refusalOf}
+use Rattle.depot_map.specs.Step.{faultOf}
 use Rattle.model.specs.Map.{readNode}
 use Rattle.depot_map.proofs.Steps.{field-on, field-off, step-refused}
 use Rattle.depot_map.proofs.Parts.{node-read}
@@ -21,7 +21,7 @@ enum-told : tie.Need-enum-told
 enum-told c = search needs
 
 returns : tie.Need-returns
-unfolding readNode refusalOf
+unfolding readNode faultOf
 returns c =
     let why = c .enum-told .given .1 in
     step-refused _ why (λ rest. field-off (c .before .before .field .ensures) why _)
@@ -36,7 +36,7 @@ enum-told-2 : tie.Need-enum-told-2
 enum-told-2 c = search needs
 
 returns-2 : tie.Need-returns-2
-unfolding readNode refusalOf
+unfolding readNode faultOf
 returns-2 c =
     let lon = c .before .before .before in
     let why = c .enum-told2 .given .1 in

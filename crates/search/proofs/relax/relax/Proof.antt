@@ -10,16 +10,18 @@ use Rattle.search.proofs.relax.relax.Statement.{statement}
 use Rattle.search.proofs.relax.relax.Tie as tie
 
 follows-requires : tie.Need-follows-requires
-follows-requires c κs = search needs
+follows-requires c κs =
+    let p = c .before .before .pre in
+    (p .0, (p .1 .0 .map, p .1 .1 .held, p .1 .2))
 
 same-length : tie.Need-same-length
 same-length c = search needs
 
 returns : tie.Need-returns
 returns c =
-    λ q g.
+    λ q g e.
     let p = c .before .before .before .before .pre .0 in
-    (apart g (p .0) (p .1) (rw (not-true (c .before .follows .result) (c .if1 .taken)) at (c .before .follows .ensures (q .map) (g .held))), calm-none)
+    (apart g (p .0) (p .1) (rw (not-true (c .before .follows .result) (c .if1 .taken)) at (c .before .follows .ensures (q .map) (g .held) e)), calm-none)
 
 by-way-of-requires : tie.Need-by-way-of-requires
 by-way-of-requires c κs = search needs
@@ -41,7 +43,7 @@ same-length-2 c = search needs
 
 returns-2 : tie.Need-returns-2
 returns-2 c =
-    λ q g.
+    λ q g e.
     let p = c .before .before .before .before .before .before .before .before .before .pre .0 in
     let x = c .before .before .before .by-way-of .ensures in
     let y = c .before .wide .ensures in
@@ -56,12 +58,12 @@ same-length-3 c = search needs
 
 returns-3 : tie.Need-returns-3
 returns-3 c =
-    λ q g.
+    λ q g e.
     let p = c .before .before .before .before .before .before .before .before .before .before .before .before .before .before .pre .0 in
     let x = c .before .before .before .before .before .before .before .before .by-way-of .ensures in
     let y = c .before .before .before .before .before .before .wide .ensures in
     let t = c .before .before .before .before .if3 .taken in
-    let f = rw (not-false (c .before .before .before .before .before .before .before .before .before .before .before .follows .result) (c .before .before .before .before .before .before .before .before .before .before .if1 .left)) at (c .before .before .before .before .before .before .before .before .before .before .before .follows .ensures (q .map) (g .held)) in
+    let f = rw (not-false (c .before .before .before .before .before .before .before .before .before .before .before .follows .result) (c .before .before .before .before .before .before .before .before .before .before .if1 .left)) at (c .before .before .before .before .before .before .before .before .before .before .before .follows .ensures (q .map) (g .held) e) in
     (tied g (p .0) (p .1) f (omega arith) (c .before .before .record-tie .ensures), calm-tied g (p .0) (p .1) f (omega arith) (c .before .before .record-tie .ensures))
 
 field-requires : tie.Need-field-requires
@@ -72,7 +74,7 @@ same-length-4 c = search needs
 
 returns-4 : tie.Need-returns-4
 returns-4 c =
-    λ q g.
+    λ q g e.
     let p = c .before .before .before .before .before .before .before .before .before .before .before .before .before .pre .0 in
     let x = c .before .before .before .before .before .before .before .by-way-of .ensures in
     let y = c .before .before .before .before .before .wide .ensures in
@@ -90,7 +92,7 @@ same-length-5 c = search needs
 
 returns-5 : tie.Need-returns-5
 returns-5 c =
-    λ q g.
+    λ q g e.
     let p = c .before .before .before .before .before .before .before .before .before .before .before .before .before .before .before .pre .0 in
     let x = c .before .before .before .before .before .before .before .before .before .by-way-of .ensures in
     let y = c .before .before .before .before .before .before .before .wide .ensures in
@@ -125,7 +127,7 @@ same-length-6 c = search needs
 
 returns-6 : tie.Need-returns-6
 returns-6 c =
-    λ q g.
+    λ q g e.
     let p = c .before .before .before .before .before .before .before .before .before .before .before .before .before .before .before .before .before .before .before .before .before .pre .0 in
     let x = c .before .before .before .before .before .before .before .before .before .before .before .before .before .before .before .by-way-of .ensures in
     let y = c .before .before .before .before .before .before .before .before .before .before .before .before .before .wide .ensures in
@@ -135,7 +137,7 @@ returns-6 c =
     let other = c .before .before .before .before .before .before .before .before .before .before .before .if3 .left in
     let ok = c .before .before .before .before .before .before .before .before .if4 .left in
     let near = c .before .before .before .before .before .before .if5 .left in
-    let f = rw (not-false (c .before .before .before .before .before .before .before .before .before .before .before .before .before .before .before .before .before .before .follows .result) (c .before .before .before .before .before .before .before .before .before .before .before .before .before .before .before .before .before .if1 .left)) at (c .before .before .before .before .before .before .before .before .before .before .before .before .before .before .before .before .before .before .follows .ensures (q .map) (g .held)) in
+    let f = rw (not-false (c .before .before .before .before .before .before .before .before .before .before .before .before .before .before .before .before .before .before .follows .result) (c .before .before .before .before .before .before .before .before .before .before .before .before .before .before .before .before .before .if1 .left)) at (c .before .before .before .before .before .before .before .before .before .before .before .before .before .before .before .before .before .before .follows .ensures (q .map) (g .held) e) in
     (brought-down g (p .0) (p .1) x f (omega arith) (omega (arith, other)) (omega arith) (c .before .before .lower .ensures), calm-lowered g (c .before .before .lower .ensures) (c .before .before .before .before .resume-after .ensures))
 
 pub relax-spec : {M : Type 1} → statement M

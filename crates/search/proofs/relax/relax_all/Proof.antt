@@ -3,6 +3,7 @@ use lib.ListN.{length}
 use Prim.Native.Nat.{_-_}
 use mathlib.Core.Path.{_≡_, refl, _∙_}
 use Rattle.model.specs.Lines.{lineAt}
+use Rattle.work_area.proofs.Holding.{few}
 use Rattle.search.specs.Steps.{Task, Underway, Relaxed, Calm}
 use Rattle.search.proofs.Leaving.{latest-le}
 use Rattle.search.proofs.Counting.{stepped-then, awake, awake-now, calm-awake, lighter}
@@ -14,28 +15,33 @@ use Rattle.search.proofs.relax.relax_all.Statement.{statement}
 use Rattle.search.proofs.relax.relax_all.Tie as tie
 
 abbrev Inv-loop : tie.InvT-loop
-Inv-loop work₀ lines l class limit at₀ reached₀ work at reached =
+Inv-loop work₀ lines l class limit chain at₀ reached₀ work at reached =
     (length work ≡ length work₀) × ((q : Task) → Underway q lines class limit (reached₀ .count) work₀ → Along q lines class limit l work₀ work at (reached .count) × Calm lines (reached₀ .resume) work₀ work (reached .resume))
 
 abbrev μ-loop : tie.MeasureT-loop
-μ-loop work₀ lines l class limit at₀ reached₀ work at reached = at
+μ-loop work₀ lines l class limit chain at₀ reached₀ work at reached = at
 
 -- What a call does.
 relaxed : (c : tie.After-relax Inv-loop μ-loop) (q : Task) →
-    let a = c .before .before .before .before .before .before .before .args in
+    let a = c .before .before .before .before .before .before .before .before .before .args in
     let k = c .before .before .before .loop in
     Underway q (a .lines) (a .class) (a .limit) (a .list .count) (a .work .now) →
     Relaxed q (a .lines) (a .class) (a .limit) (a .l) (k .at - 1) (k .work) (c .relax .last .0) (c .relax .result .count) ×
     Calm (a .lines) (k .reached .resume) (k .work) (c .relax .last .0) (c .relax .result .resume)
-relaxed c q g = c .relax .ensures q (c .before .before .before .loop .inv .1 q g .0 .step .underway)
+relaxed c q g =
+    c .relax .ensures q (c .before .before .before .loop .inv .1 q g .0 .step .underway)
+    (c .before .before .before .before .before .before .bans-from .ensures (q .map .bans) (g .held .bans-held))
+
+bans-from-requires : tie.Need-bans-from-requires Inv-loop μ-loop
+bans-from-requires c κs = let p = c .before .before .pre in let h = p .1 .1 .held in (p .0, few h, h .full)
 
 ahead-requires : tie.Need-ahead-requires Inv-loop μ-loop
-ahead-requires c κs = let p = c .before .before .pre in let g = p .1 .1 in (p .0, (_, g .held, g .chained))
+ahead-requires c κs = let p = c .before .before .before .before .pre in let g = p .1 .1 in (p .0, (_, g .held, g .chained))
 
 loop-holds : tie.Need-loop-holds Inv-loop μ-loop
 loop-holds c = (
   refl,
-  λ q g. (along-start g (c .before .before .before .pre .0) (c .ahead .ensures (q .map) (g .held) (g .chained)), calm-none),
+  λ q g. (along-start g (c .before .before .before .before .before .pre .0) (c .ahead .ensures (q .map) (g .held) (g .chained)), calm-none),
 )
 
 sub-relax : tie.Need-sub-relax Inv-loop μ-loop
@@ -43,14 +49,16 @@ sub-relax c = search needs
 
 relax-requires : tie.Need-relax-requires Inv-loop μ-loop
 relax-requires c κs =
-    let p = c .before .before .before .before .before .before .pre in
+    let p = c .before .before .before .before .before .before .before .before .pre in
     let k = c .before .before .loop .inv .1 (p .1 .0) (p .1 .1) .0 in
-    let i = k .inside in
-    (search needs, (p .1 .0, k .step .underway))
+    let i = k .inside in (
+      search needs,
+      (p .1 .0, k .step .underway, c .before .before .before .before .before .bans-from .ensures _ (p .1 .1 .held .bans-held)),
+    )
 
 next-leaving-requires : tie.Need-next-leaving-requires Inv-loop μ-loop
 next-leaving-requires c κs =
-    let p = c .before .before .before .before .before .before .before .before .before .before .pre in
+    let p = c .before .before .before .before .before .before .before .before .before .before .before .before .pre in
     let g = relaxed (c .before .before .before) (p .1 .0) (p .1 .1) .0 .step .underway in
     let k = c .before .before .before .before .before .before .loop .inv .1 (p .1 .0) (p .1 .1) .0 in
     let i = k .inside in
@@ -58,7 +66,7 @@ next-leaving-requires c κs =
 
 loop-less : tie.Need-loop-less Inv-loop μ-loop
 loop-less c =
-    let p = c .before .before .before .before .before .before .before .before .before .before .before .pre in
+    let p = c .before .before .before .before .before .before .before .before .before .before .before .before .before .pre in
     let q = p .1 .0 in
     let g = relaxed (c .before .before .before .before) q (p .1 .1) .0 .step .underway in
     let t = c .before .before .before .before .before .before .loop-test .taken in
@@ -102,7 +110,7 @@ returns c =
     λ q g.
     let s = c .before .before .loop .inv .1 q g in
     let k = s .0 in
-    let l = c .before .before .before .before .before .before .pre .0 in
+    let l = c .before .before .before .before .before .before .before .before .pre .0 in
     let a = awake (k .step .underway) l refl (λ j near f. k .counted j (let t = c .before .loop-test .left in omega arith) near f) in
     record {
       went = record {
@@ -119,6 +127,7 @@ relax-all-spec =
     (tie.spec
     Inv-loop
     μ-loop
+    bans-from-requires
     ahead-requires
     loop-holds
     sub-relax

@@ -2,12 +2,12 @@
 use mathlib.Core.Path.{_≡_, sym, _∙_}
 use mathlib.Core.Bool.{false}
 use Rattle.model.specs.Map.{Map}
-use Rattle.model.specs.Stretch.{unknown, gap}
+use Rattle.model.specs.Stretch.{unknown, gap, bannedPair}
 use Rattle.model.specs.Refusal.{refusalOf}
 use Rattle.work_area.specs.Area.{Held}
 use Rattle.stretches.specs.Stretch.{Known}
 use Rattle.stretches.proofs.Stretches.{known-all}
-use Rattle.stretches.proofs.Checks.{no-lines, too-many, no-such-line, not-joined, too-far, left}
+use Rattle.stretches.proofs.Checks.{no-lines, too-many, no-such-line, not-joined, banned-turn, too-far, left}
 use borrow.Author.Needs.{needs}
 use native.Mathlib.Omega.{arith}
 use Rattle.stretches.proofs.stretch.check.Statement.{statement}
@@ -23,6 +23,9 @@ module _ (c : tie.Else3) where
 
 joint : (c : tie.Else4) → let a = c .before .before .before .before .before .before .before .before .args in (m : Map) → Held (a .work .now) (a .lines) m → gap m (a .stretch .now) ≡ false
 joint c m h = sym (c .before .has-gap .ensures m h) ∙ c .if4 .left
+
+free : (c : tie.Else5) → let a = c .before .before .before .before .before .before .before .before .before .before .args in (m : Map) → Held (a .work .now) (a .lines) m → bannedPair m (a .stretch .now) ≡ false
+free c m h = sym (c .before .has-ban .ensures m h) ∙ c .if5 .left
 
 returns : tie.Need-returns
 unfolding refusalOf
@@ -48,8 +51,16 @@ unfolding refusalOf
 returns-4 c m h =
     not-joined m _ (c .before .before .before .before .before .if1 .left) (omega (arith, c .before .before .before .before .if2 .left)) (all-known (c .before .before) m h) (sym (c .before .has-gap .ensures m h) ∙ c .if4 .taken)
 
+has-ban-requires : tie.Need-has-ban-requires
+has-ban-requires c κs = (known (c .before .before), c .before .before .before .before .before .before .before .before .pre)
+
+returns-5 : tie.Need-returns-5
+unfolding refusalOf
+returns-5 c m h =
+    banned-turn m _ (c .before .before .before .before .before .before .before .if1 .left) (omega (arith, c .before .before .before .before .before .before .if2 .left)) (all-known (c .before .before .before .before) m h) (joint (c .before .before) m h) (sym (c .before .has-ban .ensures m h) ∙ c .if5 .taken)
+
 total-length-requires : tie.Need-total-length-requires
-total-length-requires c κs = ((known (c .before .before), omega (arith, c .before .before .before .before .if2 .left)), c .before .before .before .before .before .before .before .before .pre)
+total-length-requires c κs = ((known (c .before .before .before .before), omega (arith, c .before .before .before .before .before .before .if2 .left)), c .before .before .before .before .before .before .before .before .before .before .pre)
 
 wide-requires : tie.Need-wide-requires
 wide-requires c κs = search needs
@@ -57,22 +68,22 @@ wide-requires c κs = search needs
 wide-requires-2 : tie.Need-wide-requires-2
 wide-requires-2 c κs = search needs
 
-add-if5 : tie.Need-add-if5
-add-if5 c = search needs
-
-returns-5 : tie.Need-returns-5
-unfolding refusalOf
-returns-5 c m h =
-    too-far m _ (c .before .before .before .before .before .before .before .before .before .if1 .left) (omega (arith, c .before .before .before .before .before .before .before .before .if2 .left)) (all-known (c .before .before .before .before .before .before) m h) (joint (c .before .before .before .before) m h)
-    (omega (arith, c .if5 .taken, c .before .wide2 .ensures .0, c .before .before .wide .ensures .0, c .before .before .before .total-length .ensures m h))
-
-after-offsets-requires : tie.Need-after-offsets-requires
-after-offsets-requires c κs = (known (c .before .before .before .before .before .before), c .before .before .before .before .before .before .before .before .before .before .before .before .pre)
+add-if6 : tie.Need-add-if6
+add-if6 c = search needs
 
 returns-6 : tie.Need-returns-6
+unfolding refusalOf
 returns-6 c m h =
-    left m _ (c .before .before .before .before .before .before .before .before .before .before .if1 .left) (omega (arith, c .before .before .before .before .before .before .before .before .before .if2 .left)) (all-known (c .before .before .before .before .before .before .before) m h) (joint (c .before .before .before .before .before) m h)
-    (omega (arith, c .before .if5 .left, c .before .before .wide2 .ensures .0, c .before .before .before .wide .ensures .0, c .before .before .before .before .total-length .ensures m h)) _ (c .after-offsets .ensures m h)
+    too-far m _ (c .before .before .before .before .before .before .before .before .before .before .before .if1 .left) (omega (arith, c .before .before .before .before .before .before .before .before .before .before .if2 .left)) (all-known (c .before .before .before .before .before .before .before .before) m h) (joint (c .before .before .before .before .before .before) m h) (free (c .before .before .before .before) m h)
+    (omega (arith, c .if6 .taken, c .before .wide2 .ensures .0, c .before .before .wide .ensures .0, c .before .before .before .total-length .ensures m h))
+
+after-offsets-requires : tie.Need-after-offsets-requires
+after-offsets-requires c κs = (known (c .before .before .before .before .before .before .before .before), c .before .before .before .before .before .before .before .before .before .before .before .before .before .before .pre)
+
+returns-7 : tie.Need-returns-7
+returns-7 c m h =
+    left m _ (c .before .before .before .before .before .before .before .before .before .before .before .before .if1 .left) (omega (arith, c .before .before .before .before .before .before .before .before .before .before .before .if2 .left)) (all-known (c .before .before .before .before .before .before .before .before .before) m h) (joint (c .before .before .before .before .before .before .before) m h) (free (c .before .before .before .before .before) m h)
+    (omega (arith, c .before .if6 .left, c .before .before .wide2 .ensures .0, c .before .before .before .wide .ensures .0, c .before .before .before .before .total-length .ensures m h)) _ (c .after-offsets .ensures m h)
 
 pub check-spec : {M : Type 1} → statement M
 check-spec =
@@ -84,10 +95,12 @@ check-spec =
     returns-3
     has-gap-requires
     returns-4
+    has-ban-requires
+    returns-5
     total-length-requires
     wide-requires
     wide-requires-2
-    add-if5
-    returns-5
+    add-if6
+    returns-6
     after-offsets-requires
-    returns-6)
+    returns-7)

@@ -3,9 +3,9 @@ use Prim.Native.Nat.{_-_, _≤_}
 use mathlib.Core.Path.{_≡_, refl, sym, _∙_}
 use lib.ListN.{length, drop}
 use Rattle.model.specs.Map.{Map}
-use Rattle.model.specs.Stretch.{gap}
+use Rattle.model.specs.Stretch.{apart, gap}
 use Rattle.work_area.specs.Area.{Held}
-use Rattle.stretches.proofs.Stretches.{gap-here, gap-on, gap-none}
+use Rattle.stretches.proofs.Stretches.{gap-here, gap-on, pair-none}
 use borrow.Author.Needs.{needs}
 use native.Mathlib.Omega.{arith}
 use Rattle.stretches.proofs.stretch.has_gap.Statement.{statement}
@@ -43,7 +43,7 @@ loop-again : tie.Need-loop-again Inv-loop μ-loop
 loop-again c = (omega arith, λ m h. c .before .before .before .before .loop .inv .1 m h ∙ gap-on m _ _ (c .before .before .before .before .loop .inv .0) (c .before .before .before .loop-test .taken) (sym (c .before .before .field-of .ensures m h) ∙ c .if1 .left ∙ c .before .field-of2 .ensures m h))
 
 returns-2 : tie.Need-returns-2 Inv-loop μ-loop
-returns-2 c m h = sym (c .before .loop .inv .1 m h ∙ gap-none m _ (c .before .loop .i) (omega arith))
+returns-2 c m h = sym (c .before .loop .inv .1 m h ∙ pair-none (apart m) _ (c .before .loop .i) (omega arith))
 
 pub has-gap-spec : {M : Type 1} → statement M
 has-gap-spec =

@@ -1,0 +1,164 @@
+//! Banned turns on the ridge's map: what is refused, in which order, and what is read instead.
+
+use plain::depot_map::{Ban, DepotMap, Line, Node};
+use plain::hexadecimal::bytes;
+use plain::maps::{push_number, MapPlan};
+use plain::outcome::{Outcome, Refusal, WORK_AREA};
+use plain::reader::read;
+use plain::writer::write;
+
+const TWO_POINTS: &str = "0B0000000000001B680307D000001B18";
+const THREE_POINTS: &str = "0B0000000000001B680103E800001B680103E800001B18";
+
+/// "The tie at the ridge": from node 0 to node 3 the ways 0, 1 and 0, 2, 3 are equally long.
+fn ridge(bans: &[(u32, u32)]) -> MapPlan {
+    let nodes = [(0, 0), (1000, 0), (1000, 1000), (2000, 0)];
+    let lines = [
+        (0, 1, 1000, 90, 270),
+        (1, 3, 1000, 90, 270),
+        (1, 2, 500, 0, 180),
+        (2, 3, 500, 135, 272),
+    ];
+    let node = |(longitude, latitude)| Node {
+        longitude,
+        latitude,
+    };
+    let line = |(start, end, length, bearing_out, bearing_back)| Line {
+        start,
+        end,
+        length,
+        bearing_out,
+        bearing_back,
+        frc: 3,
+        fow: 3,
+    };
+    MapPlan {
+        nodes: nodes.map(node).to_vec(),
+        lines: lines.map(line).to_vec(),
+        bans: bans
+            .iter()
+            .map(|&(line, next)| Ban { line, next })
+            .collect(),
+    }
+}
+
+fn refusal_of(map_bytes: &[u8]) -> Option<Refusal> {
+    DepotMap::decode(map_bytes).err()
+}
+
+fn write_on(plan: &MapPlan, stretch: &[u32], pos: u32, neg: u32) -> Outcome<Vec<u8>> {
+    write(&plan.encode(), stretch, pos, neg, WORK_AREA, 459)
+}
+
+fn read_on(plan: &MapPlan, reference: &str) -> Outcome<Vec<u32>> {
+    let reading = read(&plan.encode(), &bytes(reference).unwrap(), WORK_AREA, 64);
+    reading.map(|reading| reading.lines)
+}
+
+#[test]
+fn every_map_has_a_count_of_bans() {
+    let mut bytes = ridge(&[]).encode();
+    assert_eq!(refusal_of(&bytes), None);
+    assert_eq!(bytes.pop(), Some(0));
+    assert_eq!(refusal_of(&bytes), Some(Refusal::MapBytes));
+    for (count, refusal) in [(512, None), (513, Some(Refusal::Count))] {
+        let mut bytes = bytes.clone();
+        push_number(&mut bytes, count);
+        bytes.extend([0, 1].repeat(count as usize));
+        assert_eq!(refusal_of(&bytes), refusal);
+    }
+}
+
+#[test]
+fn faults_of_bans_in_byte_order() {
+    let whole = ridge(&[(0, 4)]).encode();
+    assert_eq!(refusal_of(&whole), Some(Refusal::NoSuchTurn));
+    for rest in [[].as_slice(), &[0], &[0, 0x84], &[0, 0x84, 0], &[0, 4, 0]] {
+        let bytes = [&whole[..whole.len() - 2], rest].concat();
+        assert_eq!(refusal_of(&bytes), Some(Refusal::MapBytes), "{rest:?}");
+    }
+}
+
+#[test]
+fn bans_of_no_turn() {
+    for ban in [
+        (1, 0),
+        (0, 0),
+        (0, 3),
+        (0, 4),
+        (4, 1),
+        (u32::MAX, 1),
+        (0, u32::MAX),
+    ] {
+        let mut plan = ridge(&[(0, 1), ban]);
+        assert_eq!(
+            refusal_of(&plan.encode()),
+            Some(Refusal::NoSuchTurn),
+            "{ban:?}"
+        );
+        plan.nodes[3] = plan.nodes[2];
+        assert_eq!(
+            refusal_of(&plan.encode()),
+            Some(Refusal::SameCodes),
+            "{ban:?}"
+        );
+    }
+    assert_eq!(refusal_of(&ridge(&[(0, 1), (0, 2), (0, 1)]).encode()), None);
+}
+
+/// Between refusals 8 and 9, and in lines skipped whole too.
+#[test]
+fn stretches_with_a_banned_turn() {
+    let plan = ridge(&[(2, 3)]);
+    let banned = Err(Refusal::BannedInStretch);
+    assert_eq!(write_on(&plan, &[0, 2, 3], 0, 0), banned);
+    assert_eq!(write_on(&plan, &[0, 2, 3], 2000, 0), banned);
+    assert_eq!(write_on(&plan, &[0, 2, 3], 1500, 0), banned);
+    assert_eq!(write_on(&plan, &[0, 2, 3], 0, 1000), banned);
+    assert_eq!(
+        write_on(&plan, &[2, 3, 0], 0, 0),
+        Err(Refusal::LinesNotJoined)
+    );
+    let written = write_on(&plan, &[0, 1], 0, 0);
+    assert_eq!(written, Ok(bytes(TWO_POINTS).unwrap()));
+}
+
+#[test]
+fn a_ban_leaves_the_other_way() {
+    for (bans, lines) in [([(0, 1)], vec![0, 2, 3]), ([(2, 3)], vec![0, 1])] {
+        assert_eq!(read_on(&ridge(&bans), TWO_POINTS), Ok(lines));
+    }
+    let both = ridge(&[(0, 1), (2, 3)]);
+    assert_eq!(
+        read_on(&both, TWO_POINTS),
+        Err(Refusal::LegWithoutReading(0))
+    );
+    let none = ridge(&[]);
+    assert_eq!(
+        read_on(&none, TWO_POINTS),
+        Err(Refusal::LegWithSeveralReadings(0))
+    );
+}
+
+/// Each leg is read as if it stood alone. The refusal is between 18 and 19.
+#[test]
+fn a_banned_turn_where_legs_meet() {
+    let plan = ridge(&[(0, 1)]);
+    assert_eq!(read_on(&ridge(&[]), THREE_POINTS), Ok(vec![0, 1]));
+    let read = read_on(&plan, THREE_POINTS);
+    assert_eq!(read, Err(Refusal::BannedWhereLegsMeet));
+    // Byte 1 on a leg of 100.
+    let no_offset = "0B0000000000001B680003E800001B680103E800001B5801";
+    for (bans, refusal) in [
+        ([].as_slice(), Refusal::OffsetByte),
+        (&[(0, 1)], Refusal::BannedWhereLegsMeet),
+    ] {
+        let mut plan = ridge(bans);
+        plan.lines[0].length = 100;
+        assert_eq!(read_on(&plan, no_offset), Err(refusal));
+    }
+    // A third leg back to node 1, where no line leads.
+    let mut further = THREE_POINTS[..THREE_POINTS.len() - 4].to_string();
+    further.push_str("1B6801FC1800001B18");
+    assert_eq!(read_on(&plan, &further), Err(Refusal::LegWithoutReading(2)));
+}

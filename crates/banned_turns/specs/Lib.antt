@@ -1,0 +1,2 @@
+-- What is done to the banned turns in the work area.
+pub mod Put
