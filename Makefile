@@ -1,5 +1,6 @@
 # `make` reads the ridge example, `make ridge-ban` the one with a turn banned, `make test` runs the gate,
-# `make bench` measures against plain Rust (`make bench ROWS=read`: of one kind),
+# `make bench` measures against plain Rust (`make bench ROWS=read`: of one kind; `make bench ROWS=worst`: maps made against reader and writer, which no
+# other run has and which may take minutes),
 # `make count` counts the proved writer's searches and leg tests, `make host` runs a C host on the ridge, `make test-host` tests the C functions,
 # `make test-plain` tests plain Rust and holds it to the stored cases,
 # `make differential` holds the C functions to plain Rust (`make differential CALLS=1000000 SEED=2`),

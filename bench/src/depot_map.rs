@@ -50,22 +50,26 @@ pub struct Ban {
     pub next: u32,
 }
 
-/// A line at its start node, with what a search asks of it: in one number, so that a list of them
-/// is quickly made.
+/// The way that a search goes along the lines.
+#[derive(Clone, Copy, Debug, PartialEq, Eq)]
+pub enum Direction {
+    Onward,
+    Back,
+}
+
+/// A line at one of its nodes, with what a search asks of it that comes there: in one number, so
+/// that a list of them is quickly made.
 #[derive(Clone, Copy, Debug, Default, PartialEq, Eq)]
-pub struct Leaving(u64);
+pub struct LineAtNode(u64);
 
-impl Leaving {
-    /// A map has up to 1,024 lines and 512 nodes, and there are eight classes.
+impl LineAtNode {
+    /// A line that leads to this node in the direction of the search. A map has up to 1,024 lines
+    /// and 512 nodes, and there are eight classes.
     #[inline]
-    fn new(number: usize, line: &Line) -> Leaving {
-        let low = u32::from(line.frc) << 24 | line.end << 12 | number as u32;
-        Leaving(u64::from(line.length) << 32 | u64::from(low))
-    }
-
-    #[inline]
-    fn with_bans(self, has_bans: bool) -> Leaving {
-        Leaving(self.0 | u64::from(has_bans) << 31)
+    fn new(number: usize, line: &Line, far_node: u32, has_bans: bool) -> LineAtNode {
+        let high = u32::from(has_bans) << 31 | u32::from(line.frc) << 24;
+        let low = high | far_node << 12 | number as u32;
+        LineAtNode(u64::from(line.length) << 32 | u64::from(low))
     }
 
     #[inline(always)]
@@ -74,7 +78,7 @@ impl Leaving {
     }
 
     #[inline(always)]
-    pub fn end(self) -> u32 {
+    pub fn far_node(self) -> u32 {
         self.0 as u32 >> 12 & 0x1FF
     }
 
@@ -83,7 +87,7 @@ impl Leaving {
         (self.0 as u32 >> 24 & 7) as u8
     }
 
-    /// Whether a line that leaves its end is banned after it.
+    /// Whether the search may not go on from it to some line at the far node.
     #[inline(always)]
     pub fn has_bans(self) -> bool {
         self.0 as u32 >> 31 != 0
@@ -127,6 +131,11 @@ impl<Entry: Clone + Default> Grouped<Entry> {
             entries[*place as usize] = entry_of(number, item);
         }
         Grouped { first, entries }
+    }
+
+    #[inline]
+    fn has_entries(&self, group: usize) -> bool {
+        !self.entries.is_empty() && self.first[group] != self.first[group + 1]
     }
 
     #[inline]
@@ -189,10 +198,11 @@ pub struct DepotMap {
     pub lines: Vec<Line>,
     /// As listed: a pair may stand there twice.
     pub bans: Vec<Ban>,
-    pub outgoing: Grouped<Leaving>,
-    pub incoming: Grouped<u32>,
+    outgoing: Grouped<LineAtNode>,
+    incoming: Grouped<LineAtNode>,
     /// By line; no groups where there are no bans.
     banned_after: Grouped<u32>,
+    banned_before: Grouped<u32>,
     node_of_codes: NodeOfCodes,
 }
 
@@ -219,22 +229,50 @@ impl DepotMap {
             return Err(Refusal::MapBytes);
         }
         let node_of_codes = NodeOfCodes::new(&nodes)?;
-        let banned_after = banned_lines(&lines, &bans)?;
+        check_turns(&lines, &bans)?;
+        let banned_after = by_line(&lines, &bans, |ban| (ban.line, ban.next));
+        let banned_before = by_line(&lines, &bans, |ban| (ban.next, ban.line));
+        let outgoing = Grouped::new(
+            nodes.len(),
+            &lines,
+            |line| line.start,
+            |number, line| {
+                LineAtNode::new(number, line, line.end, banned_after.has_entries(number))
+            },
+        );
+        let incoming = Grouped::new(
+            nodes.len(),
+            &lines,
+            |line| line.end,
+            |number, line| {
+                LineAtNode::new(number, line, line.start, banned_before.has_entries(number))
+            },
+        );
         Ok(DepotMap {
-            outgoing: leaving_lines(nodes.len(), &lines, &banned_after),
-            incoming: Grouped::new(nodes.len(), &lines, |line| line.end, |line, _| line as u32),
+            outgoing,
+            incoming,
             nodes,
             lines,
             bans,
             banned_after,
+            banned_before,
             node_of_codes,
         })
     }
 
+    /// The map as a search in this direction sees it.
     #[inline]
-    pub fn leaving(&self, line: u32) -> Leaving {
-        let has_bans = !self.banned_after(line).is_empty();
-        Leaving::new(line as usize, self.line(line)).with_bans(has_bans)
+    pub fn view(&self, direction: Direction) -> View<'_> {
+        let (at_nodes, banned) = match direction {
+            Direction::Onward => (&self.outgoing, &self.banned_after),
+            Direction::Back => (&self.incoming, &self.banned_before),
+        };
+        View {
+            map: self,
+            direction,
+            at_nodes,
+            banned,
+        }
     }
 
     #[inline]
@@ -249,10 +287,7 @@ impl DepotMap {
     /// The lines that are not allowed straight after the line, each as often as it is listed.
     #[inline]
     pub fn banned_after(&self, line: u32) -> &[u32] {
-        if self.bans.is_empty() {
-            return &[];
-        }
-        self.banned_after.of(line)
+        self.view(Direction::Onward).banned_next(line)
     }
 
     pub fn is_banned(&self, line: u32, next: u32) -> bool {
@@ -261,8 +296,15 @@ impl DepotMap {
 
     /// The numbers of the lines that leave the node.
     pub fn lines_from(&self, node: u32) -> impl ExactSizeIterator<Item = u32> + '_ {
-        let leaving = self.outgoing.of(node).iter();
-        leaving.map(|leaving| leaving.line())
+        self.outgoing.of(node).iter().map(|leaving| leaving.line())
+    }
+
+    /// The numbers of the lines that arrive at the node.
+    pub fn lines_to(&self, node: u32) -> impl ExactSizeIterator<Item = u32> + '_ {
+        self.incoming
+            .of(node)
+            .iter()
+            .map(|arriving| arriving.line())
     }
 
     /// The node with this pair of codes. Refusal 6 lets at most one pass.
@@ -279,40 +321,68 @@ impl DepotMap {
     }
 }
 
-fn leaving_lines(
-    node_count: usize,
-    lines: &[Line],
-    banned_after: &Grouped<u32>,
-) -> Grouped<Leaving> {
-    let mut outgoing = Grouped::new(node_count, lines, |line| line.start, Leaving::new);
-    if !banned_after.entries.is_empty() {
-        for leaving in &mut outgoing.entries {
-            let has_bans = !banned_after.of(leaving.line()).is_empty();
-            *leaving = leaving.with_bans(has_bans);
+/// A map as a search in one direction sees it.
+#[derive(Clone, Copy)]
+pub struct View<'a> {
+    map: &'a DepotMap,
+    direction: Direction,
+    at_nodes: &'a Grouped<LineAtNode>,
+    banned: &'a Grouped<u32>,
+}
+
+impl<'a> View<'a> {
+    /// The lines that a search goes on to from the node.
+    #[inline]
+    pub fn lines_at(self, node: u32) -> &'a [LineAtNode] {
+        self.at_nodes.of(node)
+    }
+
+    /// The node that the line leads to.
+    #[inline]
+    pub fn far_node(self, line: u32) -> u32 {
+        let line = self.map.line(line);
+        match self.direction {
+            Direction::Onward => line.end,
+            Direction::Back => line.start,
         }
     }
-    outgoing
+
+    #[inline]
+    pub fn line(self, line: u32) -> LineAtNode {
+        let has_bans = !self.banned_next(line).is_empty();
+        let far_node = self.far_node(line);
+        LineAtNode::new(line as usize, self.map.line(line), far_node, has_bans)
+    }
+
+    /// The lines that a search may not go on to from the line, each as often as it is listed.
+    #[inline]
+    pub fn banned_next(self, line: u32) -> &'a [u32] {
+        if self.map.bans.is_empty() {
+            return &[];
+        }
+        self.banned.of(line)
+    }
+}
+
+/// The second lines of these pairs, by the first; no groups where there are no bans.
+fn by_line(lines: &[Line], bans: &[Ban], pair: impl Fn(&Ban) -> (u32, u32)) -> Grouped<u32> {
+    if bans.is_empty() {
+        return Grouped::default();
+    }
+    Grouped::new(lines.len(), bans, |ban| pair(ban).0, |_, ban| pair(ban).1)
 }
 
 /// Refusal 23: a pair names no line, or its second line does not start where its first ends.
-fn banned_lines(lines: &[Line], bans: &[Ban]) -> Outcome<Grouped<u32>> {
-    if bans.is_empty() {
-        return Ok(Grouped::default());
-    }
+fn check_turns(lines: &[Line], bans: &[Ban]) -> Outcome<()> {
     let line = |number: u32| lines.get(number as usize);
     let is_turn = |ban: &Ban| match (line(ban.line), line(ban.next)) {
         (Some(line), Some(next)) => line.end == next.start,
         _ => false,
     };
-    if !bans.iter().all(is_turn) {
-        return Err(Refusal::NoSuchTurn);
+    match bans.iter().all(is_turn) {
+        true => Ok(()),
+        false => Err(Refusal::NoSuchTurn),
     }
-    Ok(Grouped::new(
-        lines.len(),
-        bans,
-        |ban| ban.line,
-        |_, ban| ban.next,
-    ))
 }
 
 fn pack(longitude_code: i32, latitude_code: i32) -> u64 {

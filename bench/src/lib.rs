@@ -9,4 +9,5 @@ pub mod maps;
 pub mod outcome;
 pub mod reader;
 pub mod search;
+pub mod worst_maps;
 pub mod writer;

@@ -2,6 +2,7 @@
 //! process, and prints `what | ours µs | plain Rust µs | ratio`.
 
 mod proved;
+mod worst;
 
 use std::hint::black_box;
 use std::time::{Duration, Instant};
@@ -141,15 +142,20 @@ fn sample(name: &'static str, plan: MapPlan) -> Sample {
     Sample { name, bytes, map }
 }
 
-/// Prints the rows of every kind, or of the kind that the argument names: decode, search, read or write.
+/// Prints the rows of every kind but worst, or of the kind that the argument names: decode, search, read, write or worst.
+/// `worst TEXT` prints those of the maps with this text in their names; they may take minutes.
 /// `once ROW` times nothing, for counting calls.
 fn main() {
     let kind = std::env::args().nth(1);
     if kind.as_deref() == Some("once") {
         return write_once();
     }
-    let wanted = |name: &str| kind.as_deref().is_none_or(|kind| kind == name);
     println!("what | ours µs | plain Rust µs | ratio");
+    if kind.as_deref() == Some("worst") {
+        let text = std::env::args().nth(2);
+        return worst::print_rows(&text.unwrap_or_default());
+    }
+    let wanted = |name: &str| kind.as_deref().is_none_or(|kind| kind == name);
     for sample in &samples() {
         if wanted("decode") {
             decode_row(sample).print();

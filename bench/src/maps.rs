@@ -169,8 +169,8 @@ impl Lengths {
     }
 }
 
-const FULL_NODES: u32 = 512;
-const FULL_LINES: usize = 1024;
+pub(crate) const FULL_NODES: u32 = 512;
+pub(crate) const FULL_LINES: usize = 1024;
 
 /// Most lines have one of two classes, so that a search under a class still goes far.
 fn mixed_frc(rng: &mut Xorshift) -> u8 {
@@ -308,7 +308,7 @@ pub fn chain(seed: u64, lengths: Lengths) -> MapPlan {
 }
 
 /// Some nodes in a row, so far apart that their codes differ.
-fn row_of_nodes(count: u32) -> MapPlan {
+pub(crate) fn row_of_nodes(count: u32) -> MapPlan {
     let nodes = (0..count as i32).map(|node| Node {
         longitude: 50 * node,
         latitude: 0,

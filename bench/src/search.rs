@@ -4,11 +4,14 @@
 //! it; its length counts all of them, the first and the last too. For each line that some way
 //! within the limit ends with, the search gives the least length of such a way, and the line before
 //! the last one if that way is the only one of least length. All methods give the same answers.
+//!
+//! A search back from a last line gives the same for each line that such a way starts with, and the
+//! line behind it. It may also go back from a node, whatever line the ways arrive there by.
 
 use std::cmp::Reverse;
 use std::collections::{BinaryHeap, VecDeque};
 
-use crate::depot_map::{DepotMap, Leaving};
+use crate::depot_map::{DepotMap, Direction, LineAtNode, View};
 use crate::fields::LONGEST_LEG;
 
 /// Of a map.
@@ -56,9 +59,13 @@ const SEVERAL: u32 = u32::MAX - 1;
 /// lengths of this one are over its limit, as if nothing were reached: few searches have to reset.
 pub struct Search {
     method: Method,
+    /// Of the last search.
+    direction: Direction,
     base: u32,
     /// The limit of the last search, with the base added.
     top: u32,
+    /// The greatest length with which the last search goes on from a line, with the base added.
+    last_left: u32,
     /// The least length of the ways that end with a line.
     least: Box<[u32; MOST_LINES]>,
     before: Box<[u32; MOST_LINES]>,
@@ -88,7 +95,7 @@ struct Arrived {
     before: u32,
 }
 
-/// Under this class (FRC at most) and up to this length, from this line on.
+/// Under this class (FRC at most) and up to this length, from this line on or back.
 #[derive(Clone, Copy, Debug)]
 pub struct Bounds {
     pub first: u32,
@@ -101,8 +108,10 @@ impl Search {
         let count = map.lines.len();
         Search {
             method,
+            direction: Direction::Onward,
             base: HIGHEST_BASE,
             top: 0,
+            last_left: 0,
             least: Box::new([NOT_REACHED; MOST_LINES]),
             before: Box::new([FIRST; MOST_LINES]),
             banned_after: Box::new([NO_LINE; MOST_LINES]),
@@ -120,21 +129,75 @@ impl Search {
 
     /// Searches the map that the buffers were made for.
     pub fn run(&mut self, map: &DepotMap, bounds: Bounds) {
-        self.lower_base(bounds.limit);
-        let first = map.line(bounds.first);
-        if first.frc > bounds.class || first.length > bounds.limit {
+        self.run_for(map, Direction::Onward, bounds, 1);
+    }
+
+    /// Searches in one direction. Back from a last line, what stands "before" a line is the line
+    /// behind it. Afterwards only lines of at least the shortest length are asked for.
+    pub fn run_for(&mut self, map: &DepotMap, direction: Direction, bounds: Bounds, shortest: u32) {
+        self.turn(direction);
+        self.lower_base(bounds.limit, shortest);
+        self.run_from_line(map.view(direction), bounds);
+    }
+
+    /// Searches back from all lines that arrive at the node, as "heap of nodes and lines".
+    pub fn run_back_from_node(
+        &mut self,
+        map: &DepotMap,
+        node: u32,
+        class: u8,
+        limit: u32,
+        shortest: u32,
+    ) {
+        let view = map.view(Direction::Back);
+        let bounds = Bounds {
+            first: NO_LINE,
+            class,
+            limit,
+        };
+        self.turn(Direction::Back);
+        self.lower_base(limit, shortest);
+        self.closed_at[node as usize] = self.base;
+        for &line in view.lines_at(node) {
+            let total = self.base + line.length();
+            if total <= self.top && line.frc() <= class {
+                self.least[line.line() as usize] = total;
+                self.before[line.line() as usize] = FIRST;
+                self.arrive(line, total);
+            }
+        }
+        self.run_heap(view, bounds);
+    }
+
+    fn run_from_line(&mut self, view: View, bounds: Bounds) {
+        let first = view.line(bounds.first);
+        if first.frc() > bounds.class || first.length() > bounds.limit {
             return;
         }
-        self.least[bounds.first as usize] = self.base + first.length;
+        let length = self.base + first.length();
+        self.least[bounds.first as usize] = length;
         self.before[bounds.first as usize] = FIRST;
         match self.method {
-            Method::LineQueue => self.run_line_queue(map, bounds),
-            Method::LineHeap => self.run_line_heap(map, bounds),
-            Method::NodeAndLineHeap => self.run_node_and_line_heap(map, bounds),
+            Method::LineQueue => self.run_line_queue(view, bounds),
+            Method::LineHeap => self.run_line_heap(view, bounds),
+            Method::NodeAndLineHeap => {
+                self.arrive(first, length);
+                self.run_heap(view, bounds);
+            }
         }
     }
 
-    fn lower_base(&mut self, limit: u32) {
+    /// What is banned after a line stays so from search to search, but not in the other direction.
+    fn turn(&mut self, direction: Direction) {
+        if self.direction != direction {
+            self.direction = direction;
+            self.banned_after.fill(NO_LINE);
+        }
+    }
+
+    /// A way of a length from which on a line of the shortest length is over the limit need not go
+    /// on.
+    fn lower_base(&mut self, limit: u32, shortest: u32) {
         if self.base <= limit {
             self.base = HIGHEST_BASE;
             self.least.fill(NOT_REACHED);
@@ -143,6 +206,7 @@ impl Search {
         }
         self.base -= limit + 1;
         self.top = self.base + limit;
+        self.last_left = self.base + limit.saturating_sub(shortest);
     }
 
     /// The least length of the ways that end with this line.
@@ -174,11 +238,21 @@ impl Search {
         list[start..].reverse();
     }
 
+    /// After a search back: puts the only least way that starts with this line behind the list.
+    pub fn append_way_onward(&self, first: u32, list: &mut Vec<u32>) {
+        list.push(first);
+        let mut line = first;
+        while let Before::Line(next) = self.before(line) {
+            list.push(next);
+            line = next;
+        }
+    }
+
     /// Marks the lines that may not follow this one, until the next is marked. Gives whether there
     /// are any.
     #[inline]
-    fn mark_banned(&mut self, map: &DepotMap, line: u32) -> bool {
-        let banned = map.banned_after(line);
+    fn mark_banned(&mut self, view: View, line: u32) -> bool {
+        let banned = view.banned_next(line);
         for &next in banned {
             self.banned_after[next as usize] = line;
         }
@@ -194,22 +268,22 @@ impl Search {
         }
     }
 
-    fn run_line_queue(&mut self, map: &DepotMap, bounds: Bounds) {
+    fn run_line_queue(&mut self, view: View, bounds: Bounds) {
         self.reached.clear();
         self.reached.push(bounds.first);
         self.queue.push_back(bounds.first);
         while let Some(line) = self.queue.pop_front() {
             self.waiting[line as usize] = false;
-            self.shorten_next(map, bounds, line);
+            self.shorten_next(view, bounds, line);
         }
-        self.count_ties(map);
+        self.count_ties(view);
     }
 
     #[inline]
-    fn shorten_next(&mut self, map: &DepotMap, bounds: Bounds, line: u32) {
+    fn shorten_next(&mut self, view: View, bounds: Bounds, line: u32) {
         let length = self.least[line as usize];
-        let has_bans = self.mark_banned(map, line);
-        for next in map.outgoing.of(map.line(line).end) {
+        let has_bans = self.mark_banned(view, line);
+        for next in view.lines_at(view.far_node(line)) {
             let total = length + next.length();
             let number = next.line() as usize;
             let least = &mut self.least[number];
@@ -232,13 +306,13 @@ impl Search {
 
     /// A line has several least ways if two lines may stand before it, or one with several itself.
     /// `FIRST` stands for "none found yet"; only the first line keeps it.
-    fn count_ties(&mut self, map: &DepotMap) {
+    fn count_ties(&mut self, view: View) {
         self.several.clear();
         for at in 0..self.reached.len() {
             let line = self.reached[at];
             let length = self.least[line as usize];
-            let has_bans = self.mark_banned(map, line);
-            for next in map.outgoing.of(map.line(line).end) {
+            let has_bans = self.mark_banned(view, line);
+            for next in view.lines_at(view.far_node(line)) {
                 let number = next.line() as usize;
                 let tight = self.least[number] == length + next.length();
                 if !tight || has_bans && self.banned_after[number] == line {
@@ -255,14 +329,14 @@ impl Search {
                 }
             }
         }
-        self.spread_ties(map);
+        self.spread_ties(view);
     }
 
-    fn spread_ties(&mut self, map: &DepotMap) {
+    fn spread_ties(&mut self, view: View) {
         while let Some(line) = self.several.pop() {
             let length = self.least[line as usize];
-            let has_bans = self.mark_banned(map, line);
-            for next in map.outgoing.of(map.line(line).end) {
+            let has_bans = self.mark_banned(view, line);
+            for next in view.lines_at(view.far_node(line)) {
                 let number = next.line() as usize;
                 let tight = self.least[number] == length + next.length();
                 let banned = has_bans && self.banned_after[number] == line;
@@ -276,12 +350,12 @@ impl Search {
 
     /// Lines leave the heap by the least length to them. Lengths are at least 1, so that by then
     /// every line before them that ties has left it.
-    fn run_line_heap(&mut self, map: &DepotMap, bounds: Bounds) {
+    fn run_line_heap(&mut self, view: View, bounds: Bounds) {
         self.push(self.least[bounds.first as usize], bounds.first);
         while let Some(Reverse(key)) = self.heap.pop() {
             let (length, line) = ((key >> 32) as u32, key as u32);
             if length == self.least[line as usize] {
-                self.leave_line(map, bounds, line);
+                self.leave_line(view, bounds, line);
             }
         }
     }
@@ -293,11 +367,11 @@ impl Search {
     }
 
     #[inline]
-    fn leave_line(&mut self, map: &DepotMap, bounds: Bounds, line: u32) {
+    fn leave_line(&mut self, view: View, bounds: Bounds, line: u32) {
         let length = self.least[line as usize];
         let before = self.before_next(line);
-        let has_bans = self.mark_banned(map, line);
-        for next in map.outgoing.of(map.line(line).end) {
+        let has_bans = self.mark_banned(view, line);
+        for next in view.lines_at(view.far_node(line)) {
             let total = length + next.length();
             let number = next.line() as usize;
             let least = &mut self.least[number];
@@ -321,26 +395,25 @@ impl Search {
     /// before others of the same length. So the first that may goes on to a line with the least
     /// length to it, and others only mark ties. Lengths are at least 1, so that by then all that
     /// arrive with that length are known, and so are the ties of each.
-    fn run_node_and_line_heap(&mut self, map: &DepotMap, bounds: Bounds) {
-        self.arrive(map.leaving(bounds.first), self.least[bounds.first as usize]);
+    fn run_heap(&mut self, view: View, bounds: Bounds) {
         while let Some(Reverse(key)) = self.heap.pop() {
             let (length, number) = ((key >> 32) as u32, key as u32);
             if number >= FIRST_NODE {
                 if length == self.closed_at[(number - FIRST_NODE) as usize] {
-                    self.leave_node(map, bounds, number - FIRST_NODE, length);
+                    self.leave_node(view, bounds, number - FIRST_NODE, length);
                 }
-            } else if length <= self.closed_at[map.line(number).end as usize] {
-                self.leave_by_line(map, bounds, number, length);
+            } else if length <= self.closed_at[view.far_node(number) as usize] {
+                self.leave_by_line(view, bounds, number, length);
             }
         }
     }
 
     /// A line arrives at its end node, by ways of this least length.
     #[inline(always)]
-    fn arrive(&mut self, line: Leaving, length: u32) {
-        let node = line.end() as usize;
+    fn arrive(&mut self, line: LineAtNode, length: u32) {
+        let node = line.far_node() as usize;
         let closed_at = &mut self.closed_at[node];
-        if length > *closed_at {
+        if length > *closed_at || length > self.last_left {
             return;
         }
         if line.has_bans() {
@@ -348,7 +421,7 @@ impl Search {
         } else if length < *closed_at {
             *closed_at = length;
             self.arrival[node] = line.line();
-            self.push(length, FIRST_NODE + line.end());
+            self.push(length, FIRST_NODE + line.far_node());
         } else {
             self.arrival[node] = SEVERAL;
         }
@@ -358,15 +431,15 @@ impl Search {
     /// before it, none of them is reached yet but the first line, which keeps its own length: a way
     /// that comes back to it is longer.
     #[inline]
-    fn leave_node(&mut self, map: &DepotMap, bounds: Bounds, node: u32, length: u32) {
+    fn leave_node(&mut self, view: View, bounds: Bounds, node: u32, length: u32) {
         let before = match self.arrival[node as usize] {
             SEVERAL => SEVERAL,
             line => self.before_next(line),
         };
         if self.opened_at[node as usize] <= length {
-            return self.leave_open_node(map, bounds, node, length, before);
+            return self.leave_open_node(view, bounds, node, length, before);
         }
-        for &next in map.outgoing.of(node) {
+        for &next in view.lines_at(node) {
             let total = length + next.length();
             if total > self.top || next.frc() > bounds.class || next.line() == bounds.first {
                 continue;
@@ -379,34 +452,27 @@ impl Search {
 
     /// The same where a line with bans has gone on before.
     #[inline(never)]
-    fn leave_open_node(
-        &mut self,
-        map: &DepotMap,
-        bounds: Bounds,
-        node: u32,
-        length: u32,
-        before: u32,
-    ) {
+    fn leave_open_node(&mut self, view: View, bounds: Bounds, node: u32, length: u32, before: u32) {
         let arrived = Arrived {
             number: FIRST_NODE + node,
             length,
             before,
         };
-        self.go_on(map, bounds, node, arrived);
+        self.go_on(view, bounds, node, arrived);
     }
 
     /// A line with bans of its own goes on. If every line that can be reached then is, the node is
     /// closed.
     #[inline(never)]
-    fn leave_by_line(&mut self, map: &DepotMap, bounds: Bounds, line: u32, length: u32) {
-        let node = map.line(line).end;
-        self.mark_banned(map, line);
+    fn leave_by_line(&mut self, view: View, bounds: Bounds, line: u32, length: u32) {
+        let node = view.far_node(line);
+        self.mark_banned(view, line);
         let arrived = Arrived {
             number: line,
             length,
             before: self.before_next(line),
         };
-        let stays_open = self.go_on(map, bounds, node, arrived);
+        let stays_open = self.go_on(view, bounds, node, arrived);
         if self.opened_at[node as usize] > length {
             self.opened_at[node as usize] = length;
             self.opened_by[node as usize] = line;
@@ -419,12 +485,12 @@ impl Search {
     /// Goes on to the lines that leave the node; after a shorter line with bans only to those banned
     /// after it, since it went on to the others. Gives whether one is not reached yet.
     #[inline]
-    fn go_on(&mut self, map: &DepotMap, bounds: Bounds, node: u32, arrived: Arrived) -> bool {
+    fn go_on(&mut self, view: View, bounds: Bounds, node: u32, arrived: Arrived) -> bool {
         if self.opened_at[node as usize] < arrived.length {
-            let banned = map.banned_after(self.opened_by[node as usize]).iter();
-            self.go_on_to(bounds, arrived, banned.map(|&next| map.leaving(next)))
+            let banned = view.banned_next(self.opened_by[node as usize]).iter();
+            self.go_on_to(bounds, arrived, banned.map(|&next| view.line(next)))
         } else {
-            self.go_on_to(bounds, arrived, map.outgoing.of(node).iter().copied())
+            self.go_on_to(bounds, arrived, view.lines_at(node).iter().copied())
         }
     }
 
@@ -435,7 +501,7 @@ impl Search {
         &mut self,
         bounds: Bounds,
         arrived: Arrived,
-        lines: impl Iterator<Item = Leaving>,
+        lines: impl Iterator<Item = LineAtNode>,
     ) -> bool {
         let mut stays_open = false;
         for next in lines {

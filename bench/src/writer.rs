@@ -5,9 +5,9 @@ use crate::fields::{
     coordinate_code, difference, distance_byte, lengths_of_distance_byte, offset_byte,
     FIRST_POINT_BYTES, LONGEST_LEG, LONGEST_REFERENCE, NEGATIVE_FLAG, POSITIVE_FLAG, STATUS_BYTE,
 };
-use crate::legs::{matching_first_lines, readings, LegEnd, Readings};
+use crate::legs::{ends_at_lines, least_way, matching_first_lines, matching_last_lines, Ends};
 use crate::outcome::{check_work_area, Outcome, Refusal};
-use crate::search::{Before, Bounds, Method, Search};
+use crate::search::{Method, Search};
 
 pub const MOST_LINES: usize = 64;
 
@@ -119,70 +119,25 @@ impl<'a> Stretch<'a> {
     }
 }
 
-/// A set of places in a stretch, 1 to 64: place k is the end of the k-th line.
-#[derive(Clone, Copy, PartialEq, Eq)]
-struct Places(u64);
-
-impl Places {
-    const NONE: Places = Places(0);
-
-    fn insert(&mut self, place: usize) {
-        self.0 |= 1 << (place - 1);
-    }
-
-    fn is_empty(self) -> bool {
-        self.0 == 0
-    }
-
-    fn count(self) -> u32 {
-        self.0.count_ones()
-    }
-
-    /// 0 if the set is empty.
-    fn furthest(self) -> usize {
-        64 - self.0.leading_zeros() as usize
-    }
-
-    fn iter(self) -> impl Iterator<Item = usize> {
-        let mut rest = self.0;
-        std::iter::from_fn(move || {
-            let place = rest.trailing_zeros() as usize + 1;
-            let found = (rest != 0).then_some(place);
-            rest &= rest.wrapping_sub(1);
-            found
-        })
-    }
-
-    fn retain(&mut self, keep: impl Fn(usize) -> bool) {
-        for place in self.iter() {
-            if !keep(place) {
-                self.0 &= !(1 << (place - 1));
-            }
-        }
-    }
-}
-
 /// The fewest points, and among those choices the one with most lines first: the places of all
 /// points, from 0 to the count of lines.
 ///
-/// From the end on: the fewest legs from a place are one more than those from the best next
-/// place, and the furthest such place is taken.
+/// From the end on: once the legs to all later places are known, so are the fewest legs from a
+/// place. Of places that take equally many the furthest comes first.
 fn choose_points(tester: &mut LegTester) -> Option<Vec<usize>> {
     let count = tester.lines.len();
     let mut legs_left = [usize::MAX; MOST_LINES + 1];
     let mut next = [0; MOST_LINES + 1];
-    let mut usable = Places::NONE;
     legs_left[count] = 0;
-    usable.insert(count);
-    for from in (0..count).rev() {
-        for to in tester.good_legs(from, usable).iter() {
-            if legs_left[to] < legs_left[from] {
+    for to in (1..=count).rev() {
+        if legs_left[to] == usize::MAX {
+            continue;
+        }
+        for from in tester.good_legs_to(to).iter() {
+            if legs_left[to] + 1 < legs_left[from] {
                 legs_left[from] = legs_left[to] + 1;
                 next[from] = to;
             }
-        }
-        if from > 0 && legs_left[from] != usize::MAX {
-            usable.insert(from);
         }
     }
     if legs_left[0] == usize::MAX {
@@ -195,6 +150,50 @@ fn choose_points(tester: &mut LegTester) -> Option<Vec<usize>> {
     Some(points)
 }
 
+/// A set of places in a stretch, 0 to 63: place k is the start of line k.
+#[derive(Clone, Copy, PartialEq, Eq)]
+struct Places(u64);
+
+impl Places {
+    const NONE: Places = Places(0);
+
+    fn insert(&mut self, place: usize) {
+        self.0 |= 1 << place;
+    }
+
+    fn remove(&mut self, place: usize) {
+        self.0 &= !(1 << place);
+    }
+
+    fn iter(self) -> impl Iterator<Item = usize> {
+        let mut rest = self.0;
+        std::iter::from_fn(move || {
+            let place = rest.trailing_zeros() as usize;
+            let found = (rest != 0).then_some(place);
+            rest &= rest.wrapping_sub(1);
+            found
+        })
+    }
+}
+
+/// How long the legs are guessed to get before any is tested: 1 km.
+const FIRST_REACH: u32 = 10_000;
+
+/// What the last search serves: legs of this lowest class that start at this place or nearer.
+#[derive(Clone, Copy)]
+struct Searched {
+    class: u8,
+    furthest: usize,
+}
+
+/// A leg to the place at hand.
+#[derive(Clone, Copy)]
+struct OwnLeg {
+    from: usize,
+    class: u8,
+    length: u32,
+}
+
 /// Tells for each leg of a stretch whether it is the only reading of its own description.
 struct LegTester<'a> {
     map: &'a DepotMap,
@@ -202,7 +201,41 @@ struct LegTester<'a> {
     search: Search,
     /// The length of the lines before each place. A stretch has 9,600,000 decimetres at most.
     length_to: [u32; MOST_LINES + 1],
+    first_lines: FirstLines,
+    /// How long the legs to the place before got.
+    reach: u32,
     effort: Effort,
+}
+
+/// The first lines of the legs from each place: those with the marks of the stretch's own line.
+struct FirstLines {
+    lines: Vec<u32>,
+    /// Where those of each place start, and where the last end.
+    starts: [usize; MOST_LINES + 1],
+    shortest: [u32; MOST_LINES],
+}
+
+impl FirstLines {
+    fn new(map: &DepotMap, stretch: &[u32]) -> FirstLines {
+        let mut all = FirstLines {
+            lines: Vec::with_capacity(2 * stretch.len()),
+            starts: [0; MOST_LINES + 1],
+            shortest: [0; MOST_LINES],
+        };
+        for (place, &own) in stretch.iter().enumerate() {
+            let own = map.line(own);
+            let lines = matching_first_lines(map, own.start, own.leaving_marks());
+            all.lines.extend(lines);
+            all.starts[place + 1] = all.lines.len();
+            let lengths = all.at(place).iter().map(|&line| map.line(line).length);
+            all.shortest[place] = lengths.min().unwrap_or(own.length);
+        }
+        all
+    }
+
+    fn at(&self, place: usize) -> &[u32] {
+        &self.lines[self.starts[place]..self.starts[place + 1]]
+    }
 }
 
 impl<'a> LegTester<'a> {
@@ -216,111 +249,190 @@ impl<'a> LegTester<'a> {
             lines: stretch.lines,
             search: Search::new(map, Method::NodeAndLineHeap),
             length_to,
+            first_lines: FirstLines::new(map, stretch.lines),
+            reach: FIRST_REACH,
             effort: Effort::default(),
         }
     }
 
-    /// Those of the places to which the leg from this place is good: the leg is the only reading
-    /// with its own first line, and no other first line with the same marks has a reading.
+    /// The places from which the leg to this place is good: the leg is the only reading with its own
+    /// first line, and no other first line with the same marks has a reading.
+    fn good_legs_to(&mut self, to: usize) -> Places {
+        let last = self.lines[to - 1];
+        if to < self.lines.len() {
+            let ends = Ends::node(self.map.line(last).end);
+            return self.good_legs_to_ends(to, &ends);
+        }
+        let good = self.good_legs_to_ends(to, &Ends::line(last));
+        self.without_other_last_lines(good)
+    }
+
+    /// The same where the readings are those to these ends alone. Legs with the same lowest class
+    /// share their searches.
     ///
-    /// Legs with the same lowest class share their searches. A way that is not the only least one
-    /// to its last line stays so when it goes on, since what may follow hangs on that line alone, and
-    /// also under a lower class: then all legs that are longer are not good.
-    fn good_legs(&mut self, from: usize, to: Places) -> Places {
-        let own = self.lines[from];
+    /// A leg that is not the only least way stays so with a line before it, since what may stand
+    /// there hangs on the first line alone, and also under a lower class: then all legs that are
+    /// longer are not good.
+    fn good_legs_to_ends(&mut self, to: usize, ends: &Ends) -> Places {
         let mut good = Places::NONE;
-        for (class, mut places) in (0..).zip(self.places_by_class(from, to)) {
-            if places.is_empty() {
+        let mut searched = None;
+        let mut class = 0;
+        let mut reach = 0;
+        for from in (0..to).rev() {
+            class = class.max(self.map.line(self.lines[from]).frc);
+            let length = self.leg_length(from, to);
+            if length > LONGEST_LEG {
+                break;
+            }
+            if !self.differences_fit(from, to) {
                 continue;
             }
-            let furthest = places.furthest();
-            self.run(own, from, class, places);
-            let goes_on = self.is_only_least_way(from, furthest);
-            places.retain(|place| self.is_only_reading(from, place));
-            good.0 |= self.without_rivals(from, class, places).0;
-            if !goes_on {
+            let leg = OwnLeg {
+                from,
+                class,
+                length,
+            };
+            searched = Some(self.search_for(to, leg, ends, searched));
+            reach = length;
+            if !self.is_only_least_way(leg) {
                 break;
+            }
+            if !self.has_rival(leg) {
+                good.insert(from);
+            }
+        }
+        self.reach = reach;
+        good
+    }
+
+    /// Searches for this leg and longer ones, unless the last search serves it.
+    fn search_for(
+        &mut self,
+        to: usize,
+        leg: OwnLeg,
+        ends: &Ends,
+        searched: Option<Searched>,
+    ) -> Searched {
+        if let Some(last) = searched {
+            if last.class == leg.class && last.furthest <= leg.from {
+                return last;
+            }
+        }
+        let furthest = self.look_ahead(to, leg);
+        let (_, limit) = self.lengths(furthest, to);
+        let behind = (furthest..=leg.from).map(|from| self.most_behind_first_line(from, to));
+        let shortest = limit - behind.fold(0, u32::max);
+        self.effort.searches += 1;
+        ends.search_back(self.map, &mut self.search, leg.class, limit, shortest);
+        Searched {
+            class: leg.class,
+            furthest,
+        }
+    }
+
+    /// How long the lines behind the first one are at most where a way has the leg's D.
+    fn most_behind_first_line(&self, from: usize, to: usize) -> u32 {
+        let (_, longest) = self.lengths(from, to);
+        longest.saturating_sub(self.first_lines.shortest[from])
+    }
+
+    /// The place for a search to look ahead to: where the legs get as long as those to the place
+    /// before or half as long again as this one, or where those of this class end.
+    fn look_ahead(&self, to: usize, leg: OwnLeg) -> usize {
+        let goal = self.reach.max(leg.length + leg.length / 2);
+        let mut furthest = leg.from;
+        while furthest > 0 && self.leg_length(furthest, to) < goal {
+            let is_lower = self.map.line(self.lines[furthest - 1]).frc > leg.class;
+            if is_lower || self.leg_length(furthest - 1, to) > LONGEST_LEG {
+                break;
+            }
+            furthest -= 1;
+        }
+        furthest
+    }
+
+    /// The leg is itself among the ways that the search looks at: no turn in it is banned. So it is
+    /// the only least one if there is only one and that has its length.
+    fn is_only_least_way(&mut self, leg: OwnLeg) -> bool {
+        self.effort.leg_tests += 1;
+        let own = self.lines[leg.from];
+        let way = least_way(self.map, &self.search, own, None);
+        way.is_some_and(|way| way.is_only && way.length == leg.length)
+    }
+
+    /// Whether another first line with the leg's marks has a reading.
+    fn has_rival(&mut self, leg: OwnLeg) -> bool {
+        let own = self.lines[leg.from];
+        let lengths = lengths_of_distance_byte(distance_byte(leg.length));
+        for &rival in self.first_lines.at(leg.from) {
+            if rival == own {
+                continue;
+            }
+            self.effort.leg_tests += 1;
+            let way = least_way(self.map, &self.search, rival, None);
+            if way.is_some_and(|way| way.is_within(lengths)) {
+                return true;
+            }
+        }
+        false
+    }
+
+    /// Leaves out the last legs that have readings with another last line.
+    fn without_other_last_lines(&mut self, mut good: Places) -> Places {
+        let own = self.lines[self.lines.len() - 1];
+        let last = self.map.line(own);
+        let others = matching_last_lines(self.map, last.end, last.arriving_marks());
+        for ends in ends_at_lines(self.map, others.filter(|&line| line != own)) {
+            good = self.without_readings(good, &ends);
+        }
+        good
+    }
+
+    /// Leaves out the last legs that have readings to these ends. The longest leg of a class comes
+    /// first, so that its search serves the others.
+    fn without_readings(&mut self, mut good: Places, ends: &Ends) -> Places {
+        let mut searched = None;
+        let first_lengths = good.iter().map(|from| self.first_lines.shortest[from]);
+        let shortest = first_lengths.min().unwrap_or_default();
+        for from in good.iter() {
+            let class = self.lowest_class(from);
+            let lengths = self.lengths(from, self.lines.len());
+            if searched != Some(class) {
+                self.effort.searches += 1;
+                ends.search_back(self.map, &mut self.search, class, lengths.1, shortest);
+                searched = Some(class);
+            }
+            self.effort.leg_tests += 1;
+            if self.has_reading(from, ends, lengths) {
+                good.remove(from);
             }
         }
         good
     }
 
-    /// The places after this one, by the lowest class of the leg to them. Places to which the leg
-    /// is too long or a difference does not fit are left out.
-    fn places_by_class(&self, from: usize, to: Places) -> [Places; 8] {
-        let mut of_class = [Places::NONE; 8];
-        let mut last_tried = from;
-        let mut class = 0;
-        for place in to.iter().filter(|&place| place > from) {
-            let new_lines = &self.lines[last_tried..place];
-            let classes = new_lines.iter().map(|&line| self.map.line(line).frc);
-            class = classes.fold(class, u8::max);
-            last_tried = place;
-            if self.leg_length(from, place) <= LONGEST_LEG && self.differences_fit(from, place) {
-                of_class[usize::from(class)].insert(place);
-            }
-        }
-        of_class
+    /// Whether a first line with the marks of the one at this place has a reading to these ends.
+    fn has_reading(&self, from: usize, ends: &Ends, lengths: (u32, u32)) -> bool {
+        let mut first_lines = self.first_lines.at(from).iter();
+        first_lines.any(|&first| {
+            let way_to = |behind| least_way(self.map, &self.search, first, behind);
+            let mut ways = ends.lines_behind().filter_map(way_to);
+            ways.any(|way| way.is_within(lengths))
+        })
     }
 
-    /// Leaves out the places to which a way with another first line is a reading.
-    fn without_rivals(&mut self, from: usize, class: u8, mut to: Places) -> Places {
-        let own = self.lines[from];
-        let line = self.map.line(own);
-        for rival in matching_first_lines(self.map, line.start, line.leaving_marks()) {
-            if rival != own && !to.is_empty() {
-                self.run(rival, from, class, to);
-                to.retain(|place| self.readings(from, place) == Readings::None);
-            }
-        }
-        to
-    }
-
-    /// One search for the tests of all these legs, up to the greatest length that gives the D of one
-    /// of them.
-    fn run(&mut self, first: u32, from: usize, class: u8, to: Places) {
-        self.effort.searches += 1;
-        self.effort.leg_tests += to.count();
-        let (_, limit) = lengths_of_distance_byte(self.distance(from, to.furthest()));
-        let bounds = Bounds {
-            first,
-            class,
-            limit,
-        };
-        self.search.run(self.map, bounds);
-    }
-
-    /// The leg is itself among the ways that the search looks at: no turn in it is banned. So it is
-    /// the only least one to its last line if there is only one and that has its length.
-    fn is_only_least_way(&self, from: usize, to: usize) -> bool {
-        let last = self.lines[to - 1];
-        self.search.least(last) == Some(self.leg_length(from, to))
-            && self.search.before(last) != Before::Several
-    }
-
-    /// The only least way to the leg's last line, and no other last line has a reading.
-    fn is_only_reading(&self, from: usize, to: usize) -> bool {
-        let last = self.lines[to - 1];
-        self.is_only_least_way(from, to) && self.readings(from, to) == Readings::One(last)
-    }
-
-    /// The readings of the leg with the first line that was searched from.
-    fn readings(&self, from: usize, to: usize) -> Readings {
-        let last = self.map.line(self.lines[to - 1]);
-        let is_last = to == self.lines.len();
-        let end = LegEnd {
-            node: last.end,
-            last_marks: is_last.then(|| last.arriving_marks()),
-        };
-        readings(self.map, &self.search, end, self.distance(from, to))
+    /// Of the last leg from this place.
+    fn lowest_class(&self, from: usize) -> u8 {
+        let lines = self.lines[from..].iter();
+        lines.fold(0, |class, &line| class.max(self.map.line(line).frc))
     }
 
     fn leg_length(&self, from: usize, to: usize) -> u32 {
         self.length_to[to] - self.length_to[from]
     }
 
-    fn distance(&self, from: usize, to: usize) -> u8 {
-        distance_byte(self.leg_length(from, to))
+    /// The lengths that give the D of the leg.
+    fn lengths(&self, from: usize, to: usize) -> (u32, u32) {
+        lengths_of_distance_byte(distance_byte(self.leg_length(from, to)))
     }
 
     fn differences_fit(&self, from: usize, to: usize) -> bool {

@@ -1,11 +1,12 @@
 //! The writer against testing every leg by itself, on small maps with bans.
 
+mod forward;
+
 use plain::depot_map::{Ban, DepotMap};
 use plain::fields::{difference, distance_byte, LONGEST_LEG};
-use plain::legs::{verdict, Leg, LegEnd, Verdict};
+use plain::legs::{Leg, LegEnd, Verdict};
 use plain::maps::{random_walk, small_map, MapPlan, Turns, Xorshift};
 use plain::outcome::{Outcome, Refusal};
-use plain::search::{Method, Search};
 use plain::writer::{reference_bytes, write_on_map, Stretch};
 
 fn leg_of(map: &DepotMap, lines: &[u32], is_last: bool) -> Option<Leg> {
@@ -31,9 +32,7 @@ fn is_good(map: &DepotMap, lines: &[u32], is_last: bool) -> bool {
     let Some(leg) = leg_of(map, lines, is_last) else {
         return false;
     };
-    let mut read = Vec::new();
-    let search = &mut Search::new(map, Method::LineHeap);
-    verdict(map, search, &leg, &mut read) == Verdict::One && read == lines
+    forward::verdict(map, &leg) == (Verdict::One, lines.to_vec())
 }
 
 /// The best places of points from each place on: the fewest, and of those with most lines first.
@@ -75,7 +74,8 @@ fn the_writer_takes_the_best_of_all_choices() {
         let mut plan = small_map(seed);
         plan.bans = some_turns(&plan, rng);
         let map = DepotMap::decode(&plan.encode()).unwrap();
-        let count = rng.within(1, 10) as usize;
+        let most = if seed % 16 == 0 { 64 } else { 10 };
+        let count = rng.within(1, most) as usize;
         let Some(lines) = random_walk(rng, &map, count, Turns::Allowed) else {
             continue;
         };

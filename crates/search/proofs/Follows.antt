@@ -1,12 +1,13 @@
 -- What is used of `Follows`, and what decides it. No other module looks inside it.
-use Rattle.work_area.specs.Area.{linePlace, startNode, endNode, Held}
+use Rattle.work_area.specs.Area.{banChain, Held}
+use Rattle.banned_turns.proofs.Chains.{walk-start, walk-end}
 use Rattle.model.specs.Map.{Map}
-use Prim.Native.Nat.{ℕ, _+_, _<_}
+use Prim.Native.Nat.{ℕ, _<_}
 use mathlib.Core.Path.{_≡_, sym, _∙_}
 use mathlib.Core.Bool.{true, false}
 use mathlib.Core.List.{List}
 use native.Mathlib.Omega.{arith}
-use lib.ListN.{length, getD}
+use lib.ListN.{length}
 use Rattle.model.specs.Lines.{lineAt, turnAmong, banned, Follows}
 
 module _ {m : Map} {l j : ℕ} where
@@ -17,19 +18,19 @@ module _ {m : Map} {l j : ℕ} where
   pub meets : Follows m l j → lineAt m j .start ≡ lineAt m l .end
   meets f = sym (f .meets)
 
-  module _ {w : List ℕ} {n : ℕ} (h : Held w n m) (l< : l < n) (j< : j < n) where
-    pub apart : (getD w (linePlace l + endNode) 0 ≡ getD w (linePlace j + startNode) 0 → ⊥) → Follows m l j → ⊥
-    apart d f = d (h .line-held l 1 l< (omega arith) ∙ f .meets ∙ sym (h .line-held j 0 j< (omega arith)))
+  -- After a line with the same end it can follow too, unless that turn is banned.
+  pub follows-unless : {k : ℕ} → turnAmong (m .bans) k j ≡ false → lineAt m k .end ≡ lineAt m l .end → Follows m l j → Follows m k j
+  unfolding banned
+  follows-unless allowed e f = record { line = f .line; meets = e ∙ f .meets; allowed = allowed }
 
-    pub barred : turnAmong (m .bans) l j ≡ true → Follows m l j → ⊥
-    unfolding banned
-    barred t f = let e = f .allowed in let z : _≡_ {A = ℕ} 0 1 = cc in omega arith
+  pub follows-free : {w : List ℕ} {n k : ℕ} → Held w n m → banChain (m .bans) k ≡ 0 → lineAt m k .end ≡ lineAt m l .end → Follows m l j → Follows m k j
+  follows-free {k = k} h free = follows-unless (walk-end (h .bans-held) k j 0 (omega arith) (walk-start (h .bans-held) k j 0 (sym free)))
 
-    pub follow : getD w (linePlace l + endNode) 0 ≡ getD w (linePlace j + startNode) 0 → turnAmong (m .bans) l j ≡ false → Follows m l j
-    unfolding banned
-    follow e t =
-        record {
-          line = omega arith;
-          meets = sym (h .line-held l 1 l< (omega arith)) ∙ e ∙ h .line-held j 0 j< (omega arith);
-          allowed = t;
-        }
+  -- A line that starts where the other ends can follow it, unless the turn is banned.
+  pub barred : turnAmong (m .bans) l j ≡ true → Follows m l j → ⊥
+  unfolding banned
+  barred t f = let e = f .allowed in let z : _≡_ {A = ℕ} 0 1 = cc in omega arith
+
+  pub follow : j < length (m .lines) → lineAt m j .start ≡ lineAt m l .end → turnAmong (m .bans) l j ≡ false → Follows m l j
+  unfolding banned
+  follow j< e t = record { line = j<; meets = sym e; allowed = t }

@@ -1,342 +1,412 @@
--- How a search begins, and how it expands a line: at one line that can follow it, and along the adjacency list of all.
-use Rattle.work_area.specs.Area.{linePlace, lineLength, lineFrc, predecessorsFrom, headsFrom, Held}
+-- How the search goes on from a line: at one line that can follow it, along the adjacency list of all, and past it.
+use Rattle.work_area.specs.Area.{linePlace, lineLength, lineFrc, searchFrom, lengthsFrom, queueFrom, headsFrom, nextFrom, nearestFrom}
 use Rattle.model.specs.Map.{greatestLineCount, Map}
-use Rattle.model.specs.Reading.{greatestLegLength}
-use Rattle.search.specs.Area.{pendingWeight, several, latest, lengthTo, predecessor, listed, Tie}
+use Rattle.search.specs.Area.{far, several, noteWeight, listWeight, lengthTo, predecessor, nearestFree, queued, Tie, lineOf, keyOf}
 use Prim.Native.Nat.{ℕ, _+_, _-_, _/_, _%_, _≤_, _<_}
 use mathlib.Core.Path.{_≡_, refl, sym, _∙_, ap, subst}
+use mathlib.Core.Bool.{true}
 use mathlib.Core.List.{List, [], _∷_, _++_}
 use mathlib.Core.Logic.{_⊎_, inl, inr, ⊎-elim, _≢_}
-use native.Mathlib.Nat.{eq-or-lt-of-le}
 use native.Mathlib.Omega.{arith}
 use native.Mathlib.Decide.{ℕ-discrete}
-use lib.ListN.{getD}
+use borrow.Author.Tests.{eq-eqb}
+use lib.ListN.{length, getD}
 use Rattle.model.specs.Lines.{lineAt, Follows}
 use Rattle.buffers.specs.Kept.{Kept}
-use Rattle.search.specs.Steps.{Task, task, Pending, noteAt, Leads, Backed, Notes, Counted, Underway, Stepped, Reset, Begun, Noted, TieNoted, Lowered, Calm, Relaxed, Ahead, WentOn, weight}
-use Rattle.search.proofs.Plain.{way-one, way-more, total-more, total-one}
-use Rattle.search.proofs.Follows.{known, meets}
-use Rattle.buffers.proofs.Kept.{kept-then, kept-within}
+use Rattle.search.specs.Steps.{Free, Waits, Backed, Counted, Standing, Queued, Task, Underway, Grew, Noted, TieNoted, Inserted, Arrived, Notable, Goes, Relaxed}
+use Rattle.search.specs.declared.relax.Going.{Going}
+use Rattle.buffers.proofs.Kept.{kept-none, kept-then, kept-within}
 use Rattle.buffers.proofs.Cases.{le-or-lt, here-or}
-use Rattle.work_area.proofs.Holding.{held-kept, few}
-use Rattle.search.proofs.Leaving.{latest-le, latest-hit, latest-all}
-use Rattle.search.proofs.Calm.{calm-kept}
-use Rattle.search.proofs.Counting.{counted-same, stepped-none, stepped-then, lowered, renoted, same-length, backed-less}
-
--- No line is reached.
-module _ {m : Map} {n f limit : ℕ} {w v : List ℕ} (h : Held w n m) (f< : f < n) (small : limit ≤ greatestLegLength) (k : Reset m n w v) where
-  bare : (c : ℕ) → Underway (task m f) n c limit 0 v
-  bare c =
-      record {
-        held = held-kept (omega arith) (k .kept) h;
-        chained = k .chained;
-        listing = k .empty;
-        small = small;
-        real = λ l l< near. absurd (omega (arith, k .all l l<));
-        counted = λ l j l< near. absurd (omega (arith, k .all l l<));
-        backed = λ j j< near. absurd (omega (arith, k .all j j<));
-      }
-
-  class-of : getD v (linePlace f + lineFrc) 0 ≡ lineAt m f .frc
-  class-of = held-kept (omega arith) (k .kept) h .line-held f 3 f< (omega arith)
-
-  length-of : getD v (linePlace f + lineLength) 0 ≡ lineAt m f .length
-  length-of = held-kept (omega arith) (k .kept) h .line-held f 2 f< (omega arith)
-
-  none : (c : ℕ) → (lineAt m f .frc ≤ c → lineAt m f .length ≤ limit → ⊥) → Begun m n c f limit w v 0
-  none c out =
-      record { underway = bare c; based = λ ok near. absurd (out ok near); waits = λ i i<. absurd (omega arith); kept = k .kept }
-
-  pub begun-shut : {c : ℕ} → c < getD v (linePlace f + lineFrc) 0 → Begun m n c f limit w v 0
-  begun-shut {c} x = none c (λ ok near. omega (arith, class-of))
-
-  pub begun-far : {c : ℕ} → limit < getD v (linePlace f + lineLength) 0 → Begun m n c f limit w v 0
-  begun-far {c} x = none c (λ ok near. omega (arith, length-of))
-
-  pub begun : {c x r : ℕ} {u : List ℕ} → getD v (linePlace f + lineFrc) 0 ≤ c → x ≡ getD v (linePlace f + lineLength) 0 → x ≤ limit →
-      Lowered f 0 0 x v u r → Begun m n c f limit w u r
-  begun {c} {x} {r} {u} ok is near d =
-      let e = d .new (k .all f f<) in
-      let s =
-      lowered (bare c) f< d near (omega (arith, k .all f f<)) (omega arith) (omega (arith, class-of))
-      (record { list = f ∷ []; way = way-one (omega (arith, h .line-count)) (omega (arith, class-of)); sum = omega (arith, length-of, total-one m f) })
-      (record { one = λ p. absurd (omega arith); many = λ p. absurd (omega arith) }) in
-      record {
-        underway = s .underway;
-        based = λ z t. omega (arith, d .found, length-of);
-        waits = λ i i<.
-            let z : i ≡ 0 = omega (arith, e .0) in
-            let at : listed u 0 - 1 ≡ f = omega (arith, e .1) in
-            rw (z, at) (omega (arith, d .before));
-        kept = kept-then (k .kept) (d .kept);
-      }
+use Rattle.work_area.proofs.Holding.{held-kept, few, line-ok}
+use Rattle.search.proofs.Plain.{way-more, total-more}
+use Rattle.search.proofs.Follows.{known, follows-free}
+use Rattle.search.proofs.Reached.{listing-same, count-le, room-left}
+use Rattle.search.proofs.Nearness.{nearest-lengths}
+use Rattle.search.proofs.Growing.{grew-none, free-grew, backed-grew, settled-grew}
+use Rattle.search.proofs.Queueing.{queue-kept, queued-in, waits-more, waits-new, ordered-more}
+use Rattle.search.proofs.Arriving.{Entered, Levelled, free-or, grew, entered, found-now, noted-now}
 
 -- What is noted.
-noted-cases : {x l y : ℕ} → Noted x l y → ((x ≡ 0) × (y ≡ l + 1)) ⊎ (((x ≡ l + 1) × (y ≡ l + 1)) ⊎ ((y ≡ several) × (0 < x) × (x ≢ l + 1)))
-noted-cases {x} {l} {y} n = first (ℕ-discrete x 0) (ℕ-discrete x (l + 1))
+noted-cases : {x note y : ℕ} → Noted x note y → ((x ≡ 0) × (y ≡ note)) ⊎ (((x ≡ note) × (y ≡ note)) ⊎ ((y ≡ several) × (0 < x) × (x ≢ note)))
+noted-cases {x} {note} {y} n = first (ℕ-discrete x 0) (ℕ-discrete x note)
   where
-    first : Dec (x ≡ 0) → Dec (x ≡ l + 1) → ((x ≡ 0) × (y ≡ l + 1)) ⊎ (((x ≡ l + 1) × (y ≡ l + 1)) ⊎ ((y ≡ several) × (0 < x) × (x ≢ l + 1)))
+    first : Dec (x ≡ 0) → Dec (x ≡ note) → ((x ≡ 0) × (y ≡ note)) ⊎ (((x ≡ note) × (y ≡ note)) ⊎ ((y ≡ several) × (0 < x) × (x ≢ note)))
     first (yes a) b = inl (a, n .first a)
     first (no a) (yes b) = inr (inl (b, n .same b))
     first (no a) (no b) = let p : 0 < x = omega (arith, a) in inr (inr (n .again p b, p, b))
 
-notes-new : {x l y : ℕ} → Noted x l y → Notes l y
-notes-new n =
-    ⊎-elim
-    (λ a. (omega (arith, a .1), λ z. omega (arith, a .1)))
-    (⊎-elim (λ a. (omega (arith, a .1), λ z. omega (arith, a .1))) (λ a. (omega (arith, a .0), λ z. absurd (omega (arith, a .0)))))
-    (noted-cases n)
+pub notable-some : {m : Map} {n l note : ℕ} {w : List ℕ} → Notable m n w l note → 0 < note
+notable-some o = ⊎-elim (λ e. omega arith) (λ e. omega (arith, e .0)) o
 
-notes-old : {x l k y : ℕ} → l < greatestLineCount → Noted x l y → Notes k x → Notes k y
-notes-old l< n o =
-    ⊎-elim
-    (λ a. absurd (omega (arith, a .0, o .0)))
-    (⊎-elim
-    (λ a. (omega (arith, a .1), λ z. let b = o .1 (omega (arith, a .0)) in omega (arith, a .0, a .1)))
-    (λ a. (omega (arith, a .0), λ z. absurd (omega (arith, a .0)))))
-    (noted-cases n)
+pub notable-low : {m : Map} {n l note : ℕ} {w : List ℕ} → l < greatestLineCount → Notable m n w l note → note ≤ several
+notable-low l< o = ⊎-elim (λ e. omega arith) (λ e. omega (arith, e .0)) o
 
--- By way of line `l` to line `j`.
-module _ {q : Task} {n c limit count l j : ℕ} {w : List ℕ} (g : Underway q n c limit count w) (l< : l < n) (j< : j < n) where
-  length-at : getD w (linePlace j + lineLength) 0 ≡ lineAt (q .map) j .length
+pub notable-grew : {m : Map} {n c d l note : ℕ} {w v : List ℕ} → Grew m n c d w v → l < n → lengthTo w l < far → Notable m n w l note → Notable m n v l note
+notable-grew r l< z o =
+    ⊎-elim
+    (λ e. inl e)
+    (λ e.
+    let t = e .1 in
+    inr (
+      e .0,
+      record {
+        free = t .free;
+        other = t .other;
+        reached = free-grew r (t .reached);
+        ends = t .ends;
+        alike = r .same _ (t .reached .line) (t .reached .reached) ∙ t .alike ∙ sym (r .same _ l< z);
+        differ = t .differ;
+      },
+    ))
+    o
+
+-- Line `l` at place `place` of the queue goes on to line `j`.
+module _ {q : Task} {n c limit place count end j : ℕ} {w : List ℕ} {going : Going} (g : Underway q n c limit place count end w)
+    (o : Goes (q .map) n place end w going) (j< : j < n) where
+  abbrev l : ℕ
+  l = going .line
+
+  abbrev m : Map
+  m = q .map
+
+  at-place : Queued n w (queued w place)
+  at-place = g .queue place (omega arith) (o .inside)
+
+  l< : l < n
+  l< = omega (arith, o .at, at-place .line)
+
+  pub here : lengthTo w l ≡ going .length
+  here = ap (lengthTo w) (sym (o .at)) ∙ at-place .found ∙ o .found
+
+  reached : lengthTo w l < far
+  reached = omega (arith, here, o .found, at-place .reached)
+
+  level : (k : ℕ) → k < n → lengthTo w k < far → lengthTo w k ≤ going .length + lineAt m k .length
+  level k k< z = omega (arith, o .found, g .level k place k< z (omega arith) (o .inside))
+
+  length-at : getD w (linePlace j + lineLength) 0 ≡ lineAt m j .length
   length-at = g .held .line-held j 2 j< (omega arith)
 
-  class-at : getD w (linePlace j + lineFrc) 0 ≡ lineAt (q .map) j .frc
+  class-at : getD w (linePlace j + lineFrc) 0 ≡ lineAt m j .frc
   class-at = g .held .line-held j 3 j< (omega arith)
 
-  relaxed-none : (Follows (q .map) l j → Counted (q .map) c limit l j w) → Relaxed q n c limit l j w w count
-  relaxed-none here =
-      record { step = stepped-none g; here = here; from = refl; others = λ k k< o. (refl, refl); waits = λ z. z }
+  pub going-in : going .line < n
+  going-in = l<
 
-  pub apart : (Follows (q .map) l j → ⊥) → Relaxed q n c limit l j w w count
+  -- The key of line `j` by way of line `l` stands behind that of line `l`.
+  pub key-behind : {x : ℕ} → x ≡ going .length + getD w (linePlace j + lineLength) 0 → queued w place ≤ keyOf x j
+  key-behind e = let some = line-ok (g .held) j< .some in omega (arith, length-at, o .found)
+
+  relaxed-none : (Follows m l j → Counted m c limit (going .note) l j w) → Relaxed q n c limit place going j w w count end
+  relaxed-none counted =
+      record { underway = g; grew = grew-none; kept = kept-none; here = counted; head = refl; inside = o .inside }
+
+  pub apart : (Follows m l j → ⊥) → Relaxed q n c limit place going j w w count end
   apart d = relaxed-none (λ f. absurd (d f))
 
-  pub nearer : lengthTo w j < lengthTo w l + getD w (linePlace j + lineLength) 0 → Relaxed q n c limit l j w w count
-  nearer less =
+  pub nearer : lengthTo w j < far → lengthTo w j ≢ going .length + getD w (linePlace j + lineLength) 0 → Relaxed q n c limit place going j w w count end
+  nearer z d =
       relaxed-none
       (λ f.
-      record { tight = λ ok z. omega (arith, length-at); noted = λ z t. absurd (omega (arith, length-at, t .equal)) })
-
-  pub shut : lengthTo w l + getD w (linePlace j + lineLength) 0 < lengthTo w j → c < getD w (linePlace j + lineFrc) 0 → Relaxed q n c limit l j w w count
-  shut less x =
-      relaxed-none
-      (λ f.
-      record { tight = λ ok z. absurd (omega (arith, class-at)); noted = λ z t. absurd (omega (arith, length-at, t .equal)) })
-
-  pub beyond : lengthTo w l + getD w (linePlace j + lineLength) 0 < lengthTo w j → limit < lengthTo w l + getD w (linePlace j + lineLength) 0 →
-      Relaxed q n c limit l j w w count
-  beyond less x =
-      relaxed-none
-      (λ f.
-      record { tight = λ ok z. absurd (omega (arith, length-at)); noted = λ z t. absurd (omega (arith, length-at, t .equal)) })
-
-  pub brought-down : {x r : ℕ} {v : List ℕ} → x ≡ lengthTo w l + getD w (linePlace j + lineLength) 0 → Follows (q .map) l j →
-      getD w (linePlace j + lineFrc) 0 ≤ c → x < lengthTo w j → x ≤ limit → Lowered j (l + 1) count x w v r → Relaxed q n c limit l j w v r
-  brought-down {x} {r} {v} e f ok less near d =
-      let h = g .held in
-      let n≤ = few h in
-      let way = g .real l l< (omega arith) in
-      let o : l ≢ j = λ z. omega (arith, subst (λ (k : ℕ). x ≡ lengthTo w k + getD w (linePlace j + lineLength) 0) z e) in
-      let a = d .others l (omega arith) o in
-      let b : lengthTo v l + lineAt (q .map) j .length ≡ lengthTo v j = omega (arith, a .0, d .found, length-at) in
-      let z : l + 1 - 1 ≡ l = omega arith in
-      let y : noteAt v j ≡ l + 1 = omega (arith, d .before) in
-      let backed : Backed (q .map) v j (l + 1) =
-      record { one = λ p u. rw z (record { known = omega arith; follows = f; enough = omega arith }); many = λ p. absurd (omega arith) } in
+      let b = level j j< z in
       record {
-        step = lowered g j< d near less (omega arith) (omega (arith, class-at))
-            (record {
-              list = way .list ++ j ∷ [];
-              way = way-more (way .way) f (omega (arith, class-at));
-              sum = omega (arith, length-at, way .sum, total-more (q .map) (way .list) j);
-            })
-            backed;
-        here = λ f. record { tight = λ ok t. omega arith; noted = λ t u. (omega arith, λ p. omega arith) };
-        from = a .0;
-        others = λ k k< p. let t = d .others k (omega arith) p in (t .0, ap (λ (y : ℕ). y % pendingWeight) (t .1));
-        waits = λ t. omega (arith, a .1);
-      }
+        tight = λ ok y. omega (arith, here);
+        noted = λ y t. absurd (d (omega (arith, length-at, t .equal, here)));
+      })
 
-  -- Both ways are equal, and line `l` is noted.
-  module _ {v : List ℕ} (f : Follows (q .map) l j) (equal : lengthTo w j ≡ lengthTo w l + getD w (linePlace j + lineLength) 0) (t : TieNoted l j w v) where
-    kept : Kept predecessorsFrom headsFrom w v
-    kept = let n≤ = few (g .held) in kept-within (omega arith) (omega arith) (t .kept)
+  pub shut : far ≤ lengthTo w j → c < getD w (linePlace j + lineFrc) 0 → Relaxed q n c limit place going j w w count end
+  shut z x =
+      relaxed-none (λ f. record { tight = λ ok y. absurd (omega (arith, class-at)); noted = λ y t. absurd (let s = g .small in omega arith) })
 
-    same : (k : ℕ) → k < n → lengthTo v k ≡ lengthTo w k
-    same = same-length g kept
+  pub beyond : far ≤ lengthTo w j → limit < going .length + getD w (linePlace j + lineLength) 0 → Relaxed q n c limit place going j w w count end
+  beyond z x =
+      relaxed-none
+      (λ f. record { tight = λ ok y. absurd (omega (arith, length-at, here)); noted = λ y t. absurd (let s = g .small in omega arith) })
 
-    note-here : noteAt v j ≡ t .note
-    note-here = omega (arith, t .here, t .noted .low)
+  -- What a note of line `l` at line `j` rests on.
+  note-backed : {v : List ℕ} → Grew m n c (going .length) w v → Follows m l j → lengthTo v j ≡ lengthTo v l + lineAt m j .length → Backed m v j (going .note)
+  note-backed {v} r f e =
+      let n≤ = few (g .held) in
+      let all = g .held .line-count in
+      let tie : Tie m v l j = record { known = let z = l< in omega arith; follows = f; equal = sym e } in
+      ⊎-elim
+      (λ own.
+      let z : going .note - 1 ≡ l = omega arith in
+      record { one = λ p u. rw z tie; many = λ p. absurd (let z = l< in omega arith) })
+      (λ twin.
+      let t = twin .1 in
+      let k = t .reached in
+      let other : Tie m v (t .other) j = record {
+        known = let z = k .line in omega arith;
+        follows = follows-free (g .held) (k .free) (t .ends) f;
+        equal = omega (arith, e, r .same _ (k .line) (k .reached), t .alike, r .same l l< reached);
+      } in
+      record { one = λ p u. absurd (omega (arith, twin .0)); many = λ p. (t .other, l, other, tie, t .differ) })
+      (o .notable)
 
-    cell : (k : ℕ) → k < n → k ≢ j → predecessor v k ≡ predecessor w k
+  -- Both ways are equal, and the note is noted too.
+  module _ {v : List ℕ} (f : Follows m l j) (z : lengthTo w j < far) (equal : lengthTo w j ≡ going .length + getD w (linePlace j + lineLength) 0) (t : TieNoted (going .note) j w v) where
+    cell : (k : ℕ) → k < n → k ≢ j → getD v (lengthsFrom + k) 0 ≡ getD w (lengthsFrom + k) 0
     cell k k< o =
         ⊎-elim
-        (λ a. t .kept .above (predecessorsFrom + k) (omega (arith, o)))
-        (λ a. t .kept .below (predecessorsFrom + k) (omega arith))
+        (λ a. t .kept .above (lengthsFrom + k) (omega (arith, o)))
+        (λ a. t .kept .below (lengthsFrom + k) (omega arith))
         (le-or-lt j k)
 
-    waiting : (k : ℕ) → k < n → predecessor v k / pendingWeight ≡ predecessor w k / pendingWeight
-    waiting =
-        here-or (λ k. k < n → predecessor v k / pendingWeight ≡ predecessor w k / pendingWeight) j
-        (λ k<. omega (arith, t .here, t .noted .low))
-        (λ k o k<. ap (λ (y : ℕ). y / pendingWeight) (cell k k< o))
+    same : (k : ℕ) → k < n → lengthTo v k ≡ lengthTo w k
+    same = here-or (λ k. k < n → lengthTo v k ≡ lengthTo w k) j (λ k<. t .length) (λ k o k<. ap (λ (x : ℕ). x / noteWeight) (cell k k< o))
 
-    leads : Leads (q .map) w l j
-    leads = let h = g .held in record { known = omega arith; follows = f; enough = omega (arith, length-at) }
+    note-of : (k : ℕ) → k < n → k ≢ j → predecessor v k ≡ predecessor w k
+    note-of k k< o = ap (λ (x : ℕ). x % noteWeight) (cell k k< o)
 
-    backed : lengthTo w j ≤ limit → Backed (q .map) w j (t .note)
-    backed near =
-        let old = g .backed j j< near in
-        let n≤ = few (g .held) in
-        let alone : t .note ≡ l + 1 → Backed (q .map) w j (t .note) =
-        λ e.
-        let z : t .note - 1 ≡ l = omega arith in
-        record { one = λ p u. rw z leads; many = λ p. absurd (omega arith) } in
-        ⊎-elim
-        (λ a. alone (a .1))
+    above : (b : ℕ) → queueFrom ≤ b → getD v b 0 ≡ getD w b 0
+    above b b≤ = let n≤ = few (g .held) in t .kept .above b (omega arith)
+
+    tie-length : lengthTo v j ≡ lengthTo v l + lineAt m j .length
+    tie-length = omega (arith, same j j<, same l l<, equal, here, length-at)
+
+    grew-tie : Grew m n c (going .length) w v
+    grew-tie =
+        record {
+          same = λ k k< z. same k k<;
+          notes = here-or (λ k. k < n → lengthTo w k < far → (predecessor v k ≡ predecessor w k) ⊎ ((several ≤ predecessor v k) ⊎ (predecessor w k ≡ 0))) j
+              (λ k< z.
+              ⊎-elim
+              (λ a. inr (inr (a .0)))
+              (⊎-elim (λ a. inl (t .here ∙ a .1 ∙ sym (a .0))) (λ a. inr (inl (omega (arith, t .here, a .0)))))
+              (noted-cases (t .noted)))
+              (λ k o k< z. inl (note-of k k< o));
+          new = λ k k< z y. absurd (omega (arith, same k k<));
+        }
+
+    backed-tie : Backed m v j (predecessor v j)
+    backed-tie =
+        let all = g .held .line-count in
+        let now = note-backed grew-tie f tie-length in
+        let old = backed-grew grew-tie all j< z (g .backed j j< z) in
+        rw (t .here)
         (⊎-elim
-        (λ a. alone (a .1))
+        (λ a. rw (a .1) now)
+        (⊎-elim
+        (λ a. rw (a .1) now)
         (λ a.
         record {
           one = λ p u. absurd (omega (arith, a .0));
-          many = λ p. ⊎-elim
-              (λ big. old .many big)
-              (λ low. (noteAt w j - 1, l, old .one (a .1) low, leads, λ e. a .2 (omega (arith, a .1))))
-              (le-or-lt several (noteAt w j));
+          many = λ p. ⊎-elim (λ big. old .many big)
+              (λ low.
+              ⊎-elim
+              (λ big. now .many big)
+              (λ low′.
+              let y = notable-some (o .notable) in
+              (predecessor w j - 1, going .note - 1, old .one (a .1) low, now .one y low′, λ e. a .2 (omega (arith, a .1))))
+              (le-or-lt several (going .note)))
+              (le-or-lt several (predecessor w j));
         }))
-        (noted-cases (t .noted))
+        (noted-cases (t .noted)))
 
-    tied-same : {k : ℕ} → k < n → Tie (q .map) v k j → Tie (q .map) w k j
-    tied-same k< u = record { known = u .known; follows = u .follows; equal = omega (arith, u .equal, same _ k<, same j j<) }
+    standing-tie : (k : ℕ) → k < n → lengthTo w k < far → Standing m c limit place end v k
+    standing-tie k k< z =
+        let n≤ = few (g .held) in
+        let c≤ = count-le (g .listing) in
+        let r≤ = g .room in
+        let waits : (a : ℕ) → Waits place end w a → Waits place end v a =
+        λ a y. (y .0, y .1, y .2, ap lineOf (above (queueFrom + y .0) (omega arith)) ∙ y .3) in
+        ⊎-elim
+        (λ s. inl (settled-grew grew-tie (g .small) (g .held .line-count) k< z s))
+        (λ s.
+        inr
+        (⊎-elim (λ y. inl (waits k y))
+        (λ y.
+        inr (y .0, rw (above (headsFrom + lineAt m k .end) (omega arith)) (waits _ (y .1))))
+        s))
+        (g .standing k k< z)
 
-    pub calm-tied : {resume : ℕ} → Calm n resume w v resume
-    calm-tied = calm-kept g kept (λ k k<. omega (arith, waiting k k<))
-
-    pub tied : Relaxed q n c limit l j w v count
+    pub tied : Relaxed q n c limit place going j w v count end
     tied =
         let n≤ = few (g .held) in
+        let h = g .held in
+        let c≤ = count-le (g .listing) in
+        let r≤ = g .room in
+        let list = listing-same same (λ i i<. ap (λ (x : ℕ). x / listWeight) (above (nextFrom + i) (omega arith))) (g .listing) in
+        let key : (i : ℕ) → i < end → queued v i ≡ queued w i = λ i i<. above (queueFrom + i) (omega arith) in
         record {
-          step = renoted g kept
-              (λ k k<. omega (arith, waiting k k<))
-              (λ k b k< b< near z f.
-              here-or (λ b. b < n → Counted (q .map) c limit k b w → Counted (q .map) c limit k b v) j
-              (λ b< old.
-              record {
-                tight = λ ok y. omega (arith, same k k<, same j j<, old .tight ok (omega (arith, same k k<)));
-                noted = λ y u. rw note-here (notes-old (omega arith) (t .noted) (old .noted (omega (arith, same j j<)) (tied-same k< u)));
-              })
-              (λ b o b< old. counted-same (same k k<) (same b b<) (ap (λ (y : ℕ). y % pendingWeight) (cell b b< o)) old)
-              b b< (g .counted k b k< near (omega (arith, waiting k k<)) f))
-              (here-or (λ b. b < n → lengthTo w b ≤ limit → Backed (q .map) v b (noteAt v b)) j
-              (λ b< near. rw note-here (backed-less (g .held) (λ k k<. omega (arith, same k k<)) (same j j<) (backed near)))
-              (λ b o b< near.
-              rw (cell b b< o) (backed-less (g .held) (λ k k<. omega (arith, same k k<)) (same b b<) (g .backed b b< near))));
+          underway = record {
+            held = held-kept (omega arith) (t .kept) h;
+            chained = record {
+              heads = λ b b<. ap (λ (x : ℕ). x % listWeight) (above (headsFrom + b) (omega arith)) ∙ g .chained .heads b b<;
+              nexts = λ k k<. ap (λ (x : ℕ). x % listWeight) (above (nextFrom + k) (omega arith)) ∙ g .chained .nexts k k<;
+              listing = (count, list);
+              bare = λ b b< p.
+                  let e = g .chained .bare b b< (rw (above (headsFrom + b) (omega arith)) at p) in (e .0, e .1, omega (arith, same (e .0) (e .1), e .2), e .3);
+            };
+            listing = list;
+            small = g .small;
+            begun = g .begun;
+            room = g .room;
+            ordered = λ i k p≤ i≤ k<. omega (arith, key i (omega arith), key k k<, g .ordered i k p≤ i≤ k<);
+            queue = λ i p≤ i<.
+                let k = g .queue i p≤ i< in
+                rw (key i i<) (record { line = k .line; found = same _ (k .line) ∙ k .found; reached = k .reached });
+            within = λ k k< z. omega (arith, same k k<, g .within k k< (omega (arith, same k k<)));
+            real = λ k k< z. rw (same k k<) (g .real k k< (omega (arith, same k k<)));
+            level = λ k i k< z p≤ i<. omega (arith, same k k<, key i i<, g .level k i k< (omega (arith, same k k<)) p≤ i<);
+            nearest = λ b b<.
+                rw (above (headsFrom + b) (omega arith))
+                (nearest-lengths (g .nearest b b<) (λ k. free-grew grew-tie)
+                (λ k x. record { line = x .line; free = x .free; reached = let y = x .reached in omega (arith, same k (x .line)) })
+                (λ k x. same k (x .line)));
+            standing = λ k k< z. standing-tie k k< (omega (arith, same k k<));
+            backed = here-or (λ k. k < n → lengthTo v k < far → Backed m v k (predecessor v k)) j
+                (λ k< z. backed-tie)
+                (λ k o k< y.
+                let z : lengthTo w k < far = omega (arith, same k k<) in
+                rw (note-of k k< o) (backed-grew grew-tie (h .line-count) k< z (g .backed k k< z)));
+          };
+          grew = grew-tie;
+          kept = kept-within (omega arith) (omega arith) (t .kept);
           here = λ f.
               record {
-                tight = λ ok y. omega (arith, same l l<, same j j<, length-at);
-                noted = λ y u. rw note-here (notes-new (t .noted));
+                tight = λ ok y. omega (arith, tie-length);
+                noted = λ y u.
+                    let some = notable-some (o .notable) in
+                    rw (t .here)
+                    (⊎-elim
+                    (λ a. (omega (arith, a .1), λ low. a .1))
+                    (⊎-elim (λ a. (omega (arith, a .1), λ low. a .1)) (λ a. (omega (arith, a .0), λ low. absurd (omega (arith, a .0)))))
+                    (noted-cases (t .noted)));
               };
-          from = same l l<;
-          others = λ k k< o. (same k k<, ap (λ (y : ℕ). y % pendingWeight) (cell k k< o));
-          waits = λ y. omega (arith, waiting l l<);
+          head = key place (o .inside);
+          inside = o .inside;
         }
 
--- The walk along the adjacency list of the node where `l` ends: `l` is taken into account at those from `at` on.
-pub record Along (q : Task) (n c limit l : ℕ) (u w : List ℕ) (at r : ℕ) : Type 0 where
-  pub step : Stepped q n c limit u w r
-  pub counted : (j : ℕ) → at ≤ j → lengthTo w l ≤ limit → Follows (q .map) l j → Counted (q .map) c limit l j w
-  pub waits : Pending u l → Pending w l
-  pub inside : at ≤ n
-  pub joined : 0 < at → lineAt (q .map) (at - 1) .start ≡ lineAt (q .map) l .end
+  -- Line `j` is reached.
+  module _ {x count′ end′ : ℕ} {v : List ℕ} (f : Follows m l j) (fresh : far ≤ lengthTo w j) (ok : getD w (linePlace j + lineFrc) 0 ≤ c)
+      (is : x ≡ going .length + getD w (linePlace j + lineLength) 0) (near : x ≤ limit)
+      (a : Arrived m limit place j (going .note) x count end w v count′ end′) where
+    n≤ : n ≤ greatestLineCount
+    n≤ = few (g .held)
 
-module _ {q : Task} {n c limit l : ℕ} {u : List ℕ} where
-  along-from : {w : List ℕ} {at r : ℕ} (i : ℕ) → i ≤ n → at ≡ latest (q .map) (lineAt (q .map) l .end) i → Stepped q n c limit u w r →
-      (Pending u l → Pending w l) → ((j : ℕ) → i ≤ j → Follows (q .map) l j → Counted (q .map) c limit l j w) → Along q n c limit l u w at r
-  along-from i i≤ e s waits counted =
-      record {
-        step = s;
-        counted = λ j at≤ near f. ⊎-elim
-            (λ i≤j. counted j i≤j f)
-            (λ j<i. absurd (omega (arith, latest-all (q .map) _ i j j<i (meets f))))
-            (le-or-lt i j);
-        waits = waits;
-        inside = omega (arith, latest-le (q .map) (lineAt (q .map) l .end) i);
-        joined = rw e (latest-hit (q .map) _ i);
-      }
+    end≤ : end ≤ n
+    end≤ = omega (arith, g .room, count-le (g .listing))
 
-  -- Where `l` is not pending, it is taken into account everywhere.
-  pub along-start : {at count : ℕ} → Underway q n c limit count u → l < n → Ahead (q .map) n l u at → Along q n c limit l u u at count
-  along-start g l< a =
-      ⊎-elim
-      (λ waits.
-      along-from n (omega arith) (a .waits waits) (stepped-none g) (λ y. y)
-      (λ j n≤ f. absurd (let to = known f in let h = g .held in omega arith)))
-      (λ still.
-      let e = a .still still in
-      record {
-        step = stepped-none g;
-        counted = λ j at≤ near f. g .counted l j l< near still f;
-        waits = λ y. y;
-        inside = omega arith;
-        joined = λ z. absurd (omega arith);
-      })
-      (le-or-lt pendingWeight (predecessor u l))
+    -- Up to where the line is put into the queue nothing of the queue is changed.
+    queue-same : (i : ℕ) → i < end → queued (a .second) i ≡ queued w i
+    queue-same i i< =
+        queue-kept (a .put) (a .nears) i (let e = end≤ in let y = n≤ in omega arith)
 
-  pub along-step : {w v : List ℕ} {at next r s : ℕ} → Along q n c limit l u w at r → 0 < at → Relaxed q n c limit l (at - 1) w v s →
-      next ≡ latest (q .map) (lineAt (q .map) (at - 1) .start) (at - 1) → Along q n c limit l u v next s
-  along-step {v = v} {at = at} {next = next} k pos p e =
-      let i = k .inside in
-      record {
-        step = stepped-then (k .step) (p .step);
-        counted = λ j next≤ near f. ⊎-elim
-            (λ at≤.
-            here-or (λ j. at - 1 ≤ j → Follows (q .map) l j → Counted (q .map) c limit l j v) (at - 1)
-            (λ at≤ f. p .here f)
-            (λ j o at≤ f.
-            let to = known f in
-            let h = k .step .underway .held in
-            let t = p .others j (omega arith) o in
-            counted-same (p .from) (t .0) (t .1) (k .counted j (omega (arith, o)) (omega (arith, p .from)) f))
-            j at≤ f)
-            (λ j<. absurd (omega (arith, e, latest-all (q .map) _ (at - 1) j j< (meets f ∙ sym (k .joined pos)))))
-            (le-or-lt (at - 1) j);
-        waits = λ y. p .waits (k .waits y);
-        inside = omega (arith, latest-le (q .map) (lineAt (q .map) (at - 1) .start) (at - 1));
-        joined = λ z.
-            let hit : lineAt (q .map) (next - 1) .start ≡ lineAt (q .map) (at - 1) .start = rw e (latest-hit (q .map) _ (at - 1) (omega arith)) in
-            hit ∙ k .joined pos;
-      }
+    head-same : (b : ℕ) → b < length (m .nodes) → getD (a .first) (headsFrom + b) 0 ≡ getD w (headsFrom + b) 0
+    head-same b b< = let y = g .held .formed in a .put .rest (headsFrom + b) (omega arith) (omega arith)
 
--- The search expanded the pending lines at the places from `from` up to `i`.
-pub record Passing (q : Task) (n c limit from count : ℕ) (u w : List ℕ) (i r : ℕ) : Type 0 where
-  pub step : Stepped q n c limit u w r
-  pub start : i ≡ from → (w ≡ u) × (r ≡ count)
-  pub less : from < i → Pending u (listed u from - 1) → weight w n < weight u n
+    levelled : Levelled m n place end j x (going .length) w
+    levelled =
+        record {
+          base = level;
+          floor = λ i p≤ i<. let b = g .ordered place i (omega arith) p≤ i< in omega (arith, o .found);
+          past = let some = line-ok (g .held) j< .some in omega (arith, length-at);
+          top = omega (arith, length-at);
+        }
 
-module _ {q : Task} {n c limit from count : ℕ} {u : List ℕ} where
-  pub passing-start : Underway q n c limit count u → Passing q n c limit from count u u from count
-  passing-start g = record { step = stepped-none g; start = λ e. (refl, refl); less = λ z. absurd (omega arith) }
+    end-j : lineAt m j .end < length (m .nodes)
+    end-j = line-ok (g .held) j< .end
 
-  pub passing-step : {w v : List ℕ} {i r s : ℕ} → from ≤ i → Passing q n c limit from count u w i r →
-      WentOn q n c limit (listed w i - 1) w v s → Passing q n c limit from count u v (i + 1) s
-  passing-step {w} {v} {i} f≤ k t =
-      record {
-        step = stepped-then (k .step) (t .step);
-        start = λ e. absurd (omega arith);
-        less = λ z waits.
-            ⊎-elim
-            (λ e.
-            let same : w ≡ u = k .start (sym e) .0 in
-            let at : Pending w (listed w from - 1) = subst (λ (x : List ℕ). Pending x (listed x from - 1)) (sym same) waits in
-            let now = t .less (subst (λ (j : ℕ). Pending w (listed w j - 1)) e at) in
-            subst (λ (x : List ℕ). weight v n < weight x n) same now)
-            (λ later. omega (arith, k .less later waits, t .step .lighter))
-            (eq-or-lt-of-le {n = from} {m = i} f≤);
-      }
+    nears-same : (b : ℕ) → b < length (m .nodes) → nearestFree (a .first) b ≡ nearestFree w b
+    nears-same b b< = ap (λ (y : ℕ). y / listWeight) (head-same b b<)
 
-  pub passing-end : {w : List ℕ} {i r : ℕ} → from < count → from ≤ i → r ≤ i → Passing q n c limit from count u w i r →
-      WentOn q n c limit (listed u from - 1) u w r
-  passing-end {i = i} f< f≤ end k =
-      let later : from < i =
-      ⊎-elim (λ e. absurd (omega (arith, k .start (sym e) .1))) (λ z. z) (eq-or-lt-of-le {n = from} {m = i} f≤) in
-      record { step = k .step; less = k .less later }
+    -- The area behind the queue and before it is that of the second step.
+    module _ (u : List ℕ) (last : ℕ) (low : (k : ℕ) → k < queueFrom → getD u k 0 ≡ getD (a .second) k 0)
+        (high : (k : ℕ) → headsFrom ≤ k → getD u k 0 ≡ getD (a .second) k 0) where
+      nears-now : (b : ℕ) → nearestFree u b ≡ nearestFree (a .second) b
+      nears-now b = ap (λ (y : ℕ). y / listWeight) (high (headsFrom + b) (omega arith))
+
+      enter : Kept searchFrom nearestFrom (a .second) u → Waits place last u j ⊎ (Free m j × (nearestFree u (lineAt m j .end) ≢ j + 1)) → place ≤ last → last ≤ count + 1 →
+          ((i k : ℕ) → place ≤ i → i ≤ k → k < last → queued u i ≤ queued u k) →
+          ((i : ℕ) → place ≤ i → i < last → (queued u i ≡ keyOf x j) ⊎ ((k : ℕ) × (place ≤ k) × (k < end) × (queued u i ≡ queued w k))) →
+          ((k : ℕ) → Waits place end w k → Waits place last u k) → Entered m n limit place j (going .note) x count end w u last
+      enter kept sent begun room ordered queue still =
+          let y = n≤ in
+          let few = g .held .formed in
+          record {
+            first = a .first;
+            put = a .put;
+            lengths = λ k k<. low (lengthsFrom + k) (omega arith) ∙ a .nears .kept .below (lengthsFrom + k) (omega arith);
+            cells = λ i i<. high (nextFrom + i) (omega arith) ∙ a .nears .kept .above (nextFrom + i) (omega arith);
+            heads = λ b b<. ap (λ (y : ℕ). y % listWeight) (high (headsFrom + b) (omega arith)) ∙ a .nears .heads b (omega arith)
+                ∙ ap (λ (y : ℕ). y % listWeight) (head-same b b<);
+            apart = λ b b< d. nears-now b ∙ a .nears .others b (omega arith) d ∙ nears-same b b<;
+            free = λ free. rw (nears-now (lineAt m j .end), ← nears-same _ end-j) (a .nears .free free .0);
+            barred = λ d. nears-now _ ∙ a .nears .barred d .0 ∙ nears-same _ end-j;
+            sent = sent;
+            begun = begun;
+            room = room;
+            ordered = ordered;
+            queue = queue;
+            still = still;
+            kept = kept-then (a .put .kept) (kept-then (kept-within (omega arith) (omega arith) (a .nears .kept)) kept);
+          }
+
+    entered-in : Entered m n limit place j (going .note) x count end w v end′
+    entered-in = ⊎-elim into (λ e. rw (e .1) (subst (λ (u : List ℕ). Entered m n limit place j (going .note) x count end w u end) (sym (e .2)) (out (e .0)))) (a .queue)
+      where
+        waits : (k : ℕ) → Waits place end w k → Waits place end (a .second) k
+        waits k y = (y .0, y .1, y .2, ap lineOf (queue-same (y .0) (y .2)) ∙ y .3)
+
+        out : a .sent ≢ true → Entered m n limit place j (going .note) x count end w (a .second) end
+        out d =
+            enter (a .second) end (λ k k<. refl) (λ k k≤. refl) kept-none
+            (inr (⊎-elim
+            (λ free. (free, λ e. d (a .nears .free free .1 ∙ eq-eqb _ _ e)))
+            (λ barred. absurd (d (a .nears .barred barred .1)))
+            (free-or m j)))
+            (g .begun) (let b = g .room in omega arith)
+            (λ i k p≤ i≤ k<. omega (arith, queue-same i (omega arith), queue-same k k<, g .ordered i k p≤ i≤ k<))
+            (λ i p≤ i<. inr (i, p≤, i<, queue-same i i<))
+            waits
+
+        into : (a .sent ≡ true) × (end′ ≡ end + 1) × Inserted place end (keyOf x j) (a .second) v → Entered m n limit place j (going .note) x count end w v end′
+        into e =
+            let s = e .2 in
+            let y = n≤ in
+            let z = end≤ in
+            let p = o .inside in
+            let key : lineOf (keyOf x j) ≡ j = omega arith in
+            rw (e .1)
+            (enter v (end + 1) (λ k k<. s .kept .below k (omega arith)) (λ k k≤. s .kept .above k (let room = room-left (g .listing) j< fresh in let r = g .room in omega arith))
+            (kept-within (omega arith) (let room = room-left (g .listing) j< fresh in let r = g .room in omega arith) (s .kept))
+            (inl (waits-new s key))
+            (omega arith) (let b = g .room in omega arith)
+            (ordered-more s (λ i k p≤ i≤ k<. omega (arith, queue-same i (omega arith), queue-same k k<, g .ordered i k p≤ i≤ k<)))
+            (queued-in s (λ y. (y ≡ keyOf x j) ⊎ ((k : ℕ) × (place ≤ k) × (k < end) × (y ≡ queued w k))) (inl refl) (λ i p≤ i<. inr (i, p≤, i<, queue-same i i<)))
+            (λ k y. waits-more s (waits k y)))
+
+    grew-on : Grew m n c (going .length) w v
+    grew-on = grew g j< fresh (omega (arith, class-at)) near entered-in levelled
+
+    pub reaches : Relaxed q n c limit place going j w v count′ end′
+    reaches =
+        let r = grew-on in
+        let ok′ : lineAt m j .frc ≤ c = omega (arith, class-at) in
+        let way = g .real l l< reached in
+        let len : lengthTo v j ≡ lengthTo v l + lineAt m j .length = omega
+        (arith, found-now g j< fresh ok′ near entered-in levelled, r .same l l< reached, here, length-at) in
+        record {
+          underway = rw (a .counted)
+              (entered g j< fresh ok′ near entered-in levelled
+              (record {
+                list = way .list ++ j ∷ [];
+                way = way-more (way .way) f ok′;
+                sum = omega (arith, length-at, here, way .sum, total-more m (way .list) j);
+              })
+              (note-backed r f len));
+          grew = r;
+          kept = entered-in .kept;
+          here = λ f.
+              record {
+                tight = λ ok t. omega (arith, len);
+                noted = λ t u. rw (noted-now g j< fresh ok′ near entered-in levelled) (notable-some (o .notable), λ low. refl);
+              };
+          head = ⊎-elim
+              (λ e. let s = e .2 in s .before place (s .behind) ∙ queue-same place (o .inside))
+              (λ e. ap (λ (u : List ℕ). queued u place) (e .2) ∙ queue-same place (o .inside))
+              (a .queue);
+          inside = ⊎-elim (λ e. let z = o .inside in omega (arith, e .1)) (λ e. let z = o .inside in omega (arith, e .1)) (a .queue);
+        }

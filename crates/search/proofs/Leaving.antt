@@ -1,8 +1,8 @@
 -- The adjacency lists: how they are made, and that a walk along one meets every such line.
 use Rattle.work_area.specs.Area.{linePlace, startNode, endNode, searchFrom, lengthsFrom, headsFrom, nextFrom, nearestFrom, Held}
-use Rattle.model.specs.Map.{greatestNodeCount, Map}
-use Rattle.search.specs.Area.{far, listWeight, latest, lengthTo, firstLeaving, nextLeaving, listed}
-use Prim.Native.Nat.{ℕ, zero, suc, _+_, _-_, _/_, _%_, _≤_, _<_}
+use Rattle.model.specs.Map.{greatestNodeCount, greatestLineCount, Map}
+use Rattle.search.specs.Area.{far, noteWeight, listWeight, latest, lengthTo, nextLeaving, listed}
+use Prim.Native.Nat.{ℕ, zero, suc, _+_, _-_, _*_, _/_, _%_, _≤_, _<_}
 use mathlib.Core.Path.{_≡_, sym, _∙_, ap, subst}
 use mathlib.Core.Bool.{cond}
 use mathlib.Core.List.{List}
@@ -59,7 +59,7 @@ latest-all m v (suc i) j j< e =
 
 -- The adjacency lists of the lines below `i` are made, and no such line is reached.
 pub record Linking (w : List ℕ) (i : ℕ) (m : Map) (v : List ℕ) : Type 0 where
-  pub heads : (a : ℕ) → a < length (m .nodes) → firstLeaving v a ≡ latest m a i
+  pub heads : (a : ℕ) → a < length (m .nodes) → getD v (headsFrom + a) 0 ≡ latest m a i
   pub nexts : (l : ℕ) → l < i → (nextLeaving v l ≡ latest m (lineAt m l .start) l) × (listed v l ≡ 0)
   pub all : (l : ℕ) → l < i → far ≤ lengthTo v l
   pub kept : Kept searchFrom nearestFrom w v
@@ -74,13 +74,14 @@ link-none h f =
       kept = kept-none;
     }
 
-pub linked : {w v : List ℕ} {n : ℕ} {m : Map} → Linking w n m v → Linked w n m v
-linked k =
+pub linked : {w v : List ℕ} {n : ℕ} {m : Map} → n ≤ greatestLineCount → Linking w n m v → Linked w n m v
+linked {n = n} {m = m} few k =
     record {
       chained = record {
-        heads = k .heads;
+        heads = λ a a<. omega (arith, k .heads a a<, latest-le m a n);
         nexts = λ l l<. k .nexts l l< .0;
         listing = (0, listing-none (k .all) (λ i i<. k .nexts i i< .1));
+        bare = λ a a< p. absurd (omega (arith, k .heads a a<, latest-le m a n));
       };
       kept = k .kept;
     }
@@ -93,7 +94,7 @@ module _ {u w : List ℕ} {n i : ℕ} {m : Map} (h : Held u n m) (i< : i < n) (k
   start-small = let f = h .formed in omega (arith, start-at, line-ok h i< .start)
 
   pub link-step : {v : ℕ} → v ≡ getD w (linePlace i + startNode) 0 →
-      Linking u (i + 1) m (set (set (set w (nextFrom + i) (getD w (headsFrom + v) 0)) (headsFrom + v) (i + 1)) (lengthsFrom + i) far)
+      Linking u (i + 1) m (set (set (set w (nextFrom + i) (getD w (headsFrom + v) 0)) (headsFrom + v) (i + 1)) (lengthsFrom + i) (far * noteWeight))
   link-step {v} at =
       let x = getD w (headsFrom + v) 0 in
       let w₁ = set w (nextFrom + i) x in
@@ -104,24 +105,24 @@ module _ {u w : List ℕ} {n i : ℕ} {m : Map} (h : Held u n m) (i< : i < n) (k
       let from : v ≡ lineAt m i .start = at ∙ start-at in
       let e : x ≡ latest m (lineAt m i .start) i = rw from (k .heads _ (line-ok h i< .start)) in
       record {
-        heads = λ a a<. getD-set-other w₂ (lengthsFrom + i) (headsFrom + a) far 0 (omega arith)
+        heads = λ a a<. getD-set-other w₂ (lengthsFrom + i) (headsFrom + a) (far * noteWeight) 0 (omega arith)
             ∙ at-set (λ a y. a < length (m .nodes) → y ≡ latest m a (i + 1)) w₁ headsFrom v (i + 1)
             (simp length-set (omega arith))
             (λ a<. sym (latest-same m v i (sym from)))
             (λ a d a<. getD-set-other w (nextFrom + i) (headsFrom + a) x 0 (let f = h .formed in omega arith) ∙ k .heads a a<
             ∙ sym (latest-other m a i (λ y. d (sym (from ∙ y))))) a a<;
         nexts = λ l l<.
-            rw (getD-set-other w₂ (lengthsFrom + i) (nextFrom + l) far 0 (omega arith), getD-set-other w₁ (headsFrom + v) (nextFrom + l) (i + 1) 0 (omega arith))
+            rw (getD-set-other w₂ (lengthsFrom + i) (nextFrom + l) (far * noteWeight) 0 (omega arith), getD-set-other w₁ (headsFrom + v) (nextFrom + l) (i + 1) 0 (omega arith))
             (at-set (λ a y. a < i + 1 → (y % listWeight ≡ latest m (lineAt m a .start) a) × (y / listWeight ≡ 0)) w nextFrom i x (omega arith)
             (λ a<. let b = latest-le m (lineAt m i .start) i in (omega arith, omega arith))
             (λ a d a<. k .nexts a (omega arith)) l l<);
-        all = at-set (λ a y. a < i + 1 → far ≤ y) w₂ lengthsFrom i far (simp length-set (omega arith)) (λ a<. omega arith)
+        all = at-set (λ a y. a < i + 1 → far ≤ y / noteWeight) w₂ lengthsFrom i (far * noteWeight) (simp length-set (omega arith)) (λ a<. omega arith)
             (λ a d a<.
             rw (getD-set-other w₁ (headsFrom + v) (lengthsFrom + a) (i + 1) 0 (omega arith), getD-set-other w (nextFrom + i) (lengthsFrom + a) x 0 (omega arith))
             (k .all a (omega arith)));
         kept = kept-then (k .kept)
             (kept-then (kept-set (nextFrom + i) x (omega arith) (omega arith))
-            (kept-then (kept-set (headsFrom + v) (i + 1) (omega arith) (omega arith)) (kept-set (lengthsFrom + i) far (omega arith) (omega arith))));
+            (kept-then (kept-set (headsFrom + v) (i + 1) (omega arith) (omega arith)) (kept-set (lengthsFrom + i) (far * noteWeight) (omega arith) (omega arith))));
       }
 
 -- The node where line `l` ends.
@@ -131,3 +132,6 @@ module _ {w : List ℕ} {n l v : ℕ} {m : Map} (h : Held w n m) (l< : l < n) (a
 
   pub end-in : v < length (m .nodes)
   end-in = omega (arith, end-is, line-ok h l< .end)
+
+  pub end-small : v < greatestNodeCount
+  end-small = let f = h .formed in omega (arith, end-in)

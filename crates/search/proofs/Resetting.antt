@@ -1,14 +1,15 @@
 -- How the list is gone through to reset what a search found.
-use Rattle.work_area.specs.Area.{searchFrom, lengthsFrom, headsFrom, nextFrom, nearestFrom, Held}
+use Rattle.work_area.specs.Area.{linePlace, endNode, searchFrom, lengthsFrom, headsFrom, nextFrom, nearestFrom, Held}
 use Rattle.model.specs.Map.{greatestNodeCount, Map}
-use Rattle.search.specs.Area.{far, listWeight, Chained, Listing, lengthTo, firstLeaving, nextLeaving, listed}
-use Prim.Native.Nat.{ℕ, _+_, _/_, _%_, _≤_, _<_}
+use Rattle.search.specs.Area.{far, noteWeight, listWeight, Chained, Listing, lengthTo, firstLeaving, nextLeaving, listed, nearestFree}
+use Rattle.model.specs.Lines.{lineAt}
+use Prim.Native.Nat.{ℕ, _+_, _-_, _*_, _/_, _%_, _≤_, _<_}
 use mathlib.Core.Path.{_≡_, refl, sym, _∙_, ap, subst}
 use mathlib.Core.List.{List}
 use mathlib.Core.Logic.{_≢_, ⊎-elim}
 use native.Mathlib.Nat.{eq-or-lt-of-le}
 use native.Mathlib.Omega.{arith}
-use lib.ListN.{getD, set, length-set}
+use lib.ListN.{length, getD, set, length-set}
 use lib.Seq.{getD-set-other}
 use Rattle.buffers.specs.Kept.{Kept}
 use Rattle.search.specs.Steps.{Reset}
@@ -16,29 +17,37 @@ use Rattle.buffers.proofs.Kept.{kept-none, kept-then, at-set, kept-set}
 use Rattle.search.proofs.Reached.{listing-none}
 use Rattle.search.proofs.Places.{place-le, past}
 use Rattle.buffers.proofs.Cases.{le-or-lt}
-use Rattle.work_area.proofs.Holding.{few}
+use Rattle.work_area.proofs.Holding.{held-kept, few}
+use Rattle.search.proofs.Leaving.{end-is, end-in}
 
 -- The first `i` places are gone through. A line that is still reached is at one of the others.
-pub record Resetting (n count i : ℕ) (u w : List ℕ) : Type 0 where
+pub record Resetting (m : Map) (n count i : ℕ) (u w : List ℕ) : Type 0 where
   pub heads : (a : ℕ) → a < greatestNodeCount → firstLeaving w a ≡ firstLeaving u a
   pub nexts : (k : ℕ) → k < n → nextLeaving w k ≡ nextLeaving u k
   pub gone : (k : ℕ) → k < i → listed w k ≡ 0
   pub left : (k : ℕ) → i ≤ k → k < n → listed w k ≡ listed u k
   pub every : (l : ℕ) → l < n → lengthTo w l < far → (k : ℕ) × (i ≤ k) × (k < count) × (listed u k ≡ l + 1)
+  pub bare : (a : ℕ) → a < length (m .nodes) → 0 < nearestFree w a → (k : ℕ) × (i ≤ k) × (k < count) × (lineAt m (listed u k - 1) .end ≡ a)
   pub kept : Kept searchFrom nearestFrom u w
 
-pub resetting-start : {n count : ℕ} {u : List ℕ} → Listing u n count → Resetting n count 0 u u
-resetting-start s =
+pub resetting-start : {m : Map} {n : ℕ} {u : List ℕ} (ch : Chained u n m) → Resetting m n (ch .listing .0) 0 u u
+resetting-start {m} {u = u} ch =
+    let s = ch .listing .1 in
     record {
       heads = λ a a<. refl;
       nexts = λ k k<. refl;
       gone = λ k k<. absurd (omega arith);
       left = λ k i k<. refl;
       every = λ l l< d. let a = s .every l l< d in (a .0, omega arith, a .1, a .2);
+      bare = λ a a< p.
+          let b = ch .bare a a< p in
+          let e = s .every (b .0) (b .1) (b .2) in
+          let z : listed u (e .0) - 1 ≡ b .0 = omega (arith, e .2) in
+          (e .0, omega arith, e .1, rw z (b .3));
       kept = kept-none;
     }
 
-module _ {n count i : ℕ} {u w : List ℕ} {m : Map} (h : Held u n m) (s : Listing u n count) (i< : i < n) (k : Resetting n count i u w) where
+module _ {n count i : ℕ} {u w : List ℕ} {m : Map} (h : Held u n m) (s : Listing u n count) (i< : i < n) (k : Resetting m n count i u w) where
   -- What stands at place `i`.
   pub listed-le : listed w i ≤ n
   listed-le = omega (arith, k .left i (omega arith) i<, place-le s i<)
@@ -46,62 +55,123 @@ module _ {n count i : ℕ} {u w : List ℕ} {m : Map} (h : Held u n m) (s : List
   pub at-end : listed w i ≡ 0 → count ≤ i
   at-end e = past s i< (sym (k .left i (omega arith) i<) ∙ e)
 
-  pub resetting-step : (l y : ℕ) → l + 1 ≡ listed w i → y ≡ getD (set w (lengthsFrom + l) far) (nextFrom + i) 0 % listWeight →
-      Resetting n count (i + 1) u (set (set w (lengthsFrom + l) far) (nextFrom + i) y)
-  resetting-step l y e z =
-      let n≤ = few h in
-      let o = k .kept .same in
-      let w₁ = set w (lengthsFrom + l) far in
-      let l< : l < n = omega (arith, listed-le) in
-      let cell : getD w₁ (nextFrom + i) 0 ≡ getD w (nextFrom + i) 0 = getD-set-other w (lengthsFrom + l) (nextFrom + i) far 0 (omega arith) in
-      record {
-        heads = λ a a<. getD-set-other w₁ (nextFrom + i) (headsFrom + a) y 0 (omega arith)
-            ∙ getD-set-other w (lengthsFrom + l) (headsFrom + a) far 0 (omega arith) ∙ k .heads a a<;
-        nexts = at-set (λ a b. a < n → b % listWeight ≡ nextLeaving u a) w₁ nextFrom i y (simp length-set (omega arith))
-            (λ a<. omega (arith, k .nexts i i<))
-            (λ a d a<. rw (getD-set-other w (lengthsFrom + l) (nextFrom + a) far 0 (omega arith)) (k .nexts a a<));
-        gone = at-set (λ a b. a < i + 1 → b / listWeight ≡ 0) w₁ nextFrom i y (simp length-set (omega arith)) (λ a<. omega arith)
-            (λ a d a<. rw (getD-set-other w (lengthsFrom + l) (nextFrom + a) far 0 (omega arith)) (k .gone a (omega arith)));
-        left = λ a a≤ a<. ap (λ (b : ℕ). b / listWeight)
-            (getD-set-other w₁ (nextFrom + i) (nextFrom + a) y 0 (omega arith) ∙ getD-set-other w (lengthsFrom + l) (nextFrom + a) far 0 (omega arith))
-            ∙ k .left a (omega arith) a<;
-        every = λ a a< d. every a a< (rw (getD-set-other w₁ (nextFrom + i) (lengthsFrom + a) y 0 (omega arith)) at d);
-        kept = kept-then (k .kept)
-            (kept-then (kept-set (lengthsFrom + l) far (omega arith) (omega arith)) (kept-set (nextFrom + i) y (omega arith) (omega arith)));
-      }
-    where
-      later : (a b : ℕ) → a ≢ l → i ≤ b → listed u b ≡ a + 1 → i + 1 ≤ b
-      later a b d p r =
-          ⊎-elim
-          (λ z. absurd (d (omega (arith, e, k .left i (omega arith) i<, subst (λ (c : ℕ). listed u c ≡ a + 1) (sym z) r))))
-          (λ l. omega arith)
-          (eq-or-lt-of-le {n = i} {m = b} p)
+  -- The node where that line ends.
+  module _ (l a : ℕ) (e : l + 1 ≡ listed w i) (at : a ≡ getD w (linePlace l + endNode) 0) where
+    here< : l < n
+    here< = omega (arith, listed-le)
 
-      every : (a : ℕ) → a < n → lengthTo (set w (lengthsFrom + l) far) a < far →
-          (b : ℕ) × (i + 1 ≤ b) × (b < count) × (listed u b ≡ a + 1)
+    ends-at : a ≡ lineAt m l .end
+    ends-at = end-is (held-kept (omega arith) (k .kept) h) here< at
+
+    pub ends-in : a < greatestNodeCount
+    ends-in = let f = h .formed in omega (arith, end-in (held-kept (omega arith) (k .kept) h) here< at)
+
+    -- The three stores.
+    module _ (x y : ℕ) (cleared : x ≡ getD w (headsFrom + a) 0 % listWeight)
+        (left : y ≡ getD (set (set w (headsFrom + a) x) (lengthsFrom + l) (far * noteWeight)) (nextFrom + i) 0 % listWeight) where
+      abbrev w₁ : List ℕ
+      w₁ = set w (headsFrom + a) x
+
+      abbrev w₂ : List ℕ
+      w₂ = set w₁ (lengthsFrom + l) (far * noteWeight)
+
+      abbrev w₃ : List ℕ
+      w₃ = set w₂ (nextFrom + i) y
+
+      next-at : (b : ℕ) → b < n → getD w₂ (nextFrom + b) 0 ≡ getD w (nextFrom + b) 0
+      next-at b b< =
+          let n≤ = few h in
+          let z = ends-in in
+          let t = here< in
+          getD-set-other w₁ (lengthsFrom + l) (nextFrom + b) (far * noteWeight) 0 (omega arith) ∙ getD-set-other w (headsFrom + a) (nextFrom + b) x 0 (omega arith)
+
+      head-at : (b : ℕ) → b < greatestNodeCount → getD w₃ (headsFrom + b) 0 ≡ getD w₁ (headsFrom + b) 0
+      head-at b b< =
+          let n≤ = few h in
+          let t = here< in
+          getD-set-other w₂ (nextFrom + i) (headsFrom + b) y 0 (omega arith) ∙ getD-set-other w₁ (lengthsFrom + l) (headsFrom + b) (far * noteWeight) 0 (omega arith)
+
+      later : (b c : ℕ) → b ≢ l → i ≤ c → listed u c ≡ b + 1 → i + 1 ≤ c
+      later b c d p r =
+          ⊎-elim
+          (λ z. absurd (d (omega (arith, e, k .left i (omega arith) i<, subst (λ (q : ℕ). listed u q ≡ b + 1) (sym z) r))))
+          (λ l. omega arith)
+          (eq-or-lt-of-le {n = i} {m = c} p)
+
+      every : (b : ℕ) → b < n → lengthTo w₂ b < far → (c : ℕ) × (i + 1 ≤ c) × (c < count) × (listed u c ≡ b + 1)
       every =
-          at-set (λ a d. a < n → d < far → (b : ℕ) × (i + 1 ≤ b) × (b < count) × (listed u b ≡ a + 1)) w lengthsFrom l far
-          (let n≤ = few h in let o = k .kept .same in omega (arith, listed-le))
-          (λ a< d. absurd (omega arith))
-          (λ a d a< f. let b = k .every a a< f in (b .0, later a (b .0) d (b .1) (b .3), b .2, b .3))
+          at-set (λ b d. b < n → d / noteWeight < far → (c : ℕ) × (i + 1 ≤ c) × (c < count) × (listed u c ≡ b + 1)) w₁ lengthsFrom l (far * noteWeight)
+          (let n≤ = few h in let o = k .kept .same in let t = here< in let f = h .full in simp length-set (omega arith))
+          (λ b< d. absurd (omega arith))
+          (λ b d b< f.
+          let z = ends-in in
+          let n≤ = few h in
+          let g = k .every b b< (rw (getD-set-other w (headsFrom + a) (lengthsFrom + b) x 0 (omega arith)) at f) in
+          (g .0, later b (g .0) d (g .1) (g .3), g .2, g .3))
+
+      bare : (b : ℕ) → b < length (m .nodes) → 0 < nearestFree w₁ b → (c : ℕ) × (i + 1 ≤ c) × (c < count) × (lineAt m (listed u c - 1) .end ≡ b)
+      bare =
+          at-set (λ b d. b < length (m .nodes) → 0 < d / listWeight → (c : ℕ) × (i + 1 ≤ c) × (c < count) × (lineAt m (listed u c - 1) .end ≡ b)) w headsFrom a x
+          (let o = k .kept .same in let z = ends-in in let f = h .full in omega arith)
+          (λ b< p. absurd (omega arith))
+          (λ b o b< p.
+          let g = k .bare b b< p in (
+            g .0,
+            ⊎-elim
+                (λ z. absurd (o
+                (sym (subst (λ (q : ℕ). lineAt m (listed u q - 1) .end ≡ b) (sym z) (g .3))
+                ∙ ap (λ (q : ℕ). lineAt m q .end) (let t : listed u i - 1 ≡ l = omega (arith, e, k .left i (omega arith) i<) in t) ∙ sym ends-at)))
+                (λ z. omega arith)
+                (eq-or-lt-of-le {n = i} {m = g .0} (g .1)),
+            g .2,
+            g .3,
+          ))
+
+      pub resetting-step : Resetting m n count (i + 1) u w₃
+      resetting-step =
+          let n≤ = few h in
+          let o = k .kept .same in
+          let f = h .full in
+          let t = here< in
+          let z = ends-in in
+          record {
+            heads = λ b b<. ap (λ (q : ℕ). q % listWeight) (head-at b b<)
+                ∙ at-set (λ b q. q % listWeight ≡ firstLeaving w b) w headsFrom a x (omega arith) (omega arith) (λ b o. refl) b ∙ k .heads b b<;
+            nexts = at-set (λ b q. b < n → q % listWeight ≡ nextLeaving u b) w₂ nextFrom i y (simp length-set (omega arith))
+                (λ b<. omega (arith, left, next-at i i<, k .nexts i i<))
+                (λ b d b<. rw (next-at b b<) (k .nexts b b<));
+            gone = at-set (λ b q. b < i + 1 → q / listWeight ≡ 0) w₂ nextFrom i y (simp length-set (omega arith)) (λ b<. omega arith)
+                (λ b d b<. rw (next-at b (omega arith)) (k .gone b (omega arith)));
+            left = λ b b≤ b<. ap (λ (q : ℕ). q / listWeight) (getD-set-other w₂ (nextFrom + i) (nextFrom + b) y 0 (omega arith) ∙ next-at b b<)
+                ∙ k .left b (omega arith) b<;
+            every = λ b b< d. every b b< (rw (getD-set-other w₂ (nextFrom + i) (lengthsFrom + b) y 0 (omega arith)) at d);
+            bare = λ b b< p. let g = h .formed in bare b b< (rw (head-at b (omega arith)) at p);
+            kept = kept-then (k .kept)
+                (kept-then (kept-set (headsFrom + a) x (omega arith) (omega arith))
+                (kept-then (kept-set (lengthsFrom + l) (far * noteWeight) (omega arith) (omega arith)) (kept-set (nextFrom + i) y (omega arith) (omega arith))));
+          }
 
 -- The list is gone through, by its end or by its length.
 pub reset-done : {n i : ℕ} {u w : List ℕ} {m : Map} → Held u n m → (ch : Chained u n m) → ch .listing .0 ≤ i →
-    Resetting n (ch .listing .0) i u w → Reset m n u w
-reset-done {n} {i} {u} {w} h ch c k =
+    Resetting m n (ch .listing .0) i u w → Reset m n u w
+reset-done {n} {i} {u} {w} {m} h ch c k =
     let n≤ = few h in
     let f = h .formed in
     let all : (l : ℕ) → l < n → far ≤ lengthTo w l =
     λ l l<. ⊎-elim (λ a. a) (λ a. let b = k .every l l< a in absurd (omega (arith, b .1, b .2))) (le-or-lt far (lengthTo w l)) in
     let none : (j : ℕ) → j < n → listed w j ≡ 0 =
     λ j j<. ⊎-elim (λ a. k .left j a j< ∙ ch .listing .1 .none j (omega arith) j<) (λ a. k .gone j a) (le-or-lt i j) in
+    let bare : (a : ℕ) → a < length (m .nodes) → nearestFree w a ≡ 0 =
+    λ a a<. ⊎-elim (λ z. omega arith) (λ p. let b = k .bare a a< p in absurd (omega (arith, b .1, b .2))) (le-or-lt (nearestFree w a) 0) in
     record {
       chained = record {
         heads = λ a a<. k .heads a (omega arith) ∙ ch .heads a a<;
         nexts = λ l l<. k .nexts l l< ∙ ch .nexts l l<;
         listing = (0, listing-none all none);
+        bare = λ a a< p. absurd (omega (arith, bare a a<));
       };
       empty = listing-none all none;
       all = all;
+      bare = bare;
       kept = k .kept;
     }

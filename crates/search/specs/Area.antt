@@ -1,34 +1,39 @@
 -- What stands in the work area besides the map: the adjacency lists, the list of the lines that a search has
 -- reached, and what it has found.
-use Rattle.work_area.specs.Area.{lengthsFrom, predecessorsFrom, headsFrom, nextFrom, nearestFrom, Held}
+use Rattle.work_area.specs.Area.{lengthsFrom, queueFrom, headsFrom, nextFrom, nearestFrom, Held}
 use Rattle.model.specs.Map.{Map}
 use Rattle.model.specs.Reading.{greatestLegLength}
-use Prim.Native.Nat.{ℕ, zero, suc, _+_, _-_, _/_, _%_, _≤_, _<_}
+use Prim.Native.Nat.{ℕ, zero, suc, _+_, _-_, _*_, _/_, _%_, _≤_, _<_}
 use mathlib.Core.Path.{_≡_}
 use mathlib.Core.Bool.{cond}
 use mathlib.Core.List.{List, [], _∷_, _++_}
+use mathlib.Core.Logic.{_⊎_}
 use lib.ListN.{length, getD}
 use lib.Dec.{eqb}
 use Rattle.model.specs.Lines.{lineAt, Follows}
 use Rattle.search.specs.Ways.{line, Distance}
 
--- The cells. For each line: the length found to it (past the limit of the search where no way is within it), and its predecessor.
--- While a search is under way `pendingWeight` is added to the latter where the line is pending: it is still to be expanded.
-abbrev pub pendingWeight : ℕ
-pendingWeight = 4_096
+-- The cells. For each line the length found to it (past the limit of the search where no way is within it) and, below `noteWeight`, its predecessor:
+-- 1 + the line, several, or 0.
+abbrev pub noteWeight : ℕ
+noteWeight = 2_048
+
+-- No length in such a cell is as great.
+abbrev pub noteLimit : ℕ
+noteLimit = 2_097_152
 
 abbrev pub lengthTo : List ℕ → ℕ → ℕ
-lengthTo w l = getD w (lengthsFrom + l) 0
+lengthTo w l = getD w (lengthsFrom + l) 0 / noteWeight
 
 abbrev pub predecessor : List ℕ → ℕ → ℕ
-predecessor w l = getD w (predecessorsFrom + l) 0
+predecessor w l = getD w (lengthsFrom + l) 0 % noteWeight
 
 -- For each node the first line of its adjacency list, for each line the next, and for each node the nearest line that ends there.
-abbrev pub firstLeaving : List ℕ → ℕ → ℕ
-firstLeaving w v = getD w (headsFrom + v) 0
-
 abbrev pub listWeight : ℕ
 listWeight = 2_048
+
+abbrev pub firstLeaving : List ℕ → ℕ → ℕ
+firstLeaving w v = getD w (headsFrom + v) 0 % listWeight
 
 abbrev pub nextLeaving : List ℕ → ℕ → ℕ
 nextLeaving w l = getD w (nextFrom + l) 0 % listWeight
@@ -40,13 +45,31 @@ nearestLine w v = getD w (nearestFrom + v) 0
 abbrev pub listed : List ℕ → ℕ → ℕ
 listed w i = getD w (nextFrom + i) 0 / listWeight
 
+-- In the cells of the first lines stands, in the same way, the nearest of the free lines that end at the node, while a search is under way.
+abbrev pub nearestFree : List ℕ → ℕ → ℕ
+nearestFree w v = getD w (headsFrom + v) 0 / listWeight
+
+-- The queue: of each line its key, the length to it times `keyWeight` and then the line, from the last one down. So of lines with the same length the last
+-- comes first: as the adjacency lists have them.
+abbrev pub keyWeight : ℕ
+keyWeight = 1_024
+
+abbrev pub keyOf : ℕ → ℕ → ℕ
+keyOf length l = length * keyWeight + (keyWeight - 1 - l)
+
+abbrev pub lineOf : ℕ → ℕ
+lineOf key = keyWeight - 1 - key % keyWeight
+
+abbrev pub queued : List ℕ → ℕ → ℕ
+queued w i = getD w (queueFrom + i) 0
+
 -- The length to a line that is not reached: one past the greatest limit.
 abbrev pub far : ℕ
 far = greatestLegLength + 1
 
 -- What a cell says instead of 1 + a line: that there are several.
 abbrev pub several : ℕ
-several = 2_000
+several = 1_025
 
 -- 1 + the greatest line below `i` that starts at node `v`, or 0.
 abbrev pub latest : Map → ℕ → ℕ → ℕ
@@ -78,11 +101,13 @@ pub record Among (w : List ℕ) (lines i l : ℕ) : Type 0 where
   pub here : listed w place ≡ l + 1
 
 -- The adjacency lists: of each node its last line, and from each line to the one below it from the same node.
--- Beside them stands the list of the lines that the last search reached, so that the next can begin without a look at every line.
+-- Beside them stands the list of the lines that the last search reached, so that the next can begin without a look at every line. Only where one of
+-- these ends has a node a nearest free line.
 pub record Chained (w : List ℕ) (lines : ℕ) (m : Map) : Type 0 where
   pub heads : (v : ℕ) → v < length (m .nodes) → firstLeaving w v ≡ latest m v lines
   pub nexts : (l : ℕ) → l < lines → nextLeaving w l ≡ latest m (lineAt m l .start) l
   pub listing : (count : ℕ) × Listing w lines count
+  pub bare : (v : ℕ) → v < length (m .nodes) → 0 < nearestFree w v → (l : ℕ) × (l < lines) × (lengthTo w l < far) × (lineAt m l .end ≡ v)
 
 -- Line `l` stands before line `j` on a way that is as long as the length found to `j`.
 pub record Tie (m : Map) (w : List ℕ) (l j : ℕ) : Type 0 where
@@ -115,9 +140,9 @@ pub record Searched (m : Map) (lines class first limit : ℕ) (w : List ℕ) : T
   pub found : (l : ℕ) → l < lines → Distance m class first limit (line l) (lengthTo w l)
   pub tied : Tied m lines limit w
 
--- The line that the cell of a node names: the cell is 1 + the line where it alone is nearest, and 2,000 more where another is as near.
+-- The line that the cell of a node names: the cell is 1 + the line where it alone is nearest, and 1,024 more where another is as near.
 abbrev pub named : ℕ → ℕ
-named x = (x - 1) % several
+named x = (x - 1) % keyWeight
 
 -- What `x` says of the lines with the property `P` that end at node `v`: 0 where none is within the limit, or which of them is nearest, and
 -- whether it alone is.
@@ -129,6 +154,12 @@ pub record Nearest (m : Map) (limit : ℕ) (w : List ℕ) (P : ℕ → Type 0) (
   pub least : 0 < x → (l : ℕ) → P l → lineAt m l .end ≡ v → lengthTo w (named x) ≤ lengthTo w l
   pub one : 0 < x → x < several → (l : ℕ) → P l → lineAt m l .end ≡ v → lengthTo w l ≡ lengthTo w (named x) → l ≡ named x
   pub many : several ≤ x → (l : ℕ) × P l × (lineAt m l .end ≡ v) × (lengthTo w l ≡ lengthTo w (named x)) × (l ≡ named x → ⊥)
+
+-- The cell `x` of a node, updated for line `l`, which ends there: that is past the limit or farther than the nearest; or nearer; or as near.
+pub data NearerBy (limit : ℕ) (w : List ℕ) (x l : ℕ) : ℕ → Type 0 where
+  farther : {r : ℕ} → r ≡ x → (limit < lengthTo w l) ⊎ ((0 < x) × (lengthTo w (named x) < lengthTo w l)) → NearerBy limit w x l r
+  nearest : {r : ℕ} → r ≡ l + 1 → lengthTo w l ≤ limit → (0 < x → lengthTo w l < lengthTo w (named x)) → NearerBy limit w x l r
+  alike : {r : ℕ} → r ≡ named x + several → lengthTo w l ≤ limit → 0 < x → lengthTo w l ≡ lengthTo w (named x) → NearerBy limit w x l r
 
 -- What it says of all lines.
 abbrev pub NearestLine : Map → ℕ → ℕ → List ℕ → ℕ → ℕ → Type 0

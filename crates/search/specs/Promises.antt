@@ -1,5 +1,5 @@
 -- What the public functions promise.
-use Rattle.work_area.specs.Area.{searchFrom, nearestFrom}
+use Rattle.work_area.specs.Area.{searchFrom, searchTo, nearestFrom}
 use Rattle.model.specs.Map.{Map}
 use Rattle.search.specs.Area.{Chained, Searched}
 use Prim.Native.Nat.{ℕ}
@@ -12,8 +12,8 @@ pub record Linked (w : List ℕ) (i : ℕ) (m : Map) (v : List ℕ) : Type 0 whe
   pub chained : Chained v i m
   pub kept : Kept searchFrom nearestFrom w v
 
--- A search from line `first` is done, and of the area only the lengths, the predecessors and the list are changed: the next can begin.
+-- A search from line `first` is done, and of the area only the cells of searches are changed: the next can begin.
 pub record Finished (m : Map) (lines class first limit : ℕ) (w v : List ℕ) : Type 0 where
   pub searched : Searched m lines class first limit v
   pub chained : Chained v lines m
-  pub kept : Kept searchFrom nearestFrom w v
+  pub kept : Kept searchFrom searchTo w v

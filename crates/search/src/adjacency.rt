@@ -1,10 +1,9 @@
-// The adjacency lists: the lines that leave each node; and which line can follow which.
+// The adjacency lists: the lines that leave each node.
 use crate::cells::FAR;
 use crate::cells::LIST_WEIGHT;
-use banned_turns::in_chain;
+use crate::cells::NOTE_WEIGHT;
 use buffers::fill;
 use buffers::wide;
-use work_area::END;
 use work_area::HEADS;
 use work_area::LENGTHS;
 use work_area::NEXT;
@@ -15,10 +14,9 @@ ghost use mathlib.Core.Path.{_≡_};
 ghost use Prim.Native.Nat.{_-_, _≤_, _<_};
 ghost use lib.ListN.{length};
 ghost use Rattle.model.specs.Map.{Map};
-ghost use Rattle.model.specs.Lines.{lineAt, Follows};
-ghost use Rattle.work_area.specs.Area.{banChain, Held};
+ghost use Rattle.model.specs.Lines.{lineAt};
+ghost use Rattle.work_area.specs.Area.{Held};
 ghost use Rattle.search.specs.Area.{Chained, latest};
-ghost use Rattle.buffers.specs.Decides.{Decides};
 ghost use Rattle.search.specs.Promises.{Linked};
 
 // Makes the adjacency lists, and has no line reached. Called once a map.
@@ -32,7 +30,7 @@ pub fn link(work: &mut [u32], lines: usize)
         let v = wide(field(work, i, START));
         work[NEXT + i] = work[HEADS + v];
         work[HEADS + v] = (i + 1) as u32;
-        work[LENGTHS + i] = FAR;
+        work[LENGTHS + i] = FAR * NOTE_WEIGHT;
         i += 1;
     }
 }
@@ -43,7 +41,7 @@ pub fn first_leaving(work: &[u32], lines: usize, v: usize) -> usize
     ensures { λ r. ⌜ ((m : Map) → Held (now (work .entry)) lines m → Chained (now (work .entry)) lines m → v < length (m .nodes)
         → r ≡ latest m v lines) ⌝ }
 {
-    wide(work[HEADS + v])
+    wide(work[HEADS + v] % LIST_WEIGHT)
 }
 
 // The next line of an adjacency list, plus 1, after line `at - 1`; 0 at its end.
@@ -54,20 +52,4 @@ pub fn next_leaving(work: &[u32], lines: usize, at: usize) -> usize
         → r ≡ latest m (lineAt m (at - 1) .start) (at - 1)) ⌝ }
 {
     wide(work[NEXT + (at - 1)] % LIST_WEIGHT)
-}
-
-// Whether line `j` can stand straight after line `l`, whose banned turns are `chain`. Nothing else decides that. The chain is looked up once for
-// all lines that leave the node.
-pub fn follows(work: &[u32], lines: usize, l: usize, j: usize, chain: usize) -> bool
-    requires { ⌜ (l < lines) × (j < lines) ⌝ }
-    requires { ⌜ ((m : Map) × Held (now work) lines m × (chain ≡ banChain (m .bans) l)) ⌝ }
-    ensures { λ r. ⌜ ((m : Map) → Held (now (work .entry)) lines m → chain ≡ banChain (m .bans) l → Decides (Follows m l j) r) ⌝ }
-{
-    if field(work, l, END) != field(work, j, START) {
-        return false;
-    }
-    if in_chain(work, lines, chain, j) {
-        return false;
-    }
-    true
 }

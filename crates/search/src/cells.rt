@@ -1,29 +1,30 @@
 // How the search packs what it knows into its cells of the work area, and how their numbers are read.
 use buffers::wide;
 use model::limits::GREATEST_LEG_LENGTH;
-use work_area::LENGTH;
 use work_area::LENGTHS;
 use work_area::NEXT;
-use work_area::field;
-ghost use Rattle.work_area.specs.Area.{linePlace, lineLength, lengthsFrom};
 ghost use Rattle.model.specs.Map.{greatestLineCount};
 ghost use Rattle.model.specs.Work.{workLength};
-ghost use Rattle.search.specs.Area.{listed};
+ghost use Rattle.search.specs.Area.{several, noteLimit, listed, keyOf, lineOf, lengthTo, predecessor};
 ghost use mathlib.Core.Path.{_≡_};
-ghost use Prim.Native.Nat.{_+_, _≤_, _<_};
-ghost use lib.ListN.{length, getD};
+ghost use Prim.Native.Nat.{_≤_, _<_};
+ghost use lib.ListN.{length};
 
-// The cells of `NEXT` also hold the list of the lines that a search has reached, times this: 1 + the line at each place, or 0.
+// A cell of `LENGTHS` has the length to a line times this, and 1 + its predecessor, or 0.
+pub const NOTE_WEIGHT: u32 = 2_048;
+
+// A cell of `NEXT` has the next line of an adjacency list and, times this, a place of the list of the lines that a search has reached: 1 + the line,
+// or 0. A cell of `HEADS` has the first line of an adjacency list and, times this, the nearest free line that ends at the node.
 pub const LIST_WEIGHT: u32 = 2_048;
+
+// A cell of `QUEUE` has the length to a line times this, and the line, from the last one down.
+pub const KEY_WEIGHT: u32 = 1_024;
 
 // The length to a line that is not reached: one past the greatest limit.
 pub const FAR: u32 = GREATEST_LEG_LENGTH + 1;
 
-// Added in the cell of a line's predecessor: the line is pending, still to be expanded.
-pub const PENDING_WEIGHT: u32 = 4_096;
-
-// In the cell of a line: it has several predecessors. Added in the cell of a node: another line is as near.
-pub const SEVERAL: u32 = 2_000;
+// In the cell of a line: it has several predecessors. Added to the line in the cell of a node: another line is as near.
+pub const SEVERAL: u32 = 1_025;
 
 // 1 + the line at place `i` of the list of reached lines, or 0 past its end.
 pub fn line_at(work: &[u32], i: usize) -> usize
@@ -33,10 +34,33 @@ pub fn line_at(work: &[u32], i: usize) -> usize
     wide(work[NEXT + i] / LIST_WEIGHT)
 }
 
-// The length to line `j` by way of line `l`, in 64 bits.
-pub fn by_way_of(work: &[u32], l: usize, j: usize) -> usize
-    requires { ⌜ (l < greatestLineCount) × (j < greatestLineCount) × (workLength ≤ length (now work)) ⌝ }
-    ensures { λ r. ⌜ r ≡ getD (now (work .entry)) (lengthsFrom + l) 0 + getD (now (work .entry)) (linePlace j + lineLength) 0 ⌝ }
+// The length found to line `l`.
+pub fn length_to(work: &[u32], l: usize) -> u32
+    requires { ⌜ (l < several) × (workLength ≤ length (now work)) ⌝ }
+    ensures { λ r. ⌜ r ≡ lengthTo (now (work .entry)) l ⌝ }
 {
-    wide(work[LENGTHS + l]) + wide(field(work, j, LENGTH))
+    work[LENGTHS + l] / NOTE_WEIGHT
+}
+
+// The key of line `l` in the queue, with the length `to` to it.
+pub fn key_of(to: u32, l: usize) -> u32
+    requires { ⌜ (to < noteLimit) × (l < greatestLineCount) ⌝ }
+    ensures { λ r. ⌜ r ≡ keyOf to l ⌝ }
+{
+    to * KEY_WEIGHT + (KEY_WEIGHT - 1 - l as u32)
+}
+
+// The line of a key.
+pub fn line_of(key: u32) -> usize
+    ensures { λ r. ⌜ r ≡ lineOf key ⌝ }
+{
+    wide(KEY_WEIGHT - 1 - key % KEY_WEIGHT)
+}
+
+// 1 + the predecessor of line `l`, `SEVERAL`, or 0.
+pub fn predecessor_at(work: &[u32], l: usize) -> u32
+    requires { ⌜ (l < greatestLineCount) × (workLength ≤ length (now work)) ⌝ }
+    ensures { λ r. ⌜ r ≡ predecessor (now (work .entry)) l ⌝ }
+{
+    work[LENGTHS + l] % NOTE_WEIGHT
 }

@@ -1,27 +1,34 @@
-// The list of the lines that a search has reached, in the order in which it reached them. Some of them are pending: still to be expanded.
+// The list of the lines that a search has reached, in the order in which it reached them, and the queue of those that it goes on from, the nearest first.
 use crate::cells::FAR;
 use crate::cells::LIST_WEIGHT;
-use crate::cells::PENDING_WEIGHT;
+use crate::cells::NOTE_WEIGHT;
 use crate::cells::line_at;
+use crate::nearest::nearer;
+use banned_turns::bans_from;
+use buffers::wide;
+use work_area::END;
+use work_area::HEADS;
 use work_area::LENGTHS;
 use work_area::NEXT;
-use work_area::PREDECESSORS;
+use work_area::QUEUE;
+use work_area::field;
 ghost use Rattle.work_area.specs.Area.{Held};
 ghost use Rattle.model.specs.Map.{greatestLineCount, Map};
+ghost use Rattle.model.specs.Reading.{greatestLegLength};
 ghost use Rattle.model.specs.Work.{workLength};
-ghost use Rattle.search.specs.Area.{far, several, Chained, Listing, lengthTo};
-ghost use Prim.Native.Nat.{_≤_, _<_};
+ghost use Rattle.search.specs.Area.{several, Chained, lengthTo, queued};
+ghost use mathlib.Core.Path.{_≡_};
+ghost use Prim.Native.Nat.{ℕ, _≤_, _<_};
 ghost use lib.ListN.{length};
-ghost use Rattle.search.specs.Steps.{Reset, Lowered, ResumesAfter, Passed, Sought};
+ghost use Rattle.search.specs.Steps.{Reset, Put, Sent, Inserted};
 
-// How many lines are on the list, and the place from which the search looks it through for a pending line once it has gone along it: past every place, or 0
-// once a line that was expanded is lowered again.
+// How many lines are on the list, and how many are in the queue, those too that the search has gone on from.
 pub struct ReachedLines {
     pub count: usize,
-    pub resume: usize,
+    pub end: usize,
 }
 
-// Resets what the last search found: no line is reached, and the list is empty.
+// Resets what the last search found: no line is reached, the list is empty, and no node has a nearest free line.
 pub fn reset(work: &mut [u32], lines: usize)
     requires { ⌜ ((m : Map) × Held (now work) lines m × Chained (now work) lines m) ⌝ }
     ensures { λ _. ⌜ ((m : Map) → Held (now (work .entry)) lines m → Chained (now (work .entry)) lines m
@@ -33,56 +40,49 @@ pub fn reset(work: &mut [u32], lines: usize)
         if x == 0 {
             return;
         }
-        work[LENGTHS + (x - 1)] = FAR;
+        let v = wide(field(work, x - 1, END));
+        work[HEADS + v] = work[HEADS + v] % LIST_WEIGHT;
+        work[LENGTHS + (x - 1)] = FAR * NOTE_WEIGHT;
         work[NEXT + i] = work[NEXT + i] % LIST_WEIGHT;
         i += 1;
     }
 }
 
-// The length to line `j` is lowered to `to`, with `note` for its predecessor. It is pending, and is put on the list of `count` lines unless it is there:
-// how many lines there are now.
-pub fn lower(work: &mut [u32], j: usize, note: u32, count: usize, to: u32) -> usize
-    requires { ⌜ (j < greatestLineCount) × (note < several) × (workLength ≤ length (now work)) × (count ≤ greatestLineCount) ⌝ }
-    requires { ⌜ (far ≤ lengthTo (now work) j → count < greatestLineCount) ⌝ }
-    ensures { λ r. ⌜ Lowered j note count to (now (work .entry)) (now (work .exit)) r ⌝ }
+// Line `j` is reached: the length to it is `to`, with `note` for its predecessor, and it is put on the list of `count` lines.
+pub fn put(work: &mut [u32], j: usize, note: u32, to: u32, count: usize)
+    requires { ⌜ (j < greatestLineCount) × (note ≤ several) × (to ≤ greatestLegLength) × (workLength ≤ length (now work)) × (count < greatestLineCount) ⌝ }
+    ensures { λ _. ⌜ Put j note to count (now (work .entry)) (now (work .exit)) ⌝ }
 {
-    let found = work[LENGTHS + j];
-    work[LENGTHS + j] = to;
-    work[PREDECESSORS + j] = PENDING_WEIGHT + note;
-    if found < FAR {
-        return count;
-    }
+    work[LENGTHS + j] = to * NOTE_WEIGHT + note;
     work[NEXT + count] = work[NEXT + count] % LIST_WEIGHT + LIST_WEIGHT * (j + 1) as u32;
-    count + 1
 }
 
-// The place, `resume` so far, from which the search looks for a pending line, once the length to line `j` is lowered.
-pub fn resume_after(work: &[u32], j: usize, resume: usize) -> usize
-    requires { ⌜ (j < greatestLineCount) × (workLength ≤ length (now work)) ⌝ }
-    ensures { λ r. ⌜ ResumesAfter j resume (now (work .entry)) r ⌝ }
+// Whether the search is to go on from line `j`, which is just reached, with the length `to`. From a line with banned turns always. Of the free lines that end at a node only
+// the nearest goes on, and that they are several is kept in the node's cell: so the others have nothing to do.
+pub fn sends(work: &mut [u32], lines: usize, j: usize, to: u32, limit: u32) -> bool
+    requires { ⌜ (j < lines) × (to ≡ lengthTo (now work) j) × ((m : Map) × Held (now work) lines m) ⌝ }
+    ensures { λ r. ⌜ ((m : Map) → Held (now (work .entry)) lines m → Sent m limit j (now (work .entry)) (now (work .exit)) r) ⌝ }
 {
-    if FAR <= work[LENGTHS + j] {
-        return resume;
+    if bans_from(work, lines, j) != 0 {
+        return true;
     }
-    if work[PREDECESSORS + j] < PENDING_WEIGHT {
-        return 0;
-    }
-    resume
+    let v = wide(field(work, j, END));
+    let cell = work[HEADS + v];
+    let x = nearer(work, cell / LIST_WEIGHT, j, to, limit);
+    work[HEADS + v] = cell % LIST_WEIGHT + LIST_WEIGHT * x;
+    x == (j + 1) as u32
 }
 
-// The place of the first pending line of the list; the count of its lines where there is none.
-pub fn first_pending(work: &[u32], lines: usize, list: ReachedLines) -> usize
-    requires { ⌜ (lines ≤ greatestLineCount) × (workLength ≤ length (now work)) × Listing (now work) lines (list .count) ⌝ }
-    requires { ⌜ Passed (list .resume) (list .count) (now work) ⌝ }
-    ensures { λ r. ⌜ Sought (list .count) (now (work .entry)) r ⌝ }
+// Puts a line into the queue that ends at `end`, by its length: before those that are farther. One that is not farther stands in it.
+pub fn insert(work: &mut [u32], end: usize, key: u32)
+    requires { ⌜ (end < greatestLineCount) × (workLength ≤ length (now work)) × ((place : ℕ) × (place < end) × (queued (now work) place ≤ key)) ⌝ }
+    ensures { λ _. ⌜ ((place : ℕ) → place < end → queued (now (work .entry)) place ≤ key
+        → Inserted place end key (now (work .entry)) (now (work .exit))) ⌝ }
 {
-    let mut i = list.resume;
-    while i < list.count {
-        let l = line_at(work, i) - 1;
-        if PENDING_WEIGHT <= work[PREDECESSORS + l] {
-            return i;
-        }
-        i += 1;
+    let mut i = end;
+    while key < work[QUEUE + i - 1] {
+        work[QUEUE + i] = work[QUEUE + i - 1];
+        i -= 1;
     }
-    list.count
+    work[QUEUE + i] = key;
 }

@@ -1,83 +1,119 @@
-// How a search expands a line: at each line that can follow it the length is lowered, or a tie is recorded.
-use crate::adjacency::first_leaving;
-use crate::adjacency::follows;
-use crate::adjacency::next_leaving;
-use crate::cells::PENDING_WEIGHT;
+// How a search takes a line into account at one line that can follow it: that is reached, or a tie is recorded there.
+use crate::cells::FAR;
+use crate::cells::NOTE_WEIGHT;
 use crate::cells::SEVERAL;
-use crate::cells::by_way_of;
-use crate::cells::line_at;
+use crate::cells::key_of;
+use crate::cells::length_to;
 use crate::list::ReachedLines;
-use crate::list::lower;
-use crate::list::resume_after;
-use banned_turns::bans_from;
+use crate::list::insert;
+use crate::list::put;
+use crate::list::sends;
+use banned_turns::in_chain;
 use buffers::wide;
-use work_area::END;
 use work_area::FRC;
+use work_area::LENGTH;
 use work_area::LENGTHS;
-use work_area::MAP_LINES;
-use work_area::PREDECESSORS;
 use work_area::field;
 ghost use mathlib.Core.Path.{_≡_};
-ghost use Rattle.work_area.specs.Area.{banChain, Held};
+ghost use Rattle.work_area.specs.Area.{Held};
+ghost use Rattle.model.specs.Lines.{lineAt};
 ghost use Rattle.model.specs.Map.{greatestLineCount, Map};
+ghost use Rattle.model.specs.Reading.{greatestLegLength};
 ghost use Rattle.model.specs.Work.{workLength};
-ghost use Rattle.search.specs.Area.{Chained, listed};
-ghost use Prim.Native.Nat.{_-_, _≤_, _<_};
+ghost use Rattle.search.specs.Area.{several, keyOf, queued};
+ghost use Prim.Native.Nat.{ℕ, _≤_, _<_};
 ghost use lib.ListN.{length};
-ghost use Rattle.search.specs.Steps.{Task, Underway, Noted, TieNoted, Relaxed, Calm, Ahead, Expanded, WentOn, Passed};
+ghost use Rattle.search.specs.Steps.{Task, Underway, Noted, TieNoted, Goes, Arrived, Relaxed};
 
-// `x` with line `l` noted.
-fn note(x: u32, l: usize) -> u32
-    requires { ⌜ l < greatestLineCount ⌝ }
-    ensures { λ r. ⌜ Noted x l r ⌝ }
+// A line that the search goes on from: the length to it, its banned turns, and what is noted at the lines that follow it. Where that is 0 the line has
+// nothing to do.
+pub struct Going {
+    pub line: usize,
+    pub length: u32,
+    pub chain: usize,
+    pub note: u32,
+}
+
+// `x` with `note` noted too.
+fn noted(x: u32, note: u32) -> u32
+    ensures { λ r. ⌜ Noted x note r ⌝ }
 {
-    let line = (l + 1) as u32;
     if x == 0 {
-        return line;
+        return note;
     }
-    if x == line {
-        return line;
+    if x == note {
+        return note;
     }
     SEVERAL
 }
 
-// Records line `l` as a predecessor of line `j`.
-fn record_tie(work: &mut [u32], l: usize, j: usize)
-    requires { ⌜ (l < greatestLineCount) × (j < greatestLineCount) × (workLength ≤ length (now work)) ⌝ }
-    ensures { λ _. ⌜ TieNoted l j (now (work .entry)) (now (work .exit)) ⌝ }
+// Records `note` for a predecessor of line `j`.
+fn record_tie(work: &mut [u32], j: usize, note: u32)
+    requires { ⌜ (j < greatestLineCount) × (note ≤ several) × (workLength ≤ length (now work)) ⌝ }
+    ensures { λ _. ⌜ TieNoted note j (now (work .entry)) (now (work .exit)) ⌝ }
 {
-    let x = work[PREDECESSORS + j];
-    let noted = note(x % PENDING_WEIGHT, l);
-    work[PREDECESSORS + j] = x / PENDING_WEIGHT * PENDING_WEIGHT + noted;
+    let x = work[LENGTHS + j];
+    let now = noted(x % NOTE_WEIGHT, note);
+    work[LENGTHS + j] = x / NOTE_WEIGHT * NOTE_WEIGHT + now;
 }
 
-// Takes line `l`, whose banned turns are `chain`, into account at line `j`, where that can follow it: the list now.
-fn relax(
+// Line `j` is reached: the list and the queue now. The queue has a line that is not farther.
+fn reach(
     work: &mut [u32],
     lines: usize,
-    l: usize,
     j: usize,
-    chain: usize,
+    note: u32,
+    to: u32,
+    list: ReachedLines,
+    limit: u32,
+) -> ReachedLines
+    requires { ⌜ (j < lines) × (note ≤ several) × (to ≤ greatestLegLength) × (list .count < lines) × (list .end ≤ list .count) ⌝ }
+    requires { ⌜ ((m : Map) × Held (now work) lines m) × ((place : ℕ) × (place < list .end) × (queued (now work) place ≤ keyOf to j)) ⌝ }
+    ensures { λ r. ⌜ ((m : Map) → Held (now (work .entry)) lines m → (place : ℕ) → place < list .end → queued (now (work .entry)) place ≤ keyOf to j
+        → Arrived m limit place j note to (list .count) (list .end) (now (work .entry)) (now (work .exit)) (r .count) (r .end)) ⌝ }
+{
+    put(work, j, note, to, list.count);
+    let count = list.count + 1;
+    if !sends(work, lines, j, to, limit) {
+        return ReachedLines {
+            count,
+            end: list.end,
+        };
+    }
+    insert(work, list.end, key_of(to, j));
+    ReachedLines {
+        count,
+        end: list.end + 1,
+    }
+}
+
+// Takes a line that the search goes on from into account at line `j`, which starts where it ends: the list and the queue now.
+pub fn relax(
+    work: &mut [u32],
+    lines: usize,
+    going: Going,
+    j: usize,
     list: ReachedLines,
     class: u32,
     limit: u32,
 ) -> ReachedLines
-    requires { ⌜ (l < lines) × (j < lines) ⌝ }
-    requires { ⌜ ((q : Task) × Underway q lines class limit (list .count) (now work) × (chain ≡ banChain (q .map .bans) l)) ⌝ }
-    ensures { λ r. ⌜ ((q : Task) → Underway q lines class limit (list .count) (now (work .entry)) → chain ≡ banChain (q .map .bans) l
-        → Relaxed q lines class limit l j (now (work .entry)) (now (work .exit)) (r .count)
-        × Calm lines (list .resume) (now (work .entry)) (now (work .exit)) (r .resume)) ⌝ }
+    requires { ⌜ j < lines ⌝ }
+    requires { ⌜ ((q : Task) × (place : ℕ) × Underway q lines class limit place (list .count) (list .end) (now work)
+        × Goes (q .map) lines place (list .end) (now work) going × (lineAt (q .map) j .start ≡ lineAt (q .map) (going .line) .end)) ⌝ }
+    ensures { λ r. ⌜ ((q : Task) → (place : ℕ) → Underway q lines class limit place (list .count) (list .end) (now (work .entry))
+        → Goes (q .map) lines place (list .end) (now (work .entry)) going → lineAt (q .map) j .start ≡ lineAt (q .map) (going .line) .end
+        → Relaxed q lines class limit place going j (now (work .entry)) (now (work .exit)) (r .count) (r .end)) ⌝ }
 {
-    if !follows(work, lines, l, j, chain) {
+    if in_chain(work, lines, going.chain, j) {
         return list;
     }
-    let length = by_way_of(work, l, j);
-    let found = wide(work[LENGTHS + j]);
-    if found < length {
-        return list;
-    }
-    if found == length {
-        record_tie(work, l, j);
+    let length = wide(going.length) + wide(field(work, j, LENGTH));
+    let found = length_to(work, j);
+    if found < FAR {
+        if wide(found) == length {
+            record_tie(work, j, going.note);
+            return list;
+        }
         return list;
     }
     if class < field(work, j, FRC) {
@@ -86,72 +122,5 @@ fn relax(
     if wide(limit) < length {
         return list;
     }
-    let resume = resume_after(work, j, list.resume);
-    let count = lower(work, j, (l + 1) as u32, list.count, length as u32);
-    ReachedLines { count, resume }
-}
-
-// The adjacency list to expand line `l` over: 1 + its first line, or 0 where there is none or where line `l` is not pending.
-fn ahead(work: &[u32], lines: usize, l: usize) -> usize
-    requires { ⌜ l < lines ⌝ }
-    requires { ⌜ ((m : Map) × Held (now work) lines m × Chained (now work) lines m) ⌝ }
-    ensures { λ r. ⌜ ((m : Map) → Held (now (work .entry)) lines m → Chained (now (work .entry)) lines m → Ahead m lines l (now (work .entry)) r) ⌝ }
-{
-    if work[PREDECESSORS + l] < PENDING_WEIGHT {
-        return 0;
-    }
-    first_leaving(work, lines, wide(field(work, l, END)))
-}
-
-// Takes line `l` into account at each line ahead of it, and then it is pending no longer: the list now.
-fn relax_all(
-    work: &mut [u32],
-    lines: usize,
-    l: usize,
-    list: ReachedLines,
-    class: u32,
-    limit: u32,
-) -> ReachedLines
-    requires { ⌜ l < lines ⌝ }
-    requires { ⌜ ((q : Task) × Underway q lines class limit (list .count) (now work)) ⌝ }
-    ensures { λ r. ⌜ ((q : Task) → Underway q lines class limit (list .count) (now (work .entry))
-        → Expanded q lines class limit l (list .resume) (now (work .entry)) (now (work .exit)) (r .count) (r .resume)) ⌝ }
-{
-    let chain = bans_from(work, lines, l);
-    let mut at = ahead(work, lines, l);
-    let mut reached = list;
-    while 0 < at {
-        reached = relax(work, lines, l, at - 1, chain, reached, class, limit);
-        at = next_leaving(work, lines, at);
-    }
-    work[PREDECESSORS + l] = work[PREDECESSORS + l] % PENDING_WEIGHT;
-    reached
-}
-
-// Does that for each line of the list from place `from` on, those too that come to it meanwhile.
-pub fn relax_from(
-    work: &mut [u32],
-    lines: usize,
-    from: usize,
-    count: usize,
-    class: u32,
-    limit: u32,
-) -> ReachedLines
-    requires { ⌜ (from < count) × Passed from count (now work) ⌝ }
-    requires { ⌜ ((q : Task) × Underway q lines class limit count (now work)) ⌝ }
-    ensures { λ r. ⌜ ((q : Task) → Underway q lines class limit count (now (work .entry))
-        → WentOn q lines class limit (listed (now (work .entry)) from - 1) (now (work .entry)) (now (work .exit)) (r .count)
-        × Passed (r .resume) (r .count) (now (work .exit))) ⌝ }
-{
-    let mut i = from;
-    let mut reached = ReachedLines {
-        count,
-        resume: MAP_LINES,
-    };
-    while i < reached.count {
-        let l = line_at(work, i) - 1;
-        reached = relax_all(work, lines, l, reached, class, limit);
-        i += 1;
-    }
-    reached
+    reach(work, lines, j, going.note, length as u32, list, limit)
 }

@@ -1,14 +1,14 @@
 -- What stays known when other parts of the work area change. For the callers of the search.
-use Rattle.work_area.specs.Area.{lengthsFrom, predecessorsFrom, headsFrom, nextFrom, nearestFrom, bansFrom, Held}
+use Rattle.work_area.specs.Area.{lengthsFrom, headsFrom, nearestFrom, bansFrom, Held}
 use Rattle.model.specs.Map.{Map}
-use Rattle.search.specs.Area.{listWeight, Chained, lengthTo, Searched}
-use Prim.Native.Nat.{ℕ, _+_, _/_, _%_, _≤_, _<_}
-use mathlib.Core.Path.{_≡_, sym, _∙_, ap}
+use Rattle.search.specs.Area.{noteWeight, Chained, lengthTo, Searched}
+use Prim.Native.Nat.{ℕ, _+_, _/_, _≤_, _<_}
+use mathlib.Core.Path.{_≡_, sym, ap}
 use mathlib.Core.List.{List}
 use native.Mathlib.Omega.{arith}
 use Rattle.buffers.specs.Kept.{Kept}
 use Rattle.work_area.proofs.Holding.{held-kept, few}
-use Rattle.search.proofs.Reached.{listing-same}
+use Rattle.search.proofs.Frame.{chained-kept}
 use Rattle.ways.proofs.Ties.{before-kept}
 
 module _ {lo hi n : ℕ} {w v : List ℕ} {m : Map} where
@@ -17,27 +17,15 @@ module _ {lo hi n : ℕ} {w v : List ℕ} {m : Map} where
   searched-kept low k s =
       let h = s .held in
       let n≤ = few h in
-      let e : (l : ℕ) → l < n → lengthTo w l ≡ lengthTo v l = λ l l<. sym (k .below (lengthsFrom + l) (omega arith)) in
+      let e : (l : ℕ) → l < n → lengthTo w l ≡ lengthTo v l = λ l l<. ap (λ (x : ℕ). x / noteWeight) (sym (k .below (lengthsFrom + l) (omega arith))) in
       record {
         held = held-kept (omega arith) k h;
         inside = s .inside;
         small = s .small;
         found = λ l l<. rw (e l l<) at (s .found l l<);
         tied = λ j j< near.
-            rw (k .below (predecessorsFrom + j) (omega arith)) (before-kept (omega arith) (h .formed .few-lines) k (s .tied j j< (omega (arith, e j j<))));
+            rw (k .below (lengthsFrom + j) (omega arith)) (before-kept (omega arith) (h .formed .few-lines) k (s .tied j j< (omega (arith, e j j<))));
       }
 
   pub chained-above : nearestFrom ≤ lo → Kept lo hi w v → Held w n m → Chained w n m → Chained v n m
-  chained-above low k h ch =
-      let f = h .formed in
-      let n≤ = few h in
-      record {
-        heads = λ a a<. k .below (headsFrom + a) (omega arith) ∙ ch .heads a a<;
-        nexts = λ l l<. ap (λ (x : ℕ). x % listWeight) (k .below (nextFrom + l) (omega arith)) ∙ ch .nexts l l<;
-        listing = (
-          ch .listing .0,
-          listing-same (λ l l<. k .below (lengthsFrom + l) (omega arith))
-              (λ i i<. ap (λ (x : ℕ). x / listWeight) (k .below (nextFrom + i) (omega arith)))
-              (ch .listing .1),
-        );
-      }
+  chained-above low k h ch = chained-kept low h k ch

@@ -1,5 +1,5 @@
 -- The predecessors of each line: where the lengths are kept, so are the ties.
-use Rattle.work_area.specs.Area.{lengthsFrom, predecessorsFrom}
+use Rattle.work_area.specs.Area.{lengthsFrom, queueFrom}
 use Rattle.model.specs.Map.{greatestLineCount, Map}
 use Rattle.search.specs.Area.{Tie, Predecessors}
 use Prim.Native.Nat.{ℕ, _+_, _≤_}
@@ -10,7 +10,7 @@ use Rattle.buffers.specs.Kept.{Kept}
 use Rattle.search.proofs.Follows.{known}
 use Rattle.buffers.proofs.Kept.{kept-sym}
 
-tie-kept : {m : Map} {lo hi : ℕ} {w v : List ℕ} {l j : ℕ} → predecessorsFrom ≤ lo → length (m .lines) ≤ greatestLineCount → Kept lo hi w v → Tie m w l j → Tie m v l j
+tie-kept : {m : Map} {lo hi : ℕ} {w v : List ℕ} {l j : ℕ} → queueFrom ≤ lo → length (m .lines) ≤ greatestLineCount → Kept lo hi w v → Tie m w l j → Tie m v l j
 tie-kept {l = l} {j = j} low few k t =
     let from = t .known in
     let to = known (t .follows) in
@@ -20,7 +20,7 @@ tie-kept {l = l} {j = j} low few k t =
       equal = omega (arith, t .equal, k .below (lengthsFrom + l) (omega arith), k .below (lengthsFrom + j) (omega arith));
     }
 
-pub before-kept : {m : Map} {lo hi i j x : ℕ} {w v : List ℕ} → predecessorsFrom ≤ lo → length (m .lines) ≤ greatestLineCount → Kept lo hi w v → Predecessors m w i j x → Predecessors m v i j x
+pub before-kept : {m : Map} {lo hi i j x : ℕ} {w v : List ℕ} → queueFrom ≤ lo → length (m .lines) ≤ greatestLineCount → Kept lo hi w v → Predecessors m w i j x → Predecessors m v i j x
 before-kept low few k a =
     record {
       none = λ e l l< t. a .none e l l< (tie-kept low few (kept-sym k) t);

@@ -1,8 +1,9 @@
 // What a search has found: the ways of least length to a line or to a node.
 use buffers::wide;
+use search::cells::KEY_WEIGHT;
 use search::cells::SEVERAL;
-use work_area::LENGTHS;
-use work_area::PREDECESSORS;
+use search::cells::length_to;
+use search::cells::predecessor_at;
 ghost use Rattle.work_area.specs.Area.{Held};
 ghost use Rattle.model.specs.Map.{greatestLineCount, Map};
 ghost use Rattle.model.specs.Work.{workLength};
@@ -30,14 +31,14 @@ pub fn to_line(work: &[u32], lines: usize, first: usize, last: usize, limit: u32
     ensures { λ r. ⌜ ((m : Map) → (c : ℕ) → Searched m lines c first limit (now (work .entry))
         → Told m lines c first limit (line last) (now (work .entry)) r) ⌝ }
 {
-    let length = work[LENGTHS + last];
+    let length = length_to(work, last);
     if limit < length {
         return Ways::Nothing;
     }
     let mut at = last;
     let mut count: usize = 1;
     while at != first {
-        let x = work[PREDECESSORS + at];
+        let x = predecessor_at(work, at);
         if SEVERAL <= x {
             return Ways::Several(length);
         }
@@ -56,9 +57,9 @@ pub fn to_node(work: &[u32], lines: usize, first: usize, x: u32, limit: u32) -> 
     if x == 0 {
         return Ways::Nothing;
     }
-    let nearest = wide((x - 1) % SEVERAL);
+    let nearest = wide((x - 1) % KEY_WEIGHT);
     if SEVERAL <= x {
-        return Ways::Several(work[LENGTHS + nearest]);
+        return Ways::Several(length_to(work, nearest));
     }
     to_line(work, lines, first, nearest, limit)
 }
@@ -68,7 +69,7 @@ fn predecessor_of(work: &[u32], l: usize) -> usize
     requires { ⌜ (l < greatestLineCount) × (workLength ≤ length (now work)) ⌝ }
     ensures { λ r. ⌜ r ≡ predecessor (now (work .entry)) l - 1 ⌝ }
 {
-    let x = wide(work[PREDECESSORS + l]);
+    let x = wide(predecessor_at(work, l));
     if x == 0 {
         return 0;
     }

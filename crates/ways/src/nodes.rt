@@ -1,48 +1,22 @@
 // After a search: of the lines that end at a node, the nearest. Only the lines that are reached are looked at.
 use buffers::fill;
 use buffers::wide;
-use search::cells::SEVERAL;
+use search::cells::length_to;
 use search::cells::line_at;
+use search::nearest::nearer;
 use work_area::END;
-use work_area::LENGTHS;
 use work_area::NEAREST;
 use work_area::NODES;
 use work_area::field;
 ghost use Rattle.work_area.specs.Area.{Held};
-ghost use Rattle.model.specs.Map.{greatestLineCount, greatestNodeCount, Map};
+ghost use Rattle.model.specs.Map.{greatestNodeCount, Map};
 ghost use Rattle.model.specs.Work.{workLength};
 ghost use Rattle.model.specs.Reading.{greatestLegLength};
 ghost use Rattle.search.specs.Area.{Chained, Among, Nearest, NearestLine, listed, nearestLine};
 ghost use mathlib.Core.Path.{_≡_};
 ghost use Prim.Native.Nat.{ℕ, _+_, _≤_, _<_};
 ghost use lib.ListN.{length};
-ghost use Rattle.model.specs.Lines.{lineAt};
 ghost use Rattle.ways.specs.Told.{NearestPut};
-
-// A node's cell `x` updated for line `l`, which ends at the node and is next on the list.
-fn nearer(work: &[u32], x: u32, l: usize, limit: u32) -> u32
-    requires { ⌜ (l < greatestLineCount) × (workLength ≤ length (now work)) ⌝ }
-    ensures { λ r. ⌜ ((m : Map) → (lines i v : ℕ) → lineAt m l .end ≡ v → l < lines → listed (now (work .entry)) i ≡ l + 1
-        → (Among (now (work .entry)) lines i l → ⊥) → Nearest m limit (now (work .entry)) (Among (now (work .entry)) lines i) v x
-        → Nearest m limit (now (work .entry)) (Among (now (work .entry)) lines (i + 1)) v r) ⌝ }
-{
-    let length = work[LENGTHS + l];
-    if limit < length {
-        return x;
-    }
-    if x == 0 {
-        return (l + 1) as u32;
-    }
-    let other = (x - 1) % SEVERAL;
-    let best = work[LENGTHS + wide(other)];
-    if best < length {
-        return x;
-    }
-    if length < best {
-        return (l + 1) as u32;
-    }
-    other + SEVERAL + 1
-}
 
 // The cell `x` of node `v` updated for line `l`, which is next on the list.
 fn nearer_to(work: &[u32], lines: usize, x: u32, l: usize, v: usize, limit: u32) -> u32
@@ -55,7 +29,8 @@ fn nearer_to(work: &[u32], lines: usize, x: u32, l: usize, v: usize, limit: u32)
     if wide(field(work, l, END)) != v {
         return x;
     }
-    nearer(work, x, l, limit)
+    let to = length_to(work, l);
+    nearer(work, x, l, to, limit)
 }
 
 // The nearest of the lines that end at node `v` within the limit, and whether another is as near: as the cell of a node has it.
@@ -93,7 +68,8 @@ pub fn nearest_lines(work: &mut [u32], lines: usize, limit: u32)
         let l = at - 1;
         let v = wide(field(work, l, END));
         let x = work[NEAREST + v];
-        work[NEAREST + v] = nearer(work, x, l, limit);
+        let to = length_to(work, l);
+        work[NEAREST + v] = nearer(work, x, l, to, limit);
         i += 1;
     }
 }

@@ -55,19 +55,19 @@ bearingBack = 6
 
 -- ---- behind the map: the cells of searches
 
--- For each line the length found to it and its predecessor; for each node the first line of its adjacency list, and for each line the next of
--- that list; for each node the nearest line that ends there.
+-- For each line the length found to it and its predecessor; the lines that a search goes on from; for each node the first line of its adjacency
+-- list, and for each line the next of that list; for each node the nearest line that ends there.
 abbrev pub searchFrom : ℕ
 searchFrom = linesFrom + lineSize * greatestLineCount
 
 abbrev pub lengthsFrom : ℕ
 lengthsFrom = searchFrom
 
-abbrev pub predecessorsFrom : ℕ
-predecessorsFrom = lengthsFrom + greatestLineCount
+abbrev pub queueFrom : ℕ
+queueFrom = lengthsFrom + greatestLineCount
 
 abbrev pub headsFrom : ℕ
-headsFrom = predecessorsFrom + greatestLineCount
+headsFrom = queueFrom + greatestLineCount
 
 abbrev pub nextFrom : ℕ
 nextFrom = headsFrom + greatestNodeCount

@@ -44,10 +44,11 @@ pub const BEARING_BACK: usize = 6;
 // Behind the map. A number for each line: the length found to it, and its predecessor.
 pub const LENGTHS: usize = LINES + LINE_NUMBERS * MAP_LINES;
 
-pub const PREDECESSORS: usize = LENGTHS + MAP_LINES;
+// The lines that a search goes on from, the nearest first.
+pub const QUEUE: usize = LENGTHS + MAP_LINES;
 
 // The adjacency lists: 1 + the last such line for each node, 1 + the next for each line, or 0.
-pub const HEADS: usize = PREDECESSORS + MAP_LINES;
+pub const HEADS: usize = QUEUE + MAP_LINES;
 
 pub const NEXT: usize = HEADS + NODES;
 

@@ -1,90 +1,94 @@
--- `search` meets its contract: it goes on until no line is pending; with each turn the sum of twice the lengths and 1 for each pending line falls.
+-- `search` meets its contract: place by place of the queue, until none is left.
+use Prim.Native.Nat.{_-_}
 use mathlib.Core.Path.{_∙_}
-use Rattle.search.specs.Steps.{Task, task, Underway, weight, Stepped, Sought, Based}
-use Rattle.buffers.proofs.Kept.{kept-then}
+use Rattle.search.specs.Steps.{Task, task, Underway, Based}
+use Rattle.buffers.proofs.Kept.{kept-then, kept-within}
 use Rattle.work_area.proofs.Holding.{few}
-use Rattle.search.proofs.Counting.{stepped-none, stepped-then}
+use Rattle.search.proofs.Reached.{count-le}
+use Rattle.search.proofs.Passing.{Searching, searching-start, searching-step}
 use Rattle.search.proofs.Lengths.{settled, tied}
 use native.Mathlib.Omega.{arith}
 use borrow.Author.Needs.{needs}
 use Rattle.search.proofs.search.Statement.{statement}
 use Rattle.search.proofs.search.Tie as tie
+use Rattle.search.proofs.search.Reads as reads
+use Rattle.search.proofs.search.Lts as lts
+use Rattle.search.proofs.begin.Reads as begin-reads
+use Rattle.search.proofs.expand.expand.Reads as expand-reads
 
 abbrev Inv-loop : tie.InvT-loop
-Inv-loop work₀ lines first class limit count₀ place₀ work count place =
-    Sought count work place × ((q : Task) → Underway q lines class limit count₀ work₀ → Stepped q lines class limit work₀ work count)
+Inv-loop work₀ lines first class limit list₀ place₀ work list place =
+    (q : Task) → Underway q lines class limit 0 (list₀ .count) (list₀ .end) work₀ →
+    Searching q lines class limit work₀ work place (list .count) (list .end)
 
 abbrev μ-loop : tie.MeasureT-loop
-μ-loop work₀ lines first class limit count₀ place₀ work count place = weight work lines
+μ-loop work₀ lines first class limit list₀ place₀ work list place = lines - place
 
 -- The search is under way at the start of each turn.
-state : (c : tie.In-loop Inv-loop μ-loop) →
-    let a = c .before .before .before .before .before .before .before .args in
-    let k = c .before .loop in
-    (q : Task) × Underway q (a .lines) (a .class) (a .limit) (k .count) (k .work)
+state : (c : tie.Then1 Inv-loop μ-loop) →
+    let a = c .before .before .before .before .before .before .before .before .args in
+    let k = c .before .before .loop in
+    (q : Task) × Underway q (a .lines) (a .class) (a .limit) (k .place) (k .list .count) (k .list .end) (k .work)
 state c =
-    let p = c .before .before .before .before .before .before .before .pre in
-    let q = task (p .0) (c .before .before .before .before .before .before .before .args .first) in
-    (q, c .before .loop .inv .1 q (c .before .before .before .before .begin .ensures (p .0) (p .1) (p .2) .underway) .underway)
+    let p = c .before .before .before .before .before .before .before .before .pre in
+    let q = task (p .0) (c .before .before .before .before .before .before .before .before .args .first) in
+    (q, c .before .before .loop .inv q (c .before .before .before .before .before .begin .ensures (p .0) (p .1) (p .2) .underway) .underway)
 
 begin-requires : tie.Need-begin-requires Inv-loop μ-loop
 begin-requires c κs = search needs
 
 loop-holds : tie.Need-loop-holds Inv-loop μ-loop
 loop-holds c =
-    let p = c .before .before .before .before .before .pre in
-    let b = c .before .before .begin .ensures (p .0) (p .1) (p .2) in
-    (record { waits = λ z. b .waits 0 z; passed = λ i i< c<. absurd (omega arith) }, λ q g. stepped-none g)
+    λ q g. searching-start g
 
-relax-from-requires : tie.Need-relax-from-requires Inv-loop μ-loop
-relax-from-requires c κs = ((c .before .loop-test .taken, c .before .before .loop .inv .0 .passed), state (c .before))
+expand-requires : tie.Need-expand-requires Inv-loop μ-loop
+expand-requires c κs =
+    (c .before .if1 .taken, state (c .before))
 
-first-pending-requires : tie.Need-first-pending-requires Inv-loop μ-loop
-first-pending-requires c κs =
-    let s = state (c .before .before .before .before .before) in
-    let r = c .before .before .before .relax-from .ensures (s .0) (s .1) in
-    let g = r .0 .step .underway in
-    ((few (g .held), g .held .full, g .listing), r .1)
+add-place : tie.Need-add-place Inv-loop μ-loop
+add-place c =
+    let g = state (c .before .before .before .before) .1 in
+    let t = c .before .before .before .before .if1 .taken in
+    omega (arith, g .room, count-le (g .listing), few (g .held))
 
 loop-less : tie.Need-loop-less Inv-loop μ-loop
 loop-less c =
-    let s = state (c .before .before .before .before .before .before) in
-    c .before .before .before .before .relax-from .ensures (s .0) (s .1) .0 .less (c .before .before .before .before .before .before .before .loop .inv .0 .waits (c .before .before .before .before .before .before .loop-test .taken))
+    let g = state (c .before .before .before .before) .1 in
+    let t = c .before .before .before .before .if1 .taken in
+    omega (arith, g .room, count-le (g .listing), few (g .held))
 
 loop-again : tie.Need-loop-again Inv-loop μ-loop
-loop-again c = (
-  c .first-pending .ensures,
-  λ q g.
-      let s = c .before .before .before .before .before .before .before .loop .inv .1 q g in
-      stepped-then s (c .before .before .before .before .relax-from .ensures q (s .underway) .0 .step),
-)
+loop-again c =
+    λ q g.
+    let s = c .before .before .before .before .before .before .loop .inv q g in
+    searching-step s (c .before .before .expand .ensures q (s .underway))
 
 same-length : tie.Need-same-length Inv-loop μ-loop
 same-length c =
-    let p = c .before .before .before .before .before .before .before .pre in
-    let b = c .before .before .before .before .begin .ensures (p .0) (p .1) (p .2) in
-    c .before .loop .inv .1 _ (b .underway) .kept .same ∙ b .kept .same
+    let p = c .before .before .before .before .before .before .before .before .pre in
+    let b = c .before .before .before .before .before .begin .ensures (p .0) (p .1) (p .2) in
+    c .before .before .loop .inv _ (b .underway) .kept .same ∙ b .kept .same
 
 returns : tie.Need-returns Inv-loop μ-loop
 returns c =
     λ m h ch.
-    let a = c .before .before .before .before .before .before .before .args in
-    let inside = c .before .before .before .before .before .before .before .pre .3 in
-    let b = c .before .before .before .before .begin .ensures m h ch in
-    let l = c .before .loop .inv in
-    let s = l .1 _ (b .underway) in
+    let inside = c .before .before .before .before .before .before .before .before .pre .3 in
+    let b = c .before .before .before .before .before .begin .ensures m h ch in
+    let s = c .before .before .loop .inv _ (b .underway) in
     let g = s .underway in
-    let based : Based m (a .class) (a .first) (a .limit) (c .before .loop .work) = λ ok near. omega (arith, b .based ok near, s .fell _ inside) in
+    let small = g .small in
+    let based : Based m (c .before .before .before .before .before .before .before .before .args .class) (c .before .before .before .before .before .before .before .before .args .first) (c .before .before .before .before .before .before .before .before .args .limit) (c .before .before .loop .work) =
+    λ ok near. let z = b .based ok near in omega (arith, s .same _ inside (omega arith)) in
     record {
       searched = record {
         held = g .held;
         inside = inside;
-        small = g .small;
-        found = settled g based (l .0) (c .loop-test .left);
-        tied = tied g based (l .0) (c .loop-test .left);
+        small = small;
+        found = settled g based (c .if1 .left);
+        tied = tied g based (c .if1 .left);
       };
       chained = g .chained;
-      kept = kept-then (b .kept) (s .kept);
+      kept = kept-then (kept-within (omega arith) (omega arith) (b .kept)) (s .kept);
     }
 
 pub search-spec : {M : Type 1} → statement M
@@ -95,8 +99,8 @@ search-spec =
     μ-loop
     begin-requires
     loop-holds
-    relax-from-requires
-    first-pending-requires
+    expand-requires
+    add-place
     loop-less
     loop-again
     same-length

@@ -14,20 +14,15 @@ sub-wide c = search needs
 wide-requires : tie.Need-wide-requires
 wide-requires c κs = search needs
 
-add-t10 : tie.Need-add-t10
-add-t10 c = let e = c .before .wide .ensures in omega arith
-
-mul-t11 : tie.Need-mul-t11
-mul-t11 c = let e = c .before .wide .ensures in omega arith
-
-shared-slice-read-t13 : tie.Need-shared-slice-read-t13
-shared-slice-read-t13 c = let e = c .before .before .wide .ensures in let p = c .before .before .before .before .before .pre in omega (arith, p .3 .held .full)
+length-to-requires : tie.Need-length-to-requires
+length-to-requires c κs =
+    let e = c .before .wide .ensures in let p = c .before .before .before .before .pre in (omega arith, p .3 .held .full)
 
 returns-2 : tie.Need-returns-2
 returns-2 c =
     λ m k v s n.
     let o = c .before .before .before .if1 .left in
-    rw (c .before .before .wide .ensures .0) (node-several s n (omega arith) (c .before .if2 .taken))
+    rw (c .length-to .ensures, c .before .before .wide .ensures .0) (node-several s n (omega arith) (c .before .if2 .taken))
 
 to-line-requires : tie.Need-to-line-requires
 to-line-requires c κs =
@@ -45,4 +40,4 @@ returns-3 c =
 pub to-node-spec : {M : Type 1} → statement M
 to-node-spec =
     tie.close
-    (tie.spec returns sub-wide wide-requires add-t10 mul-t11 shared-slice-read-t13 returns-2 to-line-requires returns-3)
+    (tie.spec returns sub-wide wide-requires length-to-requires returns-2 to-line-requires returns-3)

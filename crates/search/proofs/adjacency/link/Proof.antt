@@ -85,11 +85,14 @@ mul-work-3 c = let k = turn (c .before) in omega arith
 slice-write-work-2 : tie.Need-slice-write-work-2 Inv-loop μ-loop
 slice-write-work-2 c = let k = turn (c .before) in simp length-set (omega arith)
 
+mul-work-4 : tie.Need-mul-work-4 Inv-loop μ-loop
+mul-work-4 c = search needs
+
 add-work-5 : tie.Need-add-work-5 Inv-loop μ-loop
 add-work-5 c = let k = turn (c .before) in omega arith
 
-mul-work-4 : tie.Need-mul-work-4 Inv-loop μ-loop
-mul-work-4 c = let k = turn (c .before) in omega arith
+mul-work-5 : tie.Need-mul-work-5 Inv-loop μ-loop
+mul-work-5 c = let k = turn (c .before) in omega arith
 
 slice-write-work-3 : tie.Need-slice-write-work-3 Inv-loop μ-loop
 slice-write-work-3 c = let k = turn (c .before) in simp length-set (omega arith)
@@ -116,7 +119,7 @@ returns c =
     let k = c .before .before .before .before .fill .ensures .kept in
     let e : _≡_ {A = ℕ} (c .before .loop .i) (c .before .before .before .before .before .before .before .args .lines) = omega arith in
     let s = rw e at (c .before .loop .inv .2 m (held-kept (omega arith) k h)) in
-    record { chained = linked s .chained; kept = kept-then (kept-within (omega arith) (omega arith) k) (s .kept) }
+    record { chained = linked (few h) s .chained; kept = kept-then (kept-within (omega arith) (omega arith) k) (s .kept) }
 
 pub link-spec : {M : Type 1} → statement M
 link-spec =
@@ -139,8 +142,9 @@ link-spec =
     add-work-4
     mul-work-3
     slice-write-work-2
-    add-work-5
     mul-work-4
+    add-work-5
+    mul-work-5
     slice-write-work-3
     add-i
     loop-less

@@ -1,14 +1,14 @@
 -- `reset` meets its contract: after `i` turns the first `i` places of the list are gone through.
 use Rattle.work_area.specs.Area.{Held}
-use Rattle.model.specs.Map.{greatestLineCount, Map}
+use Rattle.model.specs.Map.{greatestLineCount, greatestNodeCount, Map}
 use Rattle.model.specs.Work.{workLength}
-use Rattle.search.specs.Area.{Listing}
+use Rattle.search.specs.Area.{Chained}
 use lib.ListN.{length, length-set}
-use Prim.Native.Nat.{ℕ, _≤_, _<_, _-_}
-use mathlib.Core.Path.{_≡_, refl}
+use Prim.Native.Nat.{_≤_, _<_, _-_}
+use mathlib.Core.Path.{_≡_, refl, _∙_}
 use Rattle.search.proofs.Reached.{count-le}
 use Rattle.work_area.proofs.Holding.{few}
-use Rattle.search.proofs.Resetting.{Resetting, resetting-start, resetting-step, listed-le, at-end, reset-done}
+use Rattle.search.proofs.Resetting.{Resetting, resetting-start, resetting-step, listed-le, at-end, ends-in, reset-done}
 use native.Mathlib.Omega.{arith}
 use borrow.Author.Needs.{needs}
 use Rattle.search.proofs.list.reset.Statement.{statement}
@@ -17,29 +17,52 @@ use Rattle.search.proofs.list.reset.Tie as tie
 abbrev Inv-loop : tie.InvT-loop
 Inv-loop work₀ lines i₀ work i =
     (i ≤ lines) × (length work ≡ length work₀) ×
-    ((m : Map) → Held work₀ lines m → (count : ℕ) → Listing work₀ lines count → Resetting lines count i work₀ work)
+    ((m : Map) → Held work₀ lines m → (ch : Chained work₀ lines m) → Resetting m lines (ch .listing .0) i work₀ work)
 
 abbrev μ-loop : tie.MeasureT-loop
 μ-loop work₀ lines i₀ work i = lines - i
 
--- What is known once the place is read.
-known : (c : tie.Else1 Inv-loop μ-loop) → (workLength ≤ length (c .before .before .before .before .loop .work)) × (c .before .before .before .before .loop .i < greatestLineCount) × (c .before .line-at .result ≤ greatestLineCount) × (0 < c .before .line-at .result)
+-- What is known at the start of each turn, once the place is read, and once the node is.
+known : (c : tie.In-loop Inv-loop μ-loop) → let k = c .before .loop in (workLength ≤ length (k .work)) × (k .i < greatestLineCount)
 known c =
-    let p = c .before .before .before .before .before .before .pre in
-    let l = c .before .before .before .before .loop .inv in
-    let h = p .1 in
+    let h = c .before .before .before .pre .1 in
+    let l = c .before .loop .inv in
     let n≤ = few h in
-    let t = c .before .before .before .loop-test .taken in
+    let t = c .loop-test .taken in
     let z = l .1 in
+    (omega arith, omega arith)
+
+there : (c : tie.Else1 Inv-loop μ-loop) →
+    let k = c .before .before .before .before .loop in
+    (workLength ≤ length (k .work)) × (k .i < greatestLineCount) × (0 < c .before .line-at .result) × (c .before .line-at .result ≤ greatestLineCount)
+there c =
+    let k = known (c .before .before .before) in
+    let p = c .before .before .before .before .before .before .pre in
     let e = c .before .line-at .ensures in
-    let s = p .2 .listing in
-    (omega arith, omega arith, omega (arith, listed-le h (s .1) t (l .2 (p .0) h (s .0) (s .1))), let d = c .if1 .left in omega arith)
+    let d = c .if1 .left in
+    let s = c .before .before .before .before .loop .inv .2 (p .0) (p .1) (p .2) in
+    let le = listed-le (p .1) (p .2 .listing .1) (c .before .before .before .loop-test .taken) s in
+    (k .0, k .1, omega arith, omega (arith, le, few (p .1)))
+
+turn : (c : tie.After-wide Inv-loop μ-loop) →
+    let k = c .before .before .before .before .before .before .before .loop in
+    let x = c .before .before .before .before .line-at .result in
+    (workLength ≤ length (k .work)) × (k .i < greatestLineCount) × (0 < x) × (x ≤ greatestLineCount) × (c .wide .result < greatestNodeCount)
+turn c =
+    let k = there (c .before .before .before) in
+    let back = c .before .before .before .before in
+    let p = back .before .before .before .before .before .pre in
+    let e = back .line-at .ensures in
+    let s = back .before .before .before .loop .inv .2 (p .0) (p .1) (p .2) in
+    let at = c .wide .ensures .0 ∙ c .before .field .ensures in
+    let small = ends-in (p .1) (p .2 .listing .1) (back .before .before .loop-test .taken) s (back .line-at .result - 1) _ (omega (arith, k .2)) at in
+    (k .0, k .1, k .2, k .3, small)
 
 loop-holds : tie.Need-loop-holds Inv-loop μ-loop
-loop-holds c = (search needs, refl, λ m h count s. resetting-start s)
+loop-holds c = (search needs, refl, λ m h ch. resetting-start ch)
 
 line-at-requires : tie.Need-line-at-requires Inv-loop μ-loop
-line-at-requires c κs = let p = c .before .before .before .before .pre in let l = c .before .before .loop .inv in let h = p .1 in let n≤ = few h in let t = c .before .loop-test .taken in let z = l .1 in (omega arith, omega arith)
+line-at-requires c κs = let k = known (c .before) in (k .1, k .0)
 
 same-length : tie.Need-same-length Inv-loop μ-loop
 same-length c = search needs
@@ -47,40 +70,70 @@ same-length c = search needs
 returns : tie.Need-returns Inv-loop μ-loop
 returns c =
     λ m h ch.
-    let k = c .before .before .before .before .loop .inv .2 m h (ch .listing .0) (ch .listing .1) in
+    let k = c .before .before .before .before .loop .inv .2 m h ch in
     let e = c .before .line-at .ensures in
     let t = c .if1 .taken in
     reset-done h ch (at-end h (ch .listing .1) (c .before .before .before .loop-test .taken) k (omega arith)) k
 
-sub-work : tie.Need-sub-work Inv-loop μ-loop
-sub-work c = search needs
+sub-field : tie.Need-sub-field Inv-loop μ-loop
+sub-field c = search needs
+
+field-requires : tie.Need-field-requires Inv-loop μ-loop
+field-requires c κs = let k = there (c .before) in (omega arith, search needs, k .0)
+
+wide-requires : tie.Need-wide-requires Inv-loop μ-loop
+wide-requires c κs = search needs
 
 add-work : tie.Need-add-work Inv-loop μ-loop
-add-work c = let k = known c in omega arith
+add-work c = let k = turn c in omega arith
 
 mul-work : tie.Need-mul-work Inv-loop μ-loop
-mul-work c = let k = known c in omega arith
-
-slice-write-work : tie.Need-slice-write-work Inv-loop μ-loop
-slice-write-work c = let k = known c in omega arith
-
-add-work-2 : tie.Need-add-work-2 Inv-loop μ-loop
-add-work-2 c = let k = known c in omega arith
-
-mul-work-2 : tie.Need-mul-work-2 Inv-loop μ-loop
-mul-work-2 c = let k = known c in omega arith
+mul-work c = let k = turn c in omega arith
 
 slice-read-work : tie.Need-slice-read-work Inv-loop μ-loop
-slice-read-work c = let k = known (c .before) in simp length-set (omega arith)
+slice-read-work c = let k = turn (c .before) in omega arith
 
-add-work-3 : tie.Need-add-work-3 Inv-loop μ-loop
-add-work-3 c = let k = known (c .before) in omega arith
+add-work-2 : tie.Need-add-work-2 Inv-loop μ-loop
+add-work-2 c = let k = turn (c .before) in omega arith
+
+mul-work-2 : tie.Need-mul-work-2 Inv-loop μ-loop
+mul-work-2 c = let k = turn (c .before) in omega arith
+
+slice-write-work : tie.Need-slice-write-work Inv-loop μ-loop
+slice-write-work c = let k = turn (c .before) in omega arith
 
 mul-work-3 : tie.Need-mul-work-3 Inv-loop μ-loop
-mul-work-3 c = let k = known (c .before) in omega arith
+mul-work-3 c = search needs
+
+sub-work : tie.Need-sub-work Inv-loop μ-loop
+sub-work c = let k = turn (c .before) in omega arith
+
+add-work-3 : tie.Need-add-work-3 Inv-loop μ-loop
+add-work-3 c = let k = turn (c .before) in omega arith
+
+mul-work-4 : tie.Need-mul-work-4 Inv-loop μ-loop
+mul-work-4 c = let k = turn (c .before) in omega arith
 
 slice-write-work-2 : tie.Need-slice-write-work-2 Inv-loop μ-loop
-slice-write-work-2 c = let k = known (c .before) in simp length-set (omega arith)
+slice-write-work-2 c = let k = turn (c .before) in simp length-set (omega arith)
+
+add-work-4 : tie.Need-add-work-4 Inv-loop μ-loop
+add-work-4 c = let k = turn (c .before) in omega arith
+
+mul-work-5 : tie.Need-mul-work-5 Inv-loop μ-loop
+mul-work-5 c = let k = turn (c .before) in omega arith
+
+slice-read-work-2 : tie.Need-slice-read-work-2 Inv-loop μ-loop
+slice-read-work-2 c = let k = turn (c .before .before) in simp length-set (omega arith)
+
+add-work-5 : tie.Need-add-work-5 Inv-loop μ-loop
+add-work-5 c = let k = turn (c .before .before) in omega arith
+
+mul-work-6 : tie.Need-mul-work-6 Inv-loop μ-loop
+mul-work-6 c = let k = turn (c .before .before) in omega arith
+
+slice-write-work-3 : tie.Need-slice-write-work-3 Inv-loop μ-loop
+slice-write-work-3 c = let k = turn (c .before .before) in simp length-set (omega arith)
 
 add-i : tie.Need-add-i Inv-loop μ-loop
 add-i c = search needs
@@ -91,11 +144,14 @@ loop-less c = search needs
 loop-again : tie.Need-loop-again Inv-loop μ-loop
 loop-again c = (
   search needs,
-  simp length-set (c .before .before .before .before .before .loop .inv .1),
-  λ m h count s.
-      let e = c .before .before .line-at .ensures in
-      let t = c .before .if1 .left in
-      resetting-step h s (c .before .before .before .before .loop-test .taken) (c .before .before .before .before .before .loop .inv .2 m h count s) _ _ (omega arith) refl,
+  simp length-set (c .before .before .before .before .before .before .before .before .before .loop .inv .1),
+  λ m h ch.
+      let back = c .before .before .before .before .before in
+      let e = back .before .line-at .ensures in
+      let t = back .if1 .left in
+      let s = back .before .before .before .before .loop .inv .2 m h ch in
+      let at = c .before .before .wide .ensures .0 ∙ c .before .before .before .field .ensures in
+      resetting-step h (ch .listing .1) (back .before .before .before .loop-test .taken) s _ _ (omega arith) at _ _ refl refl,
 )
 
 same-length-2 : tie.Need-same-length-2 Inv-loop μ-loop
@@ -106,7 +162,7 @@ returns-2 c =
     λ m h ch.
     let t = c .loop-test .left in
     let l = c .before .loop .inv .0 in
-    reset-done h ch (omega (arith, count-le (ch .listing .1))) (c .before .loop .inv .2 m h (ch .listing .0) (ch .listing .1))
+    reset-done h ch (omega (arith, count-le (ch .listing .1))) (c .before .loop .inv .2 m h ch)
 
 pub reset-spec : {M : Type 1} → statement M
 reset-spec =
@@ -118,16 +174,26 @@ reset-spec =
     line-at-requires
     same-length
     returns
-    sub-work
+    sub-field
+    field-requires
+    wide-requires
     add-work
     mul-work
-    slice-write-work
+    slice-read-work
     add-work-2
     mul-work-2
-    slice-read-work
-    add-work-3
+    slice-write-work
     mul-work-3
+    sub-work
+    add-work-3
+    mul-work-4
     slice-write-work-2
+    add-work-4
+    mul-work-5
+    slice-read-work-2
+    add-work-5
+    mul-work-6
+    slice-write-work-3
     add-i
     loop-less
     loop-again

@@ -1,9 +1,8 @@
--- `record_tie` meets its contract: the note changes, and whether the line is pending does not.
-use Rattle.work_area.specs.Area.{predecessorsFrom}
-use lib.Seq.{getD-set-same}
-use Prim.Native.Nat.{_+_, _<_}
-use lib.ListN.{length}
-use Rattle.buffers.proofs.Kept.{kept-set}
+-- `record_tie` meets its contract: the note changes, and the length does not.
+use Rattle.work_area.specs.Area.{lengthsFrom}
+use Prim.Native.Nat.{_+_}
+use mathlib.Core.Path.{refl}
+use Rattle.search.proofs.Noting.{noted-small, tie-noted}
 use native.Mathlib.Omega.{arith}
 use borrow.Author.Needs.{needs}
 use Rattle.search.proofs.relax.record_tie.Statement.{statement}
@@ -18,14 +17,16 @@ mul-x c = search needs
 slice-read-x : tie.Need-slice-read-x
 slice-read-x c = search needs
 
-note-requires : tie.Need-note-requires
-note-requires c κs = search needs
+noted-requires : tie.Need-noted-requires
+noted-requires c κs = search needs
 
 mul-work : tie.Need-mul-work
-mul-work c = omega (arith, c .before .before .slice-known .given (predecessorsFrom + c .before .before .before .args .j))
+mul-work c = omega (arith, c .before .slice-known2 .given (lengthsFrom + c .before .before .before .args .j))
 
 add-work : tie.Need-add-work
-add-work c = omega (arith, c .before .before .slice-known .given (predecessorsFrom + c .before .before .before .args .j), c .note .ensures .low)
+add-work c =
+    let start = c .before .before .before in
+    omega (arith, c .before .slice-known2 .given (lengthsFrom + start .args .j), noted-small (c .noted .ensures) (start .pre .1))
 
 add-work-2 : tie.Need-add-work-2
 add-work-2 c = search needs
@@ -40,15 +41,7 @@ same-length : tie.Need-same-length
 same-length c = search needs
 
 returns : tie.Need-returns
-returns c =
-    let a = c .before .before .before .args in
-    let fits : predecessorsFrom + a .j < length (a .work .now) = omega arith in
-    record {
-      note = c .note .result;
-      noted = c .note .ensures;
-      here = getD-set-same (a .work .now) (predecessorsFrom + a .j) _ 0 fits;
-      kept = kept-set _ _ (omega arith) (omega arith);
-    }
+returns c = let p = c .before .before .before .pre in tie-noted (p .0) (p .2) (p .1) refl (c .noted .ensures)
 
 pub record-tie-spec : {M : Type 1} → statement M
 record-tie-spec =
@@ -57,7 +50,7 @@ record-tie-spec =
     add-x
     mul-x
     slice-read-x
-    note-requires
+    noted-requires
     mul-work
     add-work
     add-work-2

@@ -1,172 +1,189 @@
--- `relax` meets its contract, in the order of its tests: no line that can follow, nearer already, a tie, shut to the class, past the limit, lowered.
-use borrow.Author.Tests.{not-true, not-false}
-use Rattle.search.proofs.Reached.{count-le, room-left}
+-- `relax` meets its contract, in the order of its tests: no line that can follow, a tie, nearer already, shut to the class, past the limit, reached.
+use mathlib.Core.Path.{sym, _∙_}
+use Rattle.search.proofs.Follows.{barred, follow}
 use Rattle.work_area.proofs.Holding.{few}
-use Rattle.search.proofs.Calm.{calm-none, calm-lowered}
-use Rattle.search.proofs.Going.{apart, nearer, tied, calm-tied, shut, beyond, brought-down}
+use Rattle.search.proofs.Reached.{room-left}
+use Rattle.search.proofs.Going.{going-in, key-behind, notable-low, apart, nearer, tied, shut, beyond, reaches}
 use native.Mathlib.Omega.{arith}
 use borrow.Author.Needs.{needs}
 use Rattle.search.proofs.relax.relax.Statement.{statement}
 use Rattle.search.proofs.relax.relax.Tie as tie
+use Rattle.search.proofs.relax.relax.Reads as reads
+use Rattle.search.proofs.relax.relax.Lts as lts
+use Rattle.buffers.proofs.wide.Reads as wide-reads
+use Rattle.search.proofs.cells.length_to.Reads as length-to-reads
+use Rattle.search.proofs.relax.reach.Reads as reach-reads
+use Rattle.search.proofs.relax.record_tie.Reads as record-tie-reads
+use Rattle.work_area.proofs.field.Reads as field-reads
 
-follows-requires : tie.Need-follows-requires
-follows-requires c κs =
+in-chain-requires : tie.Need-in-chain-requires
+in-chain-requires c κs =
     let p = c .before .before .pre in
-    (p .0, (p .1 .0 .map, p .1 .1 .held, p .1 .2))
+    let g = p .1 .2 in
+    let o = p .1 .3 in
+    (g .held .full, (_, _, g .held .bans-held, o .chain))
 
 same-length : tie.Need-same-length
 same-length c = search needs
 
 returns : tie.Need-returns
 returns c =
-    λ q g e.
-    let p = c .before .before .before .before .pre .0 in
-    (apart g (p .0) (p .1) (rw (not-true (c .before .follows .result) (c .if1 .taken)) at (c .before .follows .ensures (q .map) (g .held) e)), calm-none)
-
-by-way-of-requires : tie.Need-by-way-of-requires
-by-way-of-requires c κs = search needs
-
-add-wide : tie.Need-add-wide
-add-wide c = search needs
-
-mul-wide : tie.Need-mul-wide
-mul-wide c = search needs
-
-slice-read-wide : tie.Need-slice-read-wide
-slice-read-wide c = search needs
+    λ q place g o meets.
+    apart g o (c .before .before .before .before .pre .0) (barred (sym (c .before .in-chain .ensures _ _ (g .held .bans-held) (o .chain)) ∙ c .if1 .taken))
 
 wide-requires : tie.Need-wide-requires
 wide-requires c κs = search needs
+
+field-requires : tie.Need-field-requires
+field-requires c κs = search needs
+
+wide-requires-2 : tie.Need-wide-requires-2
+wide-requires-2 c κs = search needs
+
+add-length : tie.Need-add-length
+add-length c = search needs
+
+length-to-requires : tie.Need-length-to-requires
+length-to-requires c κs = search needs
+
+wide-requires-3 : tie.Need-wide-requires-3
+wide-requires-3 c κs = search needs
+
+record-tie-requires : tie.Need-record-tie-requires
+record-tie-requires c κs =
+    let p = c .before .before .before .before .before .before .before .before .before .before .before .before .before .before .pre in
+    let g = p .1 .2 in
+    let o = p .1 .3 in
+    let h = g .held in
+    let n≤ = few h in
+    let l = going-in g o (p .0) in
+    (omega arith, notable-low (omega arith) (o .notable), h .full)
 
 same-length-2 : tie.Need-same-length-2
 same-length-2 c = search needs
 
 returns-2 : tie.Need-returns-2
 returns-2 c =
-    λ q g e.
-    let p = c .before .before .before .before .before .before .before .before .before .pre .0 in
-    let x = c .before .before .before .by-way-of .ensures in
-    let y = c .before .wide .ensures in
-    let t = c .if2 .taken in
-    (nearer g (p .0) (p .1) (omega arith), calm-none)
-
-record-tie-requires : tie.Need-record-tie-requires
-record-tie-requires c κs = search needs
+    λ q place g o meets.
+    let x = c .before .before .before .before .before .before .before .before .before .before .before .before .wide .ensures .0 in
+    let y = c .before .before .before .before .before .before .before .before .before .wide2 .ensures .0 in
+    let z = c .before .before .before .before .before .before .before .before .before .before .field .ensures in
+    let e = c .before .before .before .before .before .before .before .length-to .ensures in
+    let t = c .before .before .before .before .before .wide3 .ensures .0 in
+    let i = c .before .before .before .before .if3 .taken in
+    let u = c .before .before .before .before .before .before .if2 .taken in
+    tied g o (c .before .before .before .before .before .before .before .before .before .before .before .before .before .before .before .before .before .pre .0) (follow (let h = g .held .line-count in let j = c .before .before .before .before .before .before .before .before .before .before .before .before .before .before .before .before .before .pre .0 in omega arith) meets (sym (c .before .before .before .before .before .before .before .before .before .before .before .before .before .before .in-chain .ensures _ _ (g .held .bans-held) (o .chain)) ∙ c .before .before .before .before .before .before .before .before .before .before .before .before .before .if1 .left)) (omega arith) (omega arith) (c .before .before .record-tie .ensures)
 
 same-length-3 : tie.Need-same-length-3
 same-length-3 c = search needs
 
 returns-3 : tie.Need-returns-3
 returns-3 c =
-    λ q g e.
-    let p = c .before .before .before .before .before .before .before .before .before .before .before .before .before .before .pre .0 in
-    let x = c .before .before .before .before .before .before .before .before .by-way-of .ensures in
-    let y = c .before .before .before .before .before .before .wide .ensures in
-    let t = c .before .before .before .before .if3 .taken in
-    let f = rw (not-false (c .before .before .before .before .before .before .before .before .before .before .before .follows .result) (c .before .before .before .before .before .before .before .before .before .before .if1 .left)) at (c .before .before .before .before .before .before .before .before .before .before .before .follows .ensures (q .map) (g .held) e) in
-    (tied g (p .0) (p .1) f (omega arith) (c .before .before .record-tie .ensures), calm-tied g (p .0) (p .1) f (omega arith) (c .before .before .record-tie .ensures))
+    λ q place g o meets.
+    let x = c .before .before .before .before .before .before .before .before .wide .ensures .0 in
+    let y = c .before .before .before .before .before .wide2 .ensures .0 in
+    let z = c .before .before .before .before .before .before .field .ensures in
+    let e = c .before .before .before .length-to .ensures in
+    let t = c .before .wide3 .ensures .0 in
+    let u = c .before .before .if2 .taken in
+    nearer g o (c .before .before .before .before .before .before .before .before .before .before .before .before .before .pre .0) (omega arith) (λ d. c .if3 .left (omega arith))
 
-field-requires : tie.Need-field-requires
-field-requires c κs = search needs
+field-requires-2 : tie.Need-field-requires-2
+field-requires-2 c κs = search needs
 
 same-length-4 : tie.Need-same-length-4
 same-length-4 c = search needs
 
 returns-4 : tie.Need-returns-4
 returns-4 c =
-    λ q g e.
-    let p = c .before .before .before .before .before .before .before .before .before .before .before .before .before .pre .0 in
-    let x = c .before .before .before .before .before .before .before .by-way-of .ensures in
-    let y = c .before .before .before .before .before .wide .ensures in
-    let z = c .before .field .ensures in
-    let low = c .before .before .before .before .if2 .left in
-    let other = c .before .before .before .if3 .left in
+    λ q place g o meets.
+    let e = c .before .before .before .before .length-to .ensures in
+    let z = c .before .field2 .ensures in
+    let u = c .before .before .before .if2 .left in
     let t = c .if4 .taken in
-    (shut g (p .0) (p .1) (omega (arith, other)) (omega arith), calm-none)
+    shut g o (c .before .before .before .before .before .before .before .before .before .before .before .before .before .before .pre .0) (omega arith) (omega arith)
 
-wide-requires-2 : tie.Need-wide-requires-2
-wide-requires-2 c κs = search needs
+wide-requires-4 : tie.Need-wide-requires-4
+wide-requires-4 c κs = search needs
 
 same-length-5 : tie.Need-same-length-5
 same-length-5 c = search needs
 
 returns-5 : tie.Need-returns-5
 returns-5 c =
-    λ q g e.
-    let p = c .before .before .before .before .before .before .before .before .before .before .before .before .before .before .before .pre .0 in
-    let x = c .before .before .before .before .before .before .before .before .before .by-way-of .ensures in
-    let y = c .before .before .before .before .before .before .before .wide .ensures in
-    let z = c .before .wide2 .ensures in
-    let low = c .before .before .before .before .before .before .if2 .left in
-    let other = c .before .before .before .before .before .if3 .left in
+    λ q place g o meets.
+    let x = c .before .before .before .before .before .before .before .before .before .before .before .wide .ensures .0 in
+    let y = c .before .before .before .before .before .before .before .before .wide2 .ensures .0 in
+    let z = c .before .before .before .before .before .before .before .before .before .field .ensures in
+    let e = c .before .before .before .before .before .before .length-to .ensures in
+    let u = c .before .before .before .before .before .if2 .left in
+    let s = c .before .wide4 .ensures .0 in
     let t = c .if5 .taken in
-    (beyond g (p .0) (p .1) (omega (arith, other)) (omega arith), calm-none)
+    beyond g o (c .before .before .before .before .before .before .before .before .before .before .before .before .before .before .before .before .pre .0) (omega arith) (omega arith)
 
-resume-after-requires : tie.Need-resume-after-requires
-resume-after-requires c κs = search needs
+cast-reach : tie.Need-cast-reach
+cast-reach c = search needs
 
-add-lower : tie.Need-add-lower
-add-lower c = search needs
-
-cast-lower : tie.Need-cast-lower
-cast-lower c = search needs
-
-cast-lower-2 : tie.Need-cast-lower-2
-cast-lower-2 c = search needs
-
-lower-requires : tie.Need-lower-requires
-lower-requires c κs =
-    let p = c .before .before .before .before .before .before .before .before .before .before .before .before .before .before .before .before .before .before .pre in
-    let g = p .1 .1 in
-    let h = g .held in
-    let n≤ = few h in
-    ((search needs, search needs, search needs, omega (arith, count-le (g .listing))), λ z. omega (arith, room-left (g .listing) (p .0 .1) z))
+reach-requires : tie.Need-reach-requires
+reach-requires c κs =
+    let p = c .before .before .before .before .before .before .before .before .before .before .before .before .before .before .before .before .before .pre in
+    let g = p .1 .2 in
+    let o = p .1 .3 in
+    let n≤ = few (g .held) in
+    let l = going-in g o (p .0) in
+    let x = c .before .before .before .before .before .before .before .before .before .before .before .before .wide .ensures .0 in
+    let y = c .before .before .before .before .before .before .before .before .before .wide2 .ensures .0 in
+    let z = c .before .before .before .before .before .before .before .before .before .before .field .ensures in
+    let e = c .before .before .before .before .before .before .before .length-to .ensures in
+    let u = c .before .before .before .before .before .before .if2 .left in
+    let s = c .before .before .wide4 .ensures .0 in
+    let t = c .before .if5 .left in
+    let small = g .small in
+    ((p .0, notable-low (omega arith) (o .notable), omega arith, room-left (g .listing) (p .0) (omega arith), g .room), ((_, g .held), (_, o .inside, key-behind g o (p .0) (omega arith))))
 
 same-length-6 : tie.Need-same-length-6
 same-length-6 c = search needs
 
 returns-6 : tie.Need-returns-6
 returns-6 c =
-    λ q g e.
-    let p = c .before .before .before .before .before .before .before .before .before .before .before .before .before .before .before .before .before .before .before .before .before .pre .0 in
-    let x = c .before .before .before .before .before .before .before .before .before .before .before .before .before .before .before .by-way-of .ensures in
-    let y = c .before .before .before .before .before .before .before .before .before .before .before .before .before .wide .ensures in
-    let z = c .before .before .before .before .before .before .before .before .before .field .ensures in
-    let u = c .before .before .before .before .before .before .before .wide2 .ensures in
-    let low = c .before .before .before .before .before .before .before .before .before .before .before .before .if2 .left in
-    let other = c .before .before .before .before .before .before .before .before .before .before .before .if3 .left in
-    let ok = c .before .before .before .before .before .before .before .before .if4 .left in
-    let near = c .before .before .before .before .before .before .if5 .left in
-    let f = rw (not-false (c .before .before .before .before .before .before .before .before .before .before .before .before .before .before .before .before .before .before .follows .result) (c .before .before .before .before .before .before .before .before .before .before .before .before .before .before .before .before .before .if1 .left)) at (c .before .before .before .before .before .before .before .before .before .before .before .before .before .before .before .before .before .before .follows .ensures (q .map) (g .held) e) in
-    (brought-down g (p .0) (p .1) x f (omega arith) (omega (arith, other)) (omega arith) (c .before .before .lower .ensures), calm-lowered g (c .before .before .lower .ensures) (c .before .before .before .before .resume-after .ensures))
+    λ q place g o meets.
+    let j = c .before .before .before .before .before .before .before .before .before .before .before .before .before .before .before .before .before .before .before .before .pre .0 in
+    let x = c .before .before .before .before .before .before .before .before .before .before .before .before .before .before .before .wide .ensures .0 in
+    let y = c .before .before .before .before .before .before .before .before .before .before .before .before .wide2 .ensures .0 in
+    let z = c .before .before .before .before .before .before .before .before .before .before .before .before .before .field .ensures in
+    let e = c .before .before .before .before .before .before .before .before .before .before .length-to .ensures in
+    let u = c .before .before .before .before .before .before .before .before .before .if2 .left in
+    let ok = c .before .before .before .before .before .before .before .field2 .ensures in
+    let d = c .before .before .before .before .before .before .if4 .left in
+    let s = c .before .before .before .before .before .wide4 .ensures .0 in
+    let t = c .before .before .before .before .if5 .left in
+    reaches g o j (follow (let h = g .held .line-count in let j = c .before .before .before .before .before .before .before .before .before .before .before .before .before .before .before .before .before .before .before .before .pre .0 in omega arith) meets (sym (c .before .before .before .before .before .before .before .before .before .before .before .before .before .before .before .before .before .in-chain .ensures _ _ (g .held .bans-held) (o .chain)) ∙ c .before .before .before .before .before .before .before .before .before .before .before .before .before .before .before .before .if1 .left)) (omega arith) (omega arith) (omega arith) (omega arith) (c .before .before .reach .ensures _ (g .held) place (o .inside) (key-behind g o j (omega arith)))
 
 pub relax-spec : {M : Type 1} → statement M
 relax-spec =
     tie.close
     (tie.spec
-    follows-requires
+    in-chain-requires
     same-length
     returns
-    by-way-of-requires
-    add-wide
-    mul-wide
-    slice-read-wide
     wide-requires
+    field-requires
+    wide-requires-2
+    add-length
+    length-to-requires
+    wide-requires-3
+    record-tie-requires
     same-length-2
     returns-2
-    record-tie-requires
     same-length-3
     returns-3
-    field-requires
+    field-requires-2
     same-length-4
     returns-4
-    wide-requires-2
+    wide-requires-4
     same-length-5
     returns-5
-    resume-after-requires
-    add-lower
-    cast-lower
-    cast-lower-2
-    lower-requires
+    cast-reach
+    reach-requires
     same-length-6
     returns-6)

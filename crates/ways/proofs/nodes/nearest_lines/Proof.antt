@@ -11,7 +11,7 @@ use Rattle.work_area.proofs.Holding.{held-kept, few}
 use Rattle.search.proofs.Reached.{count-le}
 use Rattle.search.proofs.Places.{past, line-there, new-there}
 use Rattle.ways.proofs.Carried.{chained-above}
-use Rattle.ways.proofs.Arriving.{Ending, ending-start, ending-step, ends-there, there, ended}
+use Rattle.ways.proofs.Arriving.{Ending, ending-start, ending-step, there, ended}
 use native.Mathlib.Omega.{arith}
 use borrow.Author.Needs.{needs}
 use Rattle.ways.proofs.nodes.nearest_lines.Statement.{statement}
@@ -101,17 +101,20 @@ mul-x c = omega (arith, node-in c)
 slice-read-x : tie.Need-slice-read-x Inv-loop μ-loop
 slice-read-x c = omega (arith, node-in (c .before), known (c .before .before .before .before) .0)
 
+length-to-requires : tie.Need-length-to-requires Inv-loop μ-loop
+length-to-requires c κs = let k = known (c .before .before .before .before .before) in (omega (arith, k .2, k .3), k .0)
+
 nearer-requires : tie.Need-nearer-requires Inv-loop μ-loop
-nearer-requires c κs = let k = known (c .before .before .before .before .before) in (omega (arith, k .2, k .3), k .0)
+nearer-requires c κs = let k = known (c .before .before .before .before .before .before .before) in (omega (arith, k .2, k .3), k .0, c .before .length-to .ensures)
 
 add-work : tie.Need-add-work Inv-loop μ-loop
-add-work c = omega (arith, node-in (c .before .before .before))
+add-work c = omega (arith, node-in (c .before .before .before .before .before))
 
 mul-work : tie.Need-mul-work Inv-loop μ-loop
-mul-work c = omega (arith, node-in (c .before .before .before))
+mul-work c = omega (arith, node-in (c .before .before .before .before .before))
 
 slice-write-work : tie.Need-slice-write-work Inv-loop μ-loop
-slice-write-work c = omega (arith, node-in (c .before .before .before), known (c .before .before .before .before .before .before) .0)
+slice-write-work c = omega (arith, node-in (c .before .before .before .before .before), known (c .before .before .before .before .before .before .before .before) .0)
 
 add-i : tie.Need-add-i Inv-loop μ-loop
 add-i c = search needs
@@ -122,16 +125,15 @@ loop-less c = search needs
 loop-again : tie.Need-loop-again Inv-loop μ-loop
 loop-again c = (
   search needs,
-  simp length-set (c .before .before .before .before .before .before .before .before .before .before .loop .inv .1),
+  simp length-set (c .before .before .before .before .before .before .before .before .before .before .before .before .loop .inv .1),
   λ m h₁.
-      let p = c .before .before .before .before .before .before .before .before .before .before .before .before .before .before .before .before .pre in
-      let s = standing (c .before .before .before .before .before .before .before .before .before) (p .0) (p .1) (p .2) .1 .listing .1 in
-      let t = c .before .before .before .before .before .before .before .before .before .loop-test .taken in
-      let k = known (c .before .before .before .before .before .before) in
-      let e = c .before .before .before .before .before .before .before .before .before .before .loop .inv .2 m h₁ in
-      let at = c .before .before .before .wide .ensures .0 ∙ c .before .before .before .before .field .ensures in
-      ending-step h₁ (k .2) e at t (k .1)
-      (c .nearer .ensures m _ _ _ (ends-there h₁ (k .2) e at) (k .2) (k .1) (new-there s t _ (k .1)) (e .cells _ (there h₁ (k .2) e at))),
+      let p = c .before .before .before .before .before .before .before .before .before .before .before .before .before .before .before .before .before .before .pre in
+      let s = standing (c .before .before .before .before .before .before .before .before .before .before .before) (p .0) (p .1) (p .2) .1 .listing .1 in
+      let t = c .before .before .before .before .before .before .before .before .before .before .before .loop-test .taken in
+      let k = known (c .before .before .before .before .before .before .before .before) in
+      let e = c .before .before .before .before .before .before .before .before .before .before .before .before .loop .inv .2 m h₁ in
+      let at = c .before .before .before .before .before .wide .ensures .0 ∙ c .before .before .before .before .before .before .field .ensures in
+      ending-step h₁ (k .2) e at t (k .1) (new-there s t _ (k .1)) (c .nearer .ensures),
 )
 
 same-length-2 : tie.Need-same-length-2 Inv-loop μ-loop
@@ -165,6 +167,7 @@ nearest-lines-spec =
     add-x
     mul-x
     slice-read-x
+    length-to-requires
     nearer-requires
     add-work
     mul-work
