@@ -1,5 +1,5 @@
 -- How the search goes on from a line with banned turns: where two others have gone on before it from the same node, the turns banned from these are left.
-use Rattle.work_area.specs.Area.{searchTo, lengthsFrom, queueFrom, headsFrom, nextFrom, nearestFrom}
+use Rattle.work_area.specs.Area.{Held, searchTo, lengthsFrom, queueFrom, headsFrom, nextFrom, nearestFrom}
 use Rattle.search.specs.Area.{far, noteWeight, listWeight, keyWeight, lengthTo, predecessor, nearestFree, queued, named, Tie, lineOf}
 use Prim.Native.Nat.{ℕ, _+_, _-_, _/_, _%_, _≤_, _<_}
 use mathlib.Core.Path.{_≡_, refl, sym, _∙_, ap, subst}
@@ -17,7 +17,7 @@ use Rattle.buffers.proofs.Kept.{kept-then, kept-within}
 use Rattle.buffers.proofs.Cases.{le-or-lt}
 use Rattle.work_area.proofs.Holding.{held-kept, few, line-ok}
 use Rattle.search.proofs.Follows.{known, follows-unless}
-use Rattle.search.proofs.Frame.{chained-kept}
+use Rattle.search.proofs.Keeping.{key-same, underway-same}
 use Rattle.search.proofs.Reached.{listing-same, count-le}
 use Rattle.search.proofs.Nearness.{nearest-lengths}
 use Rattle.search.proofs.Growing.{grew-then, free-grew, backed-grew, settled-grew}
@@ -38,12 +38,6 @@ module _ {q : Task} {n c limit place count end : ℕ} {w v : List ℕ} (g : Unde
   note-same : (l : ℕ) → l < n → predecessor v l ≡ predecessor w l
   note-same l l< = let n≤ = few (g .held) in ap (λ (x : ℕ). x % noteWeight) (same (lengthsFrom + l) (omega arith))
 
-  key-same : (i : ℕ) → i < end → queued v i ≡ queued w i
-  key-same i i< = let n≤ = few (g .held) in let b = g .room in same (queueFrom + i) (omega (arith, count-le (g .listing)))
-
-  node-same : (b : ℕ) → b < length (q .map .nodes) → nearestFree v b ≡ nearestFree w b
-  node-same b b< = let f = g .held .formed in ap (λ (x : ℕ). x / listWeight) (same (headsFrom + b) (omega arith))
-
   grew-kept : Grew (q .map) n c 0 w v
   grew-kept =
       record {
@@ -52,42 +46,19 @@ module _ {q : Task} {n c limit place count end : ℕ} {w v : List ℕ} (g : Unde
         new = λ l l< z y. absurd (omega (arith, length-same l l<));
       }
 
+  held-now : Held v n (q .map)
+  held-now = held-kept (omega arith) k (g .held)
+
+  head-same : place < end → queued v place ≡ queued w place
+  head-same inside = key-same g held-now length-same (λ a a≤ a<. same a a<) grew-kept place inside
+
   free-back : {l : ℕ} → FreeReached (q .map) n v l → FreeReached (q .map) n w l
   free-back f = record { line = f .line; free = f .free; reached = let z = f .reached in omega (arith, length-same _ (f .line)) }
 
-  waits-kept : {l : ℕ} → Waits place end w l → Waits place end v l
-  waits-kept y = (y .0, y .1, y .2, ap lineOf (key-same (y .0) (y .2)) ∙ y .3)
-
-  deferred : (l : ℕ) → l < n → Waits place end w (named (nearestFree w (lineAt (q .map) l .end))) → Waits place end v (named (nearestFree v (lineAt (q .map) l .end)))
-  deferred l l< y = rw (node-same (lineAt (q .map) l .end) (line-ok (g .held) l< .end)) (waits-kept y)
-
   pub underway-kept : Underway q n c limit place count end v
   underway-kept =
-      let h = g .held in
-      let n≤ = few h in
-      let back : (l : ℕ) → l < n → lengthTo v l < far → lengthTo w l < far = λ l l< z. omega (arith, length-same l l<) in
-      record {
-        held = held-kept (omega arith) k h;
-        chained = chained-kept (omega arith) h k (g .chained);
-        listing = listing-same length-same (λ i i<. ap (λ (x : ℕ). x / listWeight) (same (nextFrom + i) (omega arith))) (g .listing);
-        small = g .small;
-        begun = g .begun;
-        room = g .room;
-        ordered = λ i j p≤ i≤ j<. omega (arith, key-same i (omega arith), key-same j j<, g .ordered i j p≤ i≤ j<);
-        queue = λ i p≤ i<.
-            let y = g .queue i p≤ i< in
-            rw (key-same i i<) (record { line = y .line; found = length-same _ (y .line) ∙ y .found; reached = y .reached });
-        within = λ l l< z. omega (arith, length-same l l<, g .within l l< (back l l< z));
-        real = λ l l< z. rw (length-same l l<) (g .real l l< (back l l< z));
-        level = λ l i l< z p≤ i<. omega (arith, length-same l l<, key-same i i<, g .level l i l< (back l l< z) p≤ i<);
-        nearest = λ b b<. rw (node-same b b<) (nearest-lengths (g .nearest b b<) (λ l. free-grew grew-kept) (λ l. free-back) (λ l f. length-same l (f .line)));
-        standing = λ l l< z.
-            ⊎-elim
-            (λ s. inl (settled-grew grew-kept (g .small) (h .line-count) l< (back l l< z) s))
-            (λ s. inr (⊎-elim (λ y. inl (waits-kept y)) (λ y. inr (y .0, deferred l l< (y .1))) s))
-            (g .standing l l< (back l l< z));
-        backed = λ j j< z. rw (note-same j j<) (backed-grew grew-kept (h .line-count) j< (back j j< z) (g .backed j j< (back j j< z)));
-      }
+      underway-same g held-now length-same (λ a a≤ a<. same a a<) grew-kept
+      (λ j j< z. rw (note-same j j<) (backed-grew grew-kept (g .held .line-count) j< z (g .backed j j< z)))
 
   module _ {going : Going} (inside : place < end) (o : GoesOn (q .map) n place w going) where
     l< : going .line < n
@@ -95,7 +66,7 @@ module _ {q : Task} {n c limit place count end : ℕ} {w v : List ℕ} (g : Unde
 
     pub goes-on-kept : GoesOn (q .map) n place v going
     goes-on-kept =
-        let e = key-same place inside in
+        let e = head-same inside in
         let z = length-same (going .line) l< in
         record {
           at = ap lineOf e ∙ o .at;
@@ -127,7 +98,7 @@ module _ {q : Task} {n c limit place count end : ℕ} {w v : List ℕ} (g : Unde
     gone-kept {x} b =
         let p = b .some in
         let i = b .inside in
-        record { some = p; inside = i; ends = b .ends; barred = b .barred; earlier = omega (arith, b .earlier, key-same place inside, length-same (x - 1) (omega arith)) }
+        record { some = p; inside = i; ends = b .ends; barred = b .barred; earlier = omega (arith, b .earlier, head-same inside, length-same (x - 1) (omega arith)) }
 
 -- A line that has gone on before is settled, and no farther.
 module _ {q : Task} {n c limit place count end l x : ℕ} {w : List ℕ} (g : Underway q n c limit place count end w) (inside : place < end)

@@ -24,6 +24,7 @@ use Rattle.search.proofs.Reached.{listing-same, count-le, room-left}
 use Rattle.search.proofs.Nearness.{nearest-lengths}
 use Rattle.search.proofs.Growing.{grew-none, free-grew, backed-grew, settled-grew}
 use Rattle.search.proofs.Queueing.{queue-kept, queued-in, waits-more, waits-new, ordered-more}
+use Rattle.search.proofs.Keeping.{key-same, underway-same}
 use Rattle.search.proofs.Arriving.{Entered, Levelled, free-or, grew, entered, found-now, noted-now}
 
 -- What is noted.
@@ -204,64 +205,15 @@ module _ {q : Task} {n c limit place count end j : ℕ} {w : List ℕ} {going : 
         }))
         (noted-cases (t .noted)))
 
-    standing-tie : (k : ℕ) → k < n → lengthTo w k < far → Standing m c limit place end v k
-    standing-tie k k< z =
-        let n≤ = few (g .held) in
-        let c≤ = count-le (g .listing) in
-        let r≤ = g .room in
-        let waits : (a : ℕ) → Waits place end w a → Waits place end v a =
-        λ a y. (y .0, y .1, y .2, ap lineOf (above (queueFrom + y .0) (omega arith)) ∙ y .3) in
-        ⊎-elim
-        (λ s. inl (settled-grew grew-tie (g .small) (g .held .line-count) k< z s))
-        (λ s.
-        inr
-        (⊎-elim (λ y. inl (waits k y))
-        (λ y.
-        inr (y .0, rw (above (headsFrom + lineAt m k .end) (omega arith)) (waits _ (y .1))))
-        s))
-        (g .standing k k< z)
-
     pub tied : Relaxed q n c limit place going j w v count end
     tied =
-        let n≤ = few (g .held) in
-        let h = g .held in
-        let c≤ = count-le (g .listing) in
-        let r≤ = g .room in
-        let list = listing-same same (λ i i<. ap (λ (x : ℕ). x / listWeight) (above (nextFrom + i) (omega arith))) (g .listing) in
-        let key : (i : ℕ) → i < end → queued v i ≡ queued w i = λ i i<. above (queueFrom + i) (omega arith) in
+        let h = held-kept (omega arith) (t .kept) (g .held) in
+        let n≤ = few h in
         record {
-          underway = record {
-            held = held-kept (omega arith) (t .kept) h;
-            chained = record {
-              heads = λ b b<. ap (λ (x : ℕ). x % listWeight) (above (headsFrom + b) (omega arith)) ∙ g .chained .heads b b<;
-              nexts = λ k k<. ap (λ (x : ℕ). x % listWeight) (above (nextFrom + k) (omega arith)) ∙ g .chained .nexts k k<;
-              listing = (count, list);
-              bare = λ b b< p.
-                  let e = g .chained .bare b b< (rw (above (headsFrom + b) (omega arith)) at p) in (e .0, e .1, omega (arith, same (e .0) (e .1), e .2), e .3);
-            };
-            listing = list;
-            small = g .small;
-            begun = g .begun;
-            room = g .room;
-            ordered = λ i k p≤ i≤ k<. omega (arith, key i (omega arith), key k k<, g .ordered i k p≤ i≤ k<);
-            queue = λ i p≤ i<.
-                let k = g .queue i p≤ i< in
-                rw (key i i<) (record { line = k .line; found = same _ (k .line) ∙ k .found; reached = k .reached });
-            within = λ k k< z. omega (arith, same k k<, g .within k k< (omega (arith, same k k<)));
-            real = λ k k< z. rw (same k k<) (g .real k k< (omega (arith, same k k<)));
-            level = λ k i k< z p≤ i<. omega (arith, same k k<, key i i<, g .level k i k< (omega (arith, same k k<)) p≤ i<);
-            nearest = λ b b<.
-                rw (above (headsFrom + b) (omega arith))
-                (nearest-lengths (g .nearest b b<) (λ k. free-grew grew-tie)
-                (λ k x. record { line = x .line; free = x .free; reached = let y = x .reached in omega (arith, same k (x .line)) })
-                (λ k x. same k (x .line)));
-            standing = λ k k< z. standing-tie k k< (omega (arith, same k k<));
-            backed = here-or (λ k. k < n → lengthTo v k < far → Backed m v k (predecessor v k)) j
-                (λ k< z. backed-tie)
-                (λ k o k< y.
-                let z : lengthTo w k < far = omega (arith, same k k<) in
-                rw (note-of k k< o) (backed-grew grew-tie (h .line-count) k< z (g .backed k k< z)));
-          };
+          underway = underway-same g h same (λ a a≤ a<. above a a≤) grew-tie
+              (here-or (λ k. k < n → lengthTo w k < far → Backed m v k (predecessor v k)) j
+              (λ k< y. backed-tie)
+              (λ k o k< y. rw (note-of k k< o) (backed-grew grew-tie (h .line-count) k< y (g .backed k k< y))));
           grew = grew-tie;
           kept = kept-within (omega arith) (omega arith) (t .kept);
           here = λ f.
@@ -275,7 +227,7 @@ module _ {q : Task} {n c limit place count end j : ℕ} {w : List ℕ} {going : 
                     (⊎-elim (λ a. (omega (arith, a .1), λ low. a .1)) (λ a. (omega (arith, a .0), λ low. absurd (omega (arith, a .0)))))
                     (noted-cases (t .noted)));
               };
-          head = key place (o .inside);
+          head = key-same g h same (λ a a≤ a<. above a a≤) grew-tie place (o .inside);
           inside = o .inside;
         }
 

@@ -14,6 +14,7 @@ pub mod Listing
 pub mod Nearness
 pub mod Growing
 pub mod Queueing
+pub mod Keeping
 pub mod Arriving
 pub mod Going
 pub mod Passing
