@@ -1,17 +1,19 @@
 -- A line is reached: what that does to the list, to the queue, to the nearest free lines and to what is known of all lines.
-use Rattle.work_area.specs.Area.{searchFrom, lengthsFrom, nextFrom, nearestFrom, banChain}
+use Rattle.work_area.specs.Area.{headsFrom, searchFrom, lengthsFrom, nextFrom, nearestFrom, banChain, Held, queueFrom}
 use Rattle.model.specs.Map.{greatestLineCount, Map}
 use Rattle.search.specs.Area.{far, noteWeight, listWeight, keyWeight, Listing, lengthTo, predecessor, firstLeaving, nearestFree, queued, reached, named, Nearest, NearerBy, farther, nearest, alike, lineOf, keyOf}
 use Prim.Native.Nat.{ℕ, _+_, _/_, _%_, _≤_, _<_}
 use mathlib.Core.Path.{_≡_, refl, sym, _∙_, ap, subst}
 use mathlib.Core.List.{List}
 use mathlib.Core.Logic.{_⊎_, inl, inr, ⊎-elim, _≢_}
+use Rattle.buffers.proofs.Kept.{kept-then, kept-within}
+use mathlib.Core.Bool.{Bool}
 use native.Mathlib.Omega.{arith}
 use lib.ListN.{length, getD}
 use Rattle.model.specs.Lines.{lineAt}
 use Rattle.buffers.specs.Kept.{Kept}
 use Rattle.search.specs.Ways.{line, Reached}
-use Rattle.search.specs.Steps.{Free, FreeReached, Waits, Backed, Settled, Standing, Queued, Task, Underway, Grew, Put}
+use Rattle.search.specs.Steps.{Free, FreeReached, Waits, Backed, Settled, Standing, Queued, Task, Underway, Grew, Put, Sent}
 use Rattle.buffers.proofs.Cases.{le-or-lt, here-or}
 use Rattle.work_area.proofs.Holding.{held-kept, few, line-ok}
 use Rattle.search.proofs.Follows.{known, follows-free}
@@ -45,6 +47,47 @@ pub record Entered (m : Map) (n limit place j note x count end : ℕ) (w v : Lis
   pub queue : (i : ℕ) → place ≤ i → i < end′ → (queued v i ≡ keyOf x j) ⊎ ((k : ℕ) × (place ≤ k) × (k < end) × (queued v i ≡ queued w k))
   pub still : (l : ℕ) → Waits place end w l → Waits place end′ v l
   pub kept : Kept searchFrom nearestFrom w v
+
+-- It came about by `put` and `sends`, and then at most the queue was changed.
+module _ {m : Map} {n limit j note x count : ℕ} {w first second : List ℕ} {sent : Bool} (h : Held w n m) (j< : j < n)
+    (put : Put j note x count w first) (s : Sent m limit j first second sent) where
+  head-same : (b : ℕ) → b < length (m .nodes) → getD first (headsFrom + b) 0 ≡ getD w (headsFrom + b) 0
+  head-same b b< = let f = h .formed in put .rest (headsFrom + b) (omega arith) (omega arith)
+
+  nears-same : (b : ℕ) → b < length (m .nodes) → nearestFree first b ≡ nearestFree w b
+  nears-same b b< = ap (λ (y : ℕ). y / listWeight) (head-same b b<)
+
+  module _ (u : List ℕ) (last : ℕ) (low : (k : ℕ) → k < queueFrom → getD u k 0 ≡ getD second k 0)
+      (high : (k : ℕ) → headsFrom ≤ k → getD u k 0 ≡ getD second k 0) where
+    nears-now : (b : ℕ) → nearestFree u b ≡ nearestFree second b
+    nears-now b = ap (λ (y : ℕ). y / listWeight) (high (headsFrom + b) (omega arith))
+
+    pub enter : {place end : ℕ} → Kept searchFrom nearestFrom second u → Waits place last u j ⊎ (Free m j × (nearestFree u (lineAt m j .end) ≢ j + 1)) → place ≤ last →
+        last ≤ count + 1 → ((i k : ℕ) → place ≤ i → i ≤ k → k < last → queued u i ≤ queued u k) →
+        ((i : ℕ) → place ≤ i → i < last → (queued u i ≡ keyOf x j) ⊎ ((k : ℕ) × (place ≤ k) × (k < end) × (queued u i ≡ queued w k))) →
+        ((k : ℕ) → Waits place end w k → Waits place last u k) → Entered m n limit place j note x count end w u last
+    enter kept sent begun room ordered queue still =
+        let n≤ = few h in
+        let f = h .formed in
+        let node = line-ok h j< .end in
+        record {
+          first = first;
+          put = put;
+          lengths = λ k k<. low (lengthsFrom + k) (omega arith) ∙ s .kept .below (lengthsFrom + k) (omega arith);
+          cells = λ i i<. high (nextFrom + i) (omega arith) ∙ s .kept .above (nextFrom + i) (omega arith);
+          heads = λ b b<. ap (λ (y : ℕ). y % listWeight) (high (headsFrom + b) (omega arith)) ∙ s .heads b (omega arith)
+              ∙ ap (λ (y : ℕ). y % listWeight) (head-same b b<);
+          apart = λ b b< d. nears-now b ∙ s .others b (omega arith) d ∙ nears-same b b<;
+          free = λ free. rw (nears-now (lineAt m j .end), ← nears-same _ node) (s .free free .0);
+          barred = λ d. nears-now _ ∙ s .barred d .0 ∙ nears-same _ node;
+          sent = sent;
+          begun = begun;
+          room = room;
+          ordered = ordered;
+          queue = queue;
+          still = still;
+          kept = kept-then (put .kept) (kept-then (kept-within (omega arith) (omega arith) (s .kept)) kept);
+        }
 
 -- All lengths that are found, and all that wait, are level with `d`, and the new length is past it.
 pub record Levelled (m : Map) (n place end j x d : ℕ) (w : List ℕ) : Type 0 where

@@ -1,6 +1,6 @@
 -- How the search goes on from a line with banned turns: where two others have gone on before it from the same node, the turns banned from these are left.
-use Rattle.work_area.specs.Area.{Held, searchTo, lengthsFrom, queueFrom, headsFrom, nextFrom, nearestFrom}
-use Rattle.search.specs.Area.{far, noteWeight, listWeight, keyWeight, lengthTo, predecessor, nearestFree, queued, named, Tie, lineOf}
+use Rattle.work_area.specs.Area.{Held, searchTo, lengthsFrom, nearestFrom}
+use Rattle.search.specs.Area.{far, noteWeight, keyWeight, lengthTo, predecessor, nearestFree, queued, Tie, lineOf}
 use Prim.Native.Nat.{ℕ, _+_, _-_, _/_, _%_, _≤_, _<_}
 use mathlib.Core.Path.{_≡_, refl, sym, _∙_, ap, subst}
 use mathlib.Core.Bool.{Bool, true, false}
@@ -10,7 +10,7 @@ use native.Mathlib.Omega.{arith}
 use lib.ListN.{length, getD}
 use Rattle.model.specs.Lines.{lineAt, turnAmong, Follows}
 use Rattle.buffers.specs.Kept.{Kept}
-use Rattle.search.specs.Steps.{Free, FreeReached, Waits, Counted, Settled, Task, Underway, Grew, GoesOn, GoneBefore, PairFor, WentAlong, WentAlongBans, Sets, Walked, Expanded}
+use Rattle.search.specs.Steps.{Free, FreeReached, Counted, Settled, Task, Underway, Grew, GoesOn, GoneBefore, PairFor, WentAlong, WentAlongBans, Sets, Walked, Expanded}
 use Rattle.search.specs.declared.relax.Going.{Going}
 use Rattle.search.specs.declared.expand.Pair.{Pair}
 use Rattle.buffers.proofs.Kept.{kept-then, kept-within}
@@ -18,8 +18,6 @@ use Rattle.buffers.proofs.Cases.{le-or-lt}
 use Rattle.work_area.proofs.Holding.{held-kept, few, line-ok}
 use Rattle.search.proofs.Follows.{known, follows-unless}
 use Rattle.search.proofs.Keeping.{key-same, underway-same}
-use Rattle.search.proofs.Reached.{listing-same, count-le}
-use Rattle.search.proofs.Nearness.{nearest-lengths}
 use Rattle.search.proofs.Growing.{grew-then, free-grew, backed-grew, settled-grew}
 use Rattle.search.proofs.Passing.{class-of, waiting, counted-then, goes-of, sets-node, sets-bans, expanded, past}
 

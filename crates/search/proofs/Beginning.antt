@@ -1,10 +1,10 @@
 -- How a search begins: no line is reached, or the first line alone, which waits.
-use Rattle.work_area.specs.Area.{linePlace, lineLength, lineFrc, lengthsFrom, queueFrom, headsFrom, nextFrom, Held}
+use Rattle.work_area.specs.Area.{linePlace, lineLength, lineFrc, queueFrom, Held}
 use Rattle.model.specs.Map.{greatestLineCount, Map}
 use Rattle.model.specs.Reading.{greatestLegLength}
-use Rattle.search.specs.Area.{listWeight, nearestFree, queued, keyOf}
-use Prim.Native.Nat.{ℕ, _+_, _/_, _%_, _≤_, _<_}
-use mathlib.Core.Path.{_≡_, _∙_, ap}
+use Rattle.search.specs.Area.{queued, keyOf}
+use Prim.Native.Nat.{ℕ, _+_, _≤_, _<_}
+use mathlib.Core.Path.{_≡_, _∙_}
 use mathlib.Core.Bool.{Bool}
 use mathlib.Core.List.{List, [], _∷_}
 use mathlib.Core.Logic.{inl}
@@ -13,10 +13,10 @@ use lib.ListN.{length, getD, set}
 use lib.Seq.{getD-set-same, getD-set-other}
 use Rattle.model.specs.Lines.{lineAt}
 use Rattle.search.specs.Steps.{task, Underway, Reset, Begun, Put, Sent}
-use Rattle.buffers.proofs.Kept.{kept-then, kept-within, kept-set}
+use Rattle.buffers.proofs.Kept.{kept-then, kept-set}
 use Rattle.work_area.proofs.Holding.{held-kept, few, line-ok}
 use Rattle.search.proofs.Plain.{way-one, total-one}
-use Rattle.search.proofs.Arriving.{Entered, Levelled, entered, found-now}
+use Rattle.search.proofs.Arriving.{Entered, Levelled, entered, found-now, enter}
 
 module _ {m : Map} {n f limit : ℕ} {w v : List ℕ} (h : Held w n m) (f< : f < n) (small : limit ≤ greatestLegLength) (k : Reset m n w v) where
   -- No line is reached.
@@ -77,39 +77,15 @@ module _ {m : Map} {n f limit : ℕ} {w v : List ℕ} (h : Held w n m) (f< : f <
     apart : (a : ℕ) → (a ≡ queueFrom → ⊥) → getD u a 0 ≡ getD w₂ a 0
     apart a d = getD-set-other w₂ queueFrom a key 0 d
 
-    end-f : lineAt m f .end < length (m .nodes)
-    end-f = line-ok h f< .end
-
-    head-same : (b : ℕ) → b < length (m .nodes) → getD w₁ (headsFrom + b) 0 ≡ getD v (headsFrom + b) 0
-    head-same b b< = let y = h .formed in put .rest (headsFrom + b) (omega arith) (omega arith)
-
-    nears-same : (b : ℕ) → b < length (m .nodes) → nearestFree w₁ b ≡ nearestFree v b
-    nears-same b b< = ap (λ (y : ℕ). y / listWeight) (head-same b b<)
-
-    nears-now : (b : ℕ) → nearestFree u b ≡ nearestFree w₂ b
-    nears-now b = ap (λ (y : ℕ). y / listWeight) (apart (headsFrom + b) (omega arith))
-
     enters : Entered m n limit 0 f 0 x 0 0 v u 1
     enters =
-        let y = n≤ in
-        let z = h .formed in
-        record {
-          first = w₁;
-          put = put;
-          lengths = λ l l<. apart (lengthsFrom + l) (omega arith) ∙ sent .kept .below (lengthsFrom + l) (omega arith);
-          cells = λ i i<. apart (nextFrom + i) (omega arith) ∙ sent .kept .above (nextFrom + i) (omega arith);
-          heads = λ b b<. ap (λ (y : ℕ). y % listWeight) (apart (headsFrom + b) (omega arith)) ∙ sent .heads b (omega arith) ∙ ap (λ (y : ℕ). y % listWeight) (head-same b b<);
-          apart = λ b b< d. nears-now b ∙ sent .others b (omega arith) d ∙ nears-same b b<;
-          free = λ free. rw (nears-now (lineAt m f .end), ← nears-same _ end-f) (sent .free free .0);
-          barred = λ d. nears-now _ ∙ sent .barred d .0 ∙ nears-same _ end-f;
-          sent = inl (0, omega arith, omega arith, omega (arith, key-here));
-          begun = omega arith;
-          room = omega arith;
-          ordered = λ i j p≤ i≤ j<. let e : i ≡ j = omega arith in rw e (omega arith);
-          queue = λ i p≤ i<. let e : i ≡ 0 = omega arith in inl (rw e key-here);
-          still = λ l t. absurd (omega (arith, t .2));
-          kept = kept-then (put .kept) (kept-then (kept-within (omega arith) (omega arith) (sent .kept)) (kept-set queueFrom key (omega arith) (omega arith)));
-        }
+        enter (held-kept (omega arith) (k .kept) h) f< put sent u 1 (λ a a<. apart a (omega arith)) (λ a a≤. apart a (omega arith))
+        (kept-set queueFrom key (omega arith) (omega arith))
+        (inl (0, omega arith, omega arith, let n≤ = few h in omega (arith, key-here)))
+        (omega arith) (omega arith)
+        (λ i j p≤ i≤ j<. let e : i ≡ j = omega arith in rw e (omega arith))
+        (λ i p≤ i<. let e : i ≡ 0 = omega arith in inl (rw e key-here))
+        (λ l t. absurd (omega (arith, t .2)))
 
     levelled : Levelled m n 0 0 f x 0 v
     levelled =

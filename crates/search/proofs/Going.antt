@@ -1,7 +1,7 @@
 -- How the search goes on from a line: at one line that can follow it, along the adjacency list of all, and past it.
-use Rattle.work_area.specs.Area.{linePlace, lineLength, lineFrc, searchFrom, lengthsFrom, queueFrom, headsFrom, nextFrom, nearestFrom}
+use Rattle.work_area.specs.Area.{linePlace, lineLength, lineFrc, lengthsFrom, queueFrom}
 use Rattle.model.specs.Map.{greatestLineCount, Map}
-use Rattle.search.specs.Area.{far, several, noteWeight, listWeight, lengthTo, predecessor, nearestFree, queued, Tie, lineOf, keyOf}
+use Rattle.search.specs.Area.{far, several, noteWeight, lengthTo, predecessor, queued, Tie, lineOf, keyOf}
 use Prim.Native.Nat.{ℕ, _+_, _-_, _/_, _%_, _≤_, _<_}
 use mathlib.Core.Path.{_≡_, refl, sym, _∙_, ap, subst}
 use mathlib.Core.Bool.{true}
@@ -12,20 +12,18 @@ use native.Mathlib.Decide.{ℕ-discrete}
 use borrow.Author.Tests.{eq-eqb}
 use lib.ListN.{length, getD}
 use Rattle.model.specs.Lines.{lineAt, Follows}
-use Rattle.buffers.specs.Kept.{Kept}
-use Rattle.search.specs.Steps.{Free, Waits, Backed, Counted, Standing, Queued, Task, Underway, Grew, Noted, TieNoted, Inserted, Arrived, Notable, Goes, Relaxed}
+use Rattle.search.specs.Steps.{Waits, Backed, Counted, Queued, Task, Underway, Grew, Noted, TieNoted, Inserted, Arrived, Notable, Goes, Relaxed}
 use Rattle.search.specs.declared.relax.Going.{Going}
-use Rattle.buffers.proofs.Kept.{kept-none, kept-then, kept-within}
+use Rattle.buffers.proofs.Kept.{kept-none, kept-within}
 use Rattle.buffers.proofs.Cases.{le-or-lt, here-or}
 use Rattle.work_area.proofs.Holding.{held-kept, few, line-ok}
 use Rattle.search.proofs.Plain.{way-more, total-more}
 use Rattle.search.proofs.Follows.{known, follows-free}
-use Rattle.search.proofs.Reached.{listing-same, count-le, room-left}
-use Rattle.search.proofs.Nearness.{nearest-lengths}
-use Rattle.search.proofs.Growing.{grew-none, free-grew, backed-grew, settled-grew}
+use Rattle.search.proofs.Reached.{count-le, room-left}
+use Rattle.search.proofs.Growing.{grew-none, free-grew, backed-grew}
 use Rattle.search.proofs.Queueing.{queue-kept, queued-in, waits-more, waits-new, ordered-more}
 use Rattle.search.proofs.Keeping.{key-same, underway-same}
-use Rattle.search.proofs.Arriving.{Entered, Levelled, free-or, grew, entered, found-now, noted-now}
+use Rattle.search.proofs.Arriving.{Entered, Levelled, free-or, grew, entered, found-now, noted-now, enter}
 
 -- What is noted.
 noted-cases : {x note y : ℕ} → Noted x note y → ((x ≡ 0) × (y ≡ note)) ⊎ (((x ≡ note) × (y ≡ note)) ⊎ ((y ≡ several) × (0 < x) × (x ≢ note)))
@@ -246,9 +244,6 @@ module _ {q : Task} {n c limit place count end j : ℕ} {w : List ℕ} {going : 
     queue-same i i< =
         queue-kept (a .put) (a .nears) i (let e = end≤ in let y = n≤ in omega arith)
 
-    head-same : (b : ℕ) → b < length (m .nodes) → getD (a .first) (headsFrom + b) 0 ≡ getD w (headsFrom + b) 0
-    head-same b b< = let y = g .held .formed in a .put .rest (headsFrom + b) (omega arith) (omega arith)
-
     levelled : Levelled m n place end j x (going .length) w
     levelled =
         record {
@@ -258,44 +253,6 @@ module _ {q : Task} {n c limit place count end j : ℕ} {w : List ℕ} {going : 
           top = omega (arith, length-at);
         }
 
-    end-j : lineAt m j .end < length (m .nodes)
-    end-j = line-ok (g .held) j< .end
-
-    nears-same : (b : ℕ) → b < length (m .nodes) → nearestFree (a .first) b ≡ nearestFree w b
-    nears-same b b< = ap (λ (y : ℕ). y / listWeight) (head-same b b<)
-
-    -- The area behind the queue and before it is that of the second step.
-    module _ (u : List ℕ) (last : ℕ) (low : (k : ℕ) → k < queueFrom → getD u k 0 ≡ getD (a .second) k 0)
-        (high : (k : ℕ) → headsFrom ≤ k → getD u k 0 ≡ getD (a .second) k 0) where
-      nears-now : (b : ℕ) → nearestFree u b ≡ nearestFree (a .second) b
-      nears-now b = ap (λ (y : ℕ). y / listWeight) (high (headsFrom + b) (omega arith))
-
-      enter : Kept searchFrom nearestFrom (a .second) u → Waits place last u j ⊎ (Free m j × (nearestFree u (lineAt m j .end) ≢ j + 1)) → place ≤ last → last ≤ count + 1 →
-          ((i k : ℕ) → place ≤ i → i ≤ k → k < last → queued u i ≤ queued u k) →
-          ((i : ℕ) → place ≤ i → i < last → (queued u i ≡ keyOf x j) ⊎ ((k : ℕ) × (place ≤ k) × (k < end) × (queued u i ≡ queued w k))) →
-          ((k : ℕ) → Waits place end w k → Waits place last u k) → Entered m n limit place j (going .note) x count end w u last
-      enter kept sent begun room ordered queue still =
-          let y = n≤ in
-          let few = g .held .formed in
-          record {
-            first = a .first;
-            put = a .put;
-            lengths = λ k k<. low (lengthsFrom + k) (omega arith) ∙ a .nears .kept .below (lengthsFrom + k) (omega arith);
-            cells = λ i i<. high (nextFrom + i) (omega arith) ∙ a .nears .kept .above (nextFrom + i) (omega arith);
-            heads = λ b b<. ap (λ (y : ℕ). y % listWeight) (high (headsFrom + b) (omega arith)) ∙ a .nears .heads b (omega arith)
-                ∙ ap (λ (y : ℕ). y % listWeight) (head-same b b<);
-            apart = λ b b< d. nears-now b ∙ a .nears .others b (omega arith) d ∙ nears-same b b<;
-            free = λ free. rw (nears-now (lineAt m j .end), ← nears-same _ end-j) (a .nears .free free .0);
-            barred = λ d. nears-now _ ∙ a .nears .barred d .0 ∙ nears-same _ end-j;
-            sent = sent;
-            begun = begun;
-            room = room;
-            ordered = ordered;
-            queue = queue;
-            still = still;
-            kept = kept-then (a .put .kept) (kept-then (kept-within (omega arith) (omega arith) (a .nears .kept)) kept);
-          }
-
     entered-in : Entered m n limit place j (going .note) x count end w v end′
     entered-in = ⊎-elim into (λ e. rw (e .1) (subst (λ (u : List ℕ). Entered m n limit place j (going .note) x count end w u end) (sym (e .2)) (out (e .0)))) (a .queue)
       where
@@ -304,7 +261,7 @@ module _ {q : Task} {n c limit place count end j : ℕ} {w : List ℕ} {going : 
 
         out : a .sent ≢ true → Entered m n limit place j (going .note) x count end w (a .second) end
         out d =
-            enter (a .second) end (λ k k<. refl) (λ k k≤. refl) kept-none
+            enter (g .held) j< (a .put) (a .nears) (a .second) end (λ k k<. refl) (λ k k≤. refl) kept-none
             (inr (⊎-elim
             (λ free. (free, λ e. d (a .nears .free free .1 ∙ eq-eqb _ _ e)))
             (λ barred. absurd (d (a .nears .barred barred .1)))
@@ -322,7 +279,7 @@ module _ {q : Task} {n c limit place count end j : ℕ} {w : List ℕ} {going : 
             let p = o .inside in
             let key : lineOf (keyOf x j) ≡ j = omega arith in
             rw (e .1)
-            (enter v (end + 1) (λ k k<. s .kept .below k (omega arith)) (λ k k≤. s .kept .above k (let room = room-left (g .listing) j< fresh in let r = g .room in omega arith))
+            (enter (g .held) j< (a .put) (a .nears) v (end + 1) (λ k k<. s .kept .below k (omega arith)) (λ k k≤. s .kept .above k (let room = room-left (g .listing) j< fresh in let r = g .room in omega arith))
             (kept-within (omega arith) (let room = room-left (g .listing) j< fresh in let r = g .room in omega arith) (s .kept))
             (inl (waits-new s key))
             (omega arith) (let b = g .room in omega arith)

@@ -56,7 +56,7 @@ bearingBack = 6
 -- ---- behind the map: the cells of searches
 
 -- For each line the length found to it and its predecessor; the lines that a search goes on from; for each node the first line of its adjacency
--- list, and for each line the next of that list; for each node the nearest line that ends there.
+-- list, and for each line the next of that list; for each node the nearest line that ends there, or what a search keeps there for itself.
 abbrev pub searchFrom : ℕ
 searchFrom = linesFrom + lineSize * greatestLineCount
 
