@@ -22,7 +22,7 @@ cat >"$copy/count.py" <<'END'
 import os
 
 row_file = os.environ["ROW_FILE"]
-names = ("search::search", "leg_tests::leg_search::test_leg")
+names = ("search::search", "leg_tests::leg_search::verdict_on")
 breakpoints = [gdb.Breakpoint(name) for name in names]
 for breakpoint in breakpoints:
     if breakpoint.pending:

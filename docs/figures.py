@@ -31,7 +31,7 @@ Readings of over 2,304 lines are made twice; a C host's lists have 1,024 at most
 SEARCHES = """\
 ## Searches
 
-One search from a first line up to a limit, against three plain ones: proved µs / plain µs = ratio. The last three maps are made against the search. Reader
+One search back from a line up to a limit, against three plain ones: proved µs / plain µs = ratio. The last three maps are made against the search. Reader
 and writer in plain Rust use the heap of nodes and lines.
 """
 

@@ -45,13 +45,13 @@ def map_row(outcome):
     nodes, lines, bans = len(outcome.nodes), len(outcome.lines), len(outcome.bans)
     numbers = map_numbers(replace(outcome, bans=()))
     del numbers[-1], numbers[1 + 2 * nodes], numbers[0]
-    numbers += [number for ban in bans_by_first_line(outcome.bans) for number in ban]
+    numbers += [number for ban in bans_by_second_line(outcome.bans) for number in ban]
     return f"nodes {nodes} lines {lines} bans {bans} sum {number_sum(numbers)}"
 
 
-def bans_by_first_line(bans):
-    """In the order of their first lines; of one first line, those listed last come first."""
-    return sorted(reversed(bans), key=lambda ban: ban[0])
+def bans_by_second_line(bans):
+    """In the order of their second lines; of one second line, those listed last come first."""
+    return sorted(reversed(bans), key=lambda ban: ban[1])
 
 
 def test_maps():

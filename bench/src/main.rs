@@ -7,7 +7,7 @@ mod worst;
 use std::hint::black_box;
 use std::time::{Duration, Instant};
 
-use plain::depot_map::DepotMap;
+use plain::depot_map::{DepotMap, Direction};
 use plain::maps::{
     chain, grid, hub, random_graph, random_walk, reference_with_legs, steep, Bans, Lengths,
     MapPlan, Turns, Xorshift,
@@ -223,13 +223,14 @@ fn first_lines(sample: &Sample) -> [u32; INPUTS] {
 /// Searches in one call of the proved function, so that the map's decoding weighs little.
 const SEARCHES: u32 = 100;
 
-/// The proved search is timed by the difference between `SEARCHES` searches and none, each with a
-/// decoding of the map before it.
+/// Both search back from a line. The proved search is timed by the difference between `SEARCHES`
+/// searches and none, each with a decoding of the map before it.
 fn print_search_row(sample: &Sample, bounds: [Bounds; INPUTS], method: Method, what: &str) {
     let mut plain_search = Search::new(&sample.map, method);
     let mut plain = |input: usize| {
         for _ in 0..SEARCHES {
-            plain_search.run(&sample.map, black_box(bounds[input]));
+            let bounds = black_box(bounds[input]);
+            plain_search.run_for(&sample.map, Direction::Back, bounds, 1);
             black_box(&plain_search);
         }
     };

@@ -4,7 +4,7 @@
 use std::hint::black_box;
 use std::time::{Duration, Instant};
 
-use plain::depot_map::DepotMap;
+use plain::depot_map::{DepotMap, Direction};
 use plain::outcome::{Outcome, Reading, WORK_AREA};
 use plain::reader::read;
 use plain::search::{Bounds, Method, Search};
@@ -102,7 +102,7 @@ fn times_after(first: [Duration; 2], ours: &mut dyn FnMut(), plain: &mut dyn FnM
     }
 }
 
-/// The proved function decodes the map before its search. That is timed by itself and taken off.
+/// Both search back from a line. The proved function decodes the map before its search. That is timed by itself and taken off.
 fn print_search_row(sample: &Sample) {
     let bounds = Bounds {
         first: sample.case.first,
@@ -111,7 +111,7 @@ fn print_search_row(sample: &Sample) {
     };
     let mut search = Search::new(&sample.map, Method::NodeAndLineHeap);
     let mut plain = || {
-        search.run(&sample.map, black_box(bounds));
+        search.run_for(&sample.map, Direction::Back, black_box(bounds), 1);
         black_box(&search);
     };
     let mut work_area = vec![0; WORK_AREA];
@@ -213,7 +213,7 @@ fn print_reading_row(sample: &Sample) -> Printed {
     let outcome = outcome.expect("it is read");
     ours.check(&outcome);
     let lines = outcome.as_ref().map_or(0, |reading| reading.lines.len());
-    let (name, outcome) = (sample.case.name, outcome_text(&outcome));
+    let (name, outcome) = (&sample.case.name, outcome_text(&outcome));
     let what = format!("read, {name}, legs {count}, lines {lines}, {outcome}");
     let times = times_after(first, &mut || ours.run(), &mut || drop(read()));
     print_row(&what, times);
@@ -296,7 +296,7 @@ fn print_writing_row(sample: &Sample) -> Printed {
     let outcome = outcome.expect("it is written");
     ours.check(&outcome);
     let legs = outcome.as_ref().map_or(0, |bytes| (bytes.len() - 9) / 7);
-    let (name, outcome) = (sample.case.name, outcome_text(&outcome));
+    let (name, outcome) = (&sample.case.name, outcome_text(&outcome));
     let what = format!("write, {name}, lines {count}, legs {legs}, {outcome}");
     let times = times_after(first, &mut || ours.run(), &mut || drop(write()));
     print_row(&what, times);

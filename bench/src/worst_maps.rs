@@ -11,16 +11,23 @@ pub const MOST_LEGS: usize = 64;
 
 /// A map, and calls on it.
 pub struct WorstCase {
-    pub name: &'static str,
+    pub name: String,
     pub plan: MapPlan,
-    /// The line that a search starts from.
+    /// The line that a search goes back from.
     pub first: u32,
     /// The lines of each leg of a reading.
     pub legs: Vec<Vec<u32>>,
     pub stretch: Vec<u32>,
 }
 
+/// The maps made against a search that goes along the lines, and then the same maps mirrored: they
+/// are made against one that goes back.
 pub fn worst_cases() -> Vec<WorstCase> {
+    let mirrored_cases = cases().into_iter().map(mirrored);
+    cases().into_iter().chain(mirrored_cases).collect()
+}
+
+fn cases() -> Vec<WorstCase> {
     vec![
         hub_case("hub", &|_| 1),
         hub_case("hub, lengths falling", &|number| 512 - number / 2),
@@ -31,6 +38,7 @@ pub fn worst_cases() -> Vec<WorstCase> {
         hub_with_a_ban_each("a ban on each of 512 lines", &|number| 1 + number / 2),
         hub_with_last_lines_alike(),
         hub_with_two_banned_lines(),
+        hub_with_two_banned_next_lines(),
         ladder("ladder of 2 lines a step", 2),
         ladder("ladder of 16 lines a step", 16),
         long_chain(),
@@ -44,6 +52,41 @@ pub fn worst_cases() -> Vec<WorstCase> {
         loops_before_a_steep_hub(),
         loops_after_a_steep_hub(),
     ]
+}
+
+/// Every line the other way round, and so every ban, leg and stretch. The line that the stretch and
+/// the last leg end with has marks of its own there.
+fn mirrored(case: WorstCase) -> WorstCase {
+    let WorstCase {
+        name,
+        mut plan,
+        first,
+        mut legs,
+        mut stretch,
+    } = case;
+    for line in &mut plan.lines {
+        std::mem::swap(&mut line.start, &mut line.end);
+        std::mem::swap(&mut line.bearing_out, &mut line.bearing_back);
+    }
+    for ban in &mut plan.bans {
+        std::mem::swap(&mut ban.line, &mut ban.next);
+    }
+    for leg in &mut legs {
+        leg.reverse();
+    }
+    legs.reverse();
+    stretch.reverse();
+    for last in [legs.last().and_then(|leg| leg.last()), stretch.last()] {
+        let last = *last.expect("there are legs and lines") as usize;
+        plan.lines[last].bearing_back = LAST_BEARING;
+    }
+    WorstCase {
+        name: format!("{name}, mirrored"),
+        plan,
+        first,
+        legs,
+        stretch,
+    }
 }
 
 const FORM: u8 = 2;
@@ -85,7 +128,7 @@ impl MapPlan {
 /// 64 legs along the loop, and 64 lines of it.
 fn loop_case(name: &'static str, plan: MapPlan, first: u32, around: [u32; 2]) -> WorstCase {
     WorstCase {
-        name,
+        name: name.to_string(),
         plan,
         first,
         legs: vec![around.to_vec(); MOST_LEGS],
@@ -111,7 +154,7 @@ fn there_and_back(name: &'static str, plan: MapPlan) -> WorstCase {
     let count = plan.lines.len() as u32;
     let stretch = [count - 2, count - 1].repeat(MOST_LEGS / 2);
     WorstCase {
-        name,
+        name: name.to_string(),
         plan,
         first: 1,
         legs: stretch.iter().map(|&line| vec![line]).collect(),
@@ -151,7 +194,10 @@ fn hub_with_a_ban_each(name: &'static str, length_of: &dyn Fn(u32) -> u32) -> Wo
 /// last line is tried. Only the two long ones give D.
 fn hub_with_last_lines_alike() -> WorstCase {
     let name = "a ban on each of 512 lines, all last lines alike";
-    let mut case = hub_with_a_ban_each(name, &|_| 1);
+    last_lines_alike(hub_with_a_ban_each(name, &|_| 1))
+}
+
+fn last_lines_alike(mut case: WorstCase) -> WorstCase {
     for line in &mut case.plan.lines {
         line.bearing_back = 0;
     }
@@ -168,6 +214,17 @@ fn hub_with_two_banned_lines() -> WorstCase {
     let bans = lines.zip(backs).map(|(line, next)| Ban { line, next });
     plan.bans = bans.collect();
     there_and_back("2 lines with 256 bans each", plan)
+}
+
+/// The hub, and into two lines there 256 turns each are banned. All lines arrive with the same marks.
+fn hub_with_two_banned_next_lines() -> WorstCase {
+    let mut plan = hub_plan(&|_| 1);
+    let backs = (1..FULL_LINES as u32 - 2).step_by(2).cycle();
+    let next_lines = [0, 2].into_iter().flat_map(|next| [next; 256]);
+    let bans = backs.zip(next_lines).map(|(line, next)| Ban { line, next });
+    plan.bans = bans.collect();
+    let name = "256 bans into each of 2 lines, all last lines alike";
+    last_lines_alike(there_and_back(name, plan))
 }
 
 /// Nodes in a row, with this many lines of one length each way between neighbours.
@@ -196,7 +253,7 @@ fn long_chain() -> WorstCase {
     let there: Vec<u32> = (0..count).step_by(2).collect();
     let back: Vec<u32> = (1..count).step_by(2).rev().collect();
     WorstCase {
-        name: "long chain",
+        name: "long chain".to_string(),
         plan,
         first: 0,
         stretch: there[..MOST_LEGS].to_vec(),
@@ -327,7 +384,7 @@ fn first_and_last_lines() -> WorstCase {
     legs.push(last_leg.clone());
     let loops = (MOST_LEGS - last_leg.len()) / 2;
     WorstCase {
-        name: "many first and last lines",
+        name: "many first and last lines".to_string(),
         plan,
         first,
         legs,
@@ -367,7 +424,7 @@ fn add_loops(plan: &mut MapPlan) -> Vec<u32> {
 
 fn loops_case(name: &'static str, plan: MapPlan, first: u32, lines: Vec<u32>) -> WorstCase {
     WorstCase {
-        name,
+        name: name.to_string(),
         plan,
         first,
         legs: lines.iter().map(|&line| vec![line]).collect(),

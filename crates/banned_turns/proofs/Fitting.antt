@@ -18,6 +18,10 @@ pub fits-first : (lines : List Line) (t : Turn) → fitting lines t ≡ true →
 unfolding fitting
 fits-first lines t e = ltb-true _ _ (both (ltb (t .first) (length lines)) _ e .0)
 
+pub fits-second : (lines : List Line) (t : Turn) → fitting lines t ≡ true → t .second < length lines
+unfolding fitting
+fits-second lines t e = ltb-true _ _ (both (ltb (t .second) (length lines)) _ (both (ltb (t .first) (length lines)) _ e .1) .0)
+
 pub fitting-more : (bans : List Turn) (t : Turn) (lines : List Line) → allFitting lines (bans ++ t ∷ []) ≡ (allFitting lines bans && fitting lines t)
 unfolding allFitting
 fitting-more bans t lines = go bans

@@ -1,4 +1,5 @@
-// The banned turns of a map in the work area: those from one line are a chain, the last one first.
+// The banned turns in the work area: those from one line are a chain, the last one first. They are turns of the mirrored map: the turn that is banned
+// from line `l` into line `k` of the map stands there as one from line `k` into line `l`.
 use buffers::wide;
 use work_area::BAN_EARLIER;
 use work_area::BAN_HEADS;
@@ -14,6 +15,7 @@ ghost use Rattle.model.specs.Map.{Turn, greatestBanCount, greatestLineCount, fi
 ghost use Rattle.model.specs.Lines.{turnAmong};
 ghost use Rattle.model.specs.Work.{workLength};
 ghost use Rattle.work_area.specs.Area.{banChain, BansHeld};
+ghost use Rattle.work_area.specs.Mirror.{mirrorTurns};
 ghost use Rattle.work_area.specs.Held.{heldLines};
 ghost use Rattle.banned_turns.specs.Put.{BanPut};
 
@@ -67,10 +69,11 @@ pub fn in_chain(work: &[u32], lines: usize, chain: usize, k: usize) -> bool
     false
 }
 
-// Whether the turn from line `l` into line `k` is banned.
+// Whether the turn from line `l` into line `k` of the map is banned: it stands in the chain of line `k`, mirrored.
 pub fn banned(work: &[u32], lines: usize, l: usize, k: usize) -> bool
-    requires { ⌜ (l < lines) × (lines ≤ greatestLineCount) × (workLength ≤ length (now work)) × ((bans : List Turn) × BansHeld (now work) lines bans) ⌝ }
-    ensures { λ r. ⌜ ((bans : List Turn) → BansHeld (now (work .entry)) lines bans → r ≡ turnAmong bans l k) ⌝ }
+    requires { ⌜ (k < lines) × (lines ≤ greatestLineCount) × (workLength ≤ length (now work))
+        × ((bans : List Turn) × BansHeld (now work) lines (mirrorTurns bans)) ⌝ }
+    ensures { λ r. ⌜ ((bans : List Turn) → BansHeld (now (work .entry)) lines (mirrorTurns bans) → r ≡ turnAmong bans l k) ⌝ }
 {
-    in_chain(work, lines, bans_from(work, lines, l), k)
+    in_chain(work, lines, bans_from(work, lines, k), l)
 }

@@ -2,9 +2,9 @@
 use Prim.Native.Nat.{ℕ, suc, _+_, _-_, _≤_, _<_}
 use mathlib.Core.Path.{_≡_, refl, sym, ap₂, subst, _∙_}
 use mathlib.Core.Bool.{Bool, true, false, _&&_}
-use mathlib.Core.List.{List, [], _∷_, _++_}
+use mathlib.Core.List.{List, [], _∷_, _++_, map-append}
 use native.Mathlib.Omega.{arith}
-use lib.ListN.{length, drop, length-append}
+use lib.ListN.{length, drop, length-append, length-map}
 use Rattle.model.specs.declared.Refusal.{Refusal}
 use Rattle.model.specs.Map.{Node, Line, Turn, MapAnswer, whole, ended, readBan, decodeBans, clash, allFitting, greatestNodeCount, greatestLineCount, greatestBanCount}
 use Rattle.model.specs.Work.{workLength}
@@ -12,12 +12,13 @@ use Rattle.model.proofs.Tests.{both}
 use Rattle.buffers.specs.Kept.{Kept, Filled}
 use Rattle.buffers.proofs.Kept.{kept-none, kept-then, kept-within}
 use Rattle.work_area.specs.Area.{codesFrom, codesTo, bansFrom, BansHeld}
+use Rattle.work_area.specs.Mirror.{mirrorTurn, mirrorTurns}
 use Rattle.work_area.specs.Held.{heldLine, heldNodes, heldLines}
 use Rattle.work_area.proofs.Held.{listed-length, nodes-same, lines-same}
 use Rattle.work_area.proofs.Holding.{bans-kept}
 use Rattle.banned_turns.specs.Put.{BanPut}
 use Rattle.banned_turns.proofs.Chains.{bans-more, bans-none}
-use Rattle.banned_turns.proofs.Fitting.{fits-first, fitting-more}
+use Rattle.banned_turns.proofs.Fitting.{fits-second, fitting-more}
 use Rattle.depot_map.specs.Stage.{BansTaken, Answered, Stage}
 use Rattle.model.specs.Refusal.{refusalOf}
 use Rattle.depot_map.specs.declared.field.Fault.{Fault}
@@ -103,13 +104,15 @@ module _ {S : MapAnswer} {bytes : List ℕ} {at nodes lines count i : ℕ} {fits
     bigger t = length-append (so-far .bans) (t ∷ []) ∙ (omega (arith, so-far .size))
 
     all-fit : {u : List ℕ} {next : ℕ} {here : Bool} (b : BanGot (readBan (drop at bytes)) bytes i lines next here v u) → (fits && here) ≡ true →
-        BansHeld u lines (so-far .bans ++ b .turn ∷ [])
+        BansHeld u lines (mirrorTurns (so-far .bans ++ b .turn ∷ []))
     all-fit {u} b e =
         let both-fit = both fits _ e in
-        let known = fits-first (heldLines v lines) (b .turn) (sym (b .sorted .tested) ∙ both-fit .1) in
-        bans-more (so-far .bans) (b .turn) (so-far .taken .held (both-fit .0))
-        (subst (λ (n : ℕ). BanPut n (b .turn) v u) (sym (so-far .size)) (b .sorted .put (both-fit .1)))
-        (omega (arith, so-far .size)) (omega (arith, known, listed-length (heldLine v) lines)) few-lines
+        let known = fits-second (heldLines v lines) (b .turn) (sym (b .sorted .tested) ∙ both-fit .1) in
+        let size : length (mirrorTurns (so-far .bans)) ≡ i = length-map (so-far .bans) mirrorTurn ∙ so-far .size in
+        rw (map-append mirrorTurn (so-far .bans) (b .turn ∷ []))
+        (bans-more (mirrorTurns (so-far .bans)) (mirrorTurn (b .turn)) (so-far .taken .held (both-fit .0))
+        (subst (λ (n : ℕ). BanPut n (mirrorTurn (b .turn)) v u) (sym size) (b .sorted .put (both-fit .1)))
+        (omega (arith, size)) (omega (arith, known, listed-length (heldLine v) lines)) few-lines)
 
     pub bans-on : {u : List ℕ} {next : ℕ} {here : Bool} → BanGot (readBan (drop at bytes)) bytes i lines next here v u →
         BansRead S bytes next nodes lines count (i + 1) (fits && here) w u

@@ -10,9 +10,10 @@ use Rattle.depot_map.specs.Step.{faultOf}
 use Rattle.model.specs.Map.{Turn, MapAnswer, refused, fitting, greatestBanCount, greatestLineCount}
 use Rattle.buffers.proofs.Kept.{kept-none}
 use Rattle.work_area.specs.Held.{heldLine, heldLines}
+use Rattle.work_area.specs.Mirror.{mirrorTurn}
 use Rattle.work_area.proofs.Held.{listed-length}
 use Rattle.banned_turns.specs.Put.{BanPut}
-use Rattle.banned_turns.proofs.Fitting.{fits-first}
+use Rattle.banned_turns.proofs.Fitting.{fits-second}
 use Rattle.banned_turns.proofs.Putting.{put-kept}
 use Rattle.depot_map.specs.Bans.{BanSorted, BanGot, BanRefused, BanIsRead}
 use Rattle.depot_map.specs.declared.ban.BanRead.{BanRead}
@@ -37,10 +38,10 @@ module _ (step : (Turn → List ℕ → MapAnswer) → MapAnswer) (bytes w : Lis
 
 -- Put if it fits.
 pub put-sorted : {t : Turn} {i lines : ℕ} {w v : List ℕ} {r : Bool} → r ≡ fitting (heldLines w lines) t → r ≡ true → i < greatestBanCount →
-    lines ≤ greatestLineCount → BanPut i t w v → BanSorted t i lines w v true
+    lines ≤ greatestLineCount → BanPut i (mirrorTurn t) w v → BanSorted t i lines w v true
 put-sorted {t} {lines = lines} {w = w} tested is low few put =
     let here : true ≡ fitting (heldLines w lines) t = sym is ∙ tested in
-    let known = fits-first (heldLines w lines) t (sym here) in
+    let known = fits-second (heldLines w lines) t (sym here) in
     record { tested = here; put = λ e. put; kept = put-kept low (omega (arith, known, listed-length (heldLine w) lines)) put }
 
 pub not-sorted : {t : Turn} {i lines : ℕ} {w : List ℕ} {r : Bool} → r ≡ fitting (heldLines w lines) t → r ≡ false → BanSorted t i lines w w false

@@ -12,6 +12,7 @@ use Rattle.model.specs.Refusal.{refusalOf}
 use Rattle.model.specs.declared.Refusal.{Refusal}
 use Rattle.model.specs.Lines.{nodeAt, lineAt}
 use Rattle.model.proofs.Decoded.{well-formed}
+use Rattle.work_area.specs.Mirror.{mirrorTurns}
 use Rattle.work_area.specs.Held.{heldNode, lineFrom, heldLine, heldNodes, heldLines}
 use Rattle.depot_map.specs.Stage.{Answered}
 use Rattle.depot_map.specs.Answer.{WholeMap, MapAnswers, MapIsRead}
@@ -48,7 +49,7 @@ module _ (w : List ℕ) (nodes lines : ℕ) (bans : List Turn) where
   unfolding lineAt heldLine
   line-held i k h l = line-number w (linePlace i) k l ∙ ap (λ (x : Line). getD (lineNumbers x) k 0) (sym (listed-at (heldLine w) lines i _ h))
 
-  holds : (bytes : List ℕ) → workLength ≤ length w → decode bytes ≡ whole held → BansHeld w lines bans → Holds w nodes lines held
+  holds : (bytes : List ℕ) → workLength ≤ length w → decode bytes ≡ whole held → BansHeld w lines (mirrorTurns bans) → Holds w nodes lines held
   holds bytes full e b =
       record {
         full = full;

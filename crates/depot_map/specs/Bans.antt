@@ -8,6 +8,7 @@ use Rattle.model.specs.Refusal.{row}
 use Rattle.model.specs.Map.{Turn, greatestNumber, MapAnswer, refused, field, fitting}
 use Rattle.buffers.specs.Kept.{Kept}
 use Rattle.work_area.specs.Area.{bansFrom, bansTo}
+use Rattle.work_area.specs.Mirror.{mirrorTurn}
 use Rattle.work_area.specs.Held.{heldLines}
 use Rattle.banned_turns.specs.Put.{BanPut}
 use Rattle.depot_map.specs.declared.field.Fault.{Fault}
@@ -15,10 +16,10 @@ use Rattle.depot_map.specs.Step.{faultOf}
 use Rattle.depot_map.specs.declared.ban.BanRead.{BanRead}
 use Rattle.depot_map.specs.declared.ban.BanRead.the-variants as BanRead
 
--- Turn `i` is put if it fits its lines.
+-- Turn `i` is put, mirrored, if it fits its lines.
 pub record BanSorted (t : Turn) (i lines : ℕ) (w v : List ℕ) (r : Bool) : Type 0 where
   pub tested : r ≡ fitting (heldLines w lines) t
-  pub put : r ≡ true → BanPut i t w v
+  pub put : r ≡ true → BanPut i (mirrorTurn t) w v
   pub kept : Kept bansFrom bansTo w v
 
 -- One banned turn more is read, by `step`, and put if it fits; or a number is refused.

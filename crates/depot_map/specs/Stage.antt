@@ -8,20 +8,21 @@ use Rattle.model.specs.Map.{Turn, MapAnswer, whole, refused, allFitting}
 use Rattle.model.specs.Work.{workLength}
 use Rattle.buffers.specs.Kept.{Kept}
 use Rattle.work_area.specs.Area.{BansHeld}
+use Rattle.work_area.specs.Mirror.{mirrorTurns}
 use Rattle.work_area.specs.Held.{heldNodes, heldLines}
 use Rattle.depot_map.specs.declared.MapRead.{MapRead}
 use Rattle.depot_map.specs.declared.MapRead.the-variants.{Whole, Refused}
 
--- These banned turns were read: whether all fit their lines, and if so they are in the work area.
+-- These banned turns were read: whether all fit their lines, and if so they are in the work area, mirrored.
 pub record BansTaken (w : List ℕ) (lines : ℕ) (bans : List Turn) (fits : Bool) : Type 0 where
   pub tested : fits ≡ allFitting (heldLines w lines) bans
-  pub held : fits ≡ true → BansHeld w lines bans
+  pub held : fits ≡ true → BansHeld w lines (mirrorTurns bans)
 
--- The stage comes to a map: its nodes, lines and banned turns are in the work area.
+-- The stage comes to a map: its nodes, lines and mirrored banned turns are in the work area.
 pub record ComesTo (w : List ℕ) (nodes lines : ℕ) (stage : MapAnswer) : Type 0 where
   pub bans : List Turn
   pub comes : stage ≡ whole (record { nodes = heldNodes w nodes; lines = heldLines w lines; bans = bans })
-  pub held : BansHeld w lines bans
+  pub held : BansHeld w lines (mirrorTurns bans)
 
 -- What an answer says of the stage, with the work area that it leaves.
 unfoldable pub Answered : List ℕ → MapRead → MapAnswer → Type 0

@@ -19,13 +19,13 @@ pub enum BanRead {
     Refused(Fault),
 }
 
-// Puts banned turn `i` if it fits its lines: whether it does.
+// Puts banned turn `i`, mirrored, if it fits its lines: whether it does.
 fn put_fitting(work: &mut [u32], i: usize, lines: u32, first: u32, second: u32) -> bool
     requires { ⌜ (workLength ≤ length (now work)) × (i < greatestBanCount) × (lines ≤ greatestLineCount) ⌝ }
     ensures { λ r. ⌜ BanSorted (record { first = first; second = second }) i lines (now (work .entry)) (now (work .exit)) r ⌝ }
 {
     if fits(work, lines, first, second) {
-        put_ban(work, i, first, second);
+        put_ban(work, i, second, first);
         return true;
     }
     false

@@ -2,9 +2,11 @@
 pub mod Slices
 pub mod Marks
 pub mod Sole
-pub mod Prefix
+pub mod Suffix
 pub mod SoleWays
+pub mod Termini
 pub mod Trials
 pub mod Opening
-pub mod Rows
-pub mod OwnRows
+pub mod Sifting
+pub mod OwnColumns
+pub mod Walking

@@ -1,33 +1,32 @@
--- A part of a stretch's lines, one line more, and its ends.
-use Prim.Native.Nat.{ℕ, _+_, _*_, _-_, _≤_, _<_, max}
+-- A part of a stretch's lines, one line more before it, and its ends.
+use Prim.Native.Nat.{ℕ, suc, _+_, _*_, _-_, _≤_, _<_, max}
 use mathlib.Core.Path.{_≡_, sym, subst, _∙_, ap}
-use mathlib.Core.Logic.{⊎-elim}
+use mathlib.Core.Logic.{_≢_}
 use mathlib.Core.List.{List, [], _∷_, _++_}
-use native.Mathlib.Nat.{eq-or-lt-of-le}
+use native.Mathlib.Decide.{decLt}
 use native.Mathlib.Omega.{arith}
 use lib.ListN.{length, getD, take, drop, set}
-use lib.Seq.{slice, slice-empty, slice-cons, length-slice, length-take-le, drop-append-le, take-take, getD-drop, getD-take, getD-set-same, getD-set-other}
+use lib.Seq.{slice, slice-empty, slice-cons, length-slice, length-take-le, take-take, getD-drop, getD-take, getD-set-same, getD-set-other}
 use Rattle.model.specs.Map.{Map}
 use Rattle.model.specs.Lines.{lineAt, Connected, single, linked, total, lowest, firstOf, lastOf}
 use Rattle.model.specs.Choice.{fromNode, toNode}
-use Rattle.model.proofs.Skipping.{total-append}
 use Rattle.leg_tests.specs.LegTests.{mark}
-use Rattle.stretches.proofs.Stretches.{take-next}
-use Rattle.stretches.proofs.Ends.{last-is, lowest-append}
+use Rattle.stretches.proofs.Ends.{last-is}
 use Rattle.point_choice.proofs.Choosing.{cut-at}
 
-module _ (s : List ℕ) (i j : ℕ) (h : i ≤ j) (l : j < length s) where
-  slice-on : slice i (j + 1) s ≡ slice i j s ++ (getD s j 0 ∷ [])
-  slice-on =
-      ap (drop i) (take-next s j l)
-      ∙ drop-append-le i (take j s) (getD s j 0 ∷ []) (let e = length-take-le j s (omega arith) in omega arith)
+module _ (s : List ℕ) (i j : ℕ) (some : 0 < i) (h : i ≤ j) (l : j ≤ length s) where
+  slice-back : slice (i - 1) j s ≡ getD s (i - 1) 0 ∷ slice i j s
+  slice-back =
+      let e : suc (i - 1) ≡ i = omega arith in
+      slice-cons (i - 1) j s 0 (omega arith) l ∙ ap (λ (k : ℕ). getD s (i - 1) 0 ∷ slice k j s) e
 
-  pub total-slice-on : (m : Map) → total m (slice i (j + 1) s) ≡ total m (slice i j s) + lineAt m (getD s j 0) .length
+  pub total-slice-back : (m : Map) → total m (slice (i - 1) j s) ≡ total m (slice i j s) + lineAt m (getD s (i - 1) 0) .length
   unfolding total
-  total-slice-on m = rw (slice-on, total-append) (omega arith)
+  total-slice-back m = rw slice-back (omega arith)
 
-  pub lowest-slice-on : (m : Map) → lowest m (slice i (j + 1) s) ≡ max (lowest m (slice i j s)) (lineAt m (getD s j 0) .frc)
-  lowest-slice-on m = rw slice-on (lowest-append m (slice i j s) (getD s j 0))
+  pub lowest-slice-back : (m : Map) → lowest m (slice (i - 1) j s) ≡ max (lowest m (slice i j s)) (lineAt m (getD s (i - 1) 0) .frc)
+  unfolding lowest
+  lowest-slice-back m = rw slice-back (omega arith)
 
 module _ (m : Map) (s : List ℕ) (i : ℕ) where
   pub total-slice-none : 0 ≡ total m (slice i i s)
@@ -79,13 +78,31 @@ connected-back (x ∷ []) [] h c = absurd (omega arith)
 connected-back (x ∷ []) (y ∷ ys) h (linked l f c) = c
 connected-back (x ∷ x′ ∷ xs) ys h (linked l f c) = connected-back (x′ ∷ xs) ys h c
 
--- One number more of a row is stored.
-pub row-set : (P : ℕ → ℕ → Type 0) (table : List ℕ) (i j x : ℕ) → 65 * i + (j + 1) < length table →
-    ((k : ℕ) → i < k → k ≤ j → P k (mark table i k)) → P (j + 1) x →
-    (k : ℕ) → i < k → k ≤ j + 1 → P k (mark (set table (65 * i + (j + 1)) x) i k)
-row-set P table i j x room before here k h l =
-    ⊎-elim
-    (λ e. subst (λ (q : ℕ). P q (mark (set table (65 * i + (j + 1)) x) i q)) (sym e)
-    (subst (P (j + 1)) (sym (getD-set-same table (65 * i + (j + 1)) x 0 room)) here))
-    (λ lt. rw (getD-set-other table (65 * i + (j + 1)) (65 * i + k) x 0 (λ e. omega arith)) (before k h (omega arith)))
-    (eq-or-lt-of-le l)
+-- A number of a column is stored: the other ones of the column, and those of other columns.
+module _ (table : List ℕ) (i j x : ℕ) where
+  pub same-column : (k : ℕ) → k ≢ i → mark (set table (65 * i + j) x) k j ≡ mark table k j
+  same-column k differs = getD-set-other table (65 * i + j) (65 * k + j) x 0 (λ e. differs (omega arith))
+
+  pub other-column : j ≤ 64 → (k q : ℕ) → q ≤ 64 → q ≢ j → mark (set table (65 * i + j) x) k q ≡ mark table k q
+  other-column h k q l differs = getD-set-other table (65 * i + j) (65 * k + q) x 0 (λ e. differs (omega arith))
+
+-- One number more of a column is stored, after those that are, and before them.
+pub column-more : (table : List ℕ) (i j x : ℕ) → 65 * i + j < length table → ((k : ℕ) → k < i → mark table k j ≡ x) →
+    (k : ℕ) → k < i + 1 → mark (set table (65 * i + j) x) k j ≡ x
+column-more table i j x room before k h = go (decLt k i)
+  where
+    go : Dec (k < i) → mark (set table (65 * i + j) x) k j ≡ x
+    go (yes earlier) = same-column table i j x k (λ e. omega arith) ∙ before k earlier
+    go (no last) = let e : k ≡ i = omega arith in rw e (getD-set-same table (65 * i + j) x 0 room)
+
+pub column-set : (P : ℕ → ℕ → Type 0) (table : List ℕ) (i j x : ℕ) → 0 < i → 65 * (i - 1) + j < length table →
+    ((k : ℕ) → i ≤ k → k < j → P k (mark table k j)) → P (i - 1) x →
+    (k : ℕ) → i - 1 ≤ k → k < j → P k (mark (set table (65 * (i - 1) + j) x) k j)
+column-set P table i j x some room before here k h l = go (decLt (i - 1) k)
+  where
+    go : Dec (i - 1 < k) → P k (mark (set table (65 * (i - 1) + j) x) k j)
+    go (yes after) = subst (P k) (sym (same-column table (i - 1) j x k (λ e. omega arith))) (before k (omega arith) l)
+    go (no inside) =
+        let e : k ≡ i - 1 = omega arith in
+        subst (λ (q : ℕ). P q (mark (set table (65 * (i - 1) + j) x) q j)) (sym e)
+        (subst (P (i - 1)) (sym (getD-set-same table (65 * (i - 1) + j) x 0 room)) here)

@@ -1,61 +1,66 @@
--- Whether a leg's own lines are its only reading from a first line, by the verdict on its readings from there.
+-- Whether a leg's own lines are its only reading to a terminus, by the verdict on its readings there.
 use Prim.Native.Nat.{ℕ}
-use mathlib.Core.Path.{_≡_, sym, _∙_, ap}
+use mathlib.Core.Path.{_≡_, sym, _∙_, ap, subst}
 use mathlib.Core.List.{List}
 use native.Mathlib.Omega.{arith}
-use lib.ListN.{length}
 use Rattle.model.specs.Map.{Map}
 use Rattle.model.specs.Lines.{total, firstOf, lastOf}
-use Rattle.model.specs.Reading.{Arrival, any, matching, Leg, SameEnds, Reading}
+use Rattle.model.specs.Reading.{Leg, Reading}
+use Rattle.search.specs.declared.Terminus.{Terminus}
+use Rattle.search.specs.Ways.{Ends}
 use Rattle.fields.specs.declared.leg.Verdict.the-variants.{Unread, One, Several}
-use Rattle.legs.specs.Verdict.{OneList, Says, Anywhere, unread, one, several, FromLine}
+use Rattle.legs.specs.Verdict.{OneList, Says, Anywhere, unread, one, several, ReadingTo}
+use Rattle.legs.proofs.Readings.{end-of}
 use Rattle.leg_tests.specs.LegTests.{Sole, OwnLines}
 use Rattle.fields.specs.declared.leg.Reading as Numbers
 
-pub same-ends : (a : Arrival) (ks ls other : List ℕ) → firstOf ks ≡ firstOf ls → lastOf ks ≡ lastOf ls → SameEnds a ls other → SameEnds a ks other
-same-ends any ks ls other f l s = f ∙ s
-same-ends (matching x) ks ls other f l s = (f ∙ s .0, l ∙ s .1)
+-- The own terminus.
+module _ {m : Map} {leg : Leg} {ls : List ℕ} {to : Terminus} {first len : ℕ} (o : OwnLines m leg ls to first len) where
+  -- The own lines as a reading to their terminus.
+  mine : Sole m leg ls to → ReadingTo m leg to ls
+  mine s = record { reading = s .own (o .ends); ends = o .ends }
 
-module _ {m : Map} {leg : Leg} {ls : List ℕ} {own last len : ℕ} (o : OwnLines m leg ls own last len) {first : ℕ} where
-  -- The own lines as a reading from their first line.
-  mine : first ≡ own → Sole m leg ls first → FromLine m leg first ls
-  mine e s = record { reading = s .own (e ∙ sym (o .starts)); starts = o .starts ∙ sym e }
-
-  pub none-elsewhere : Says m (FromLine m leg first) Anywhere Unread → (first ≡ own → ⊥) → Sole m leg ls first
-  none-elsewhere (unread never) differs =
-      record { own = λ e. absurd (differs (e ∙ o .starts)); only = λ other r. absurd (never other r) }
-
-  pub none-here : Says m (FromLine m leg first) Anywhere Unread → first ≡ own → Sole m leg ls first → ⊥
-  none-here (unread never) e s = never ls (mine e s)
+  pub none-here : Says m (ReadingTo m leg to) Anywhere Unread → Sole m leg ls to → ⊥
+  none-here (unread never) s = never ls (mine s)
 
   module _ {r : Numbers.Reading} where
-    pub one-elsewhere : Says m (FromLine m leg first) Anywhere (One r) → (first ≡ own → ⊥) → Sole m leg ls first → ⊥
-    one-elsewhere (one {ls = ks} k n) differs s =
-        differs (sym (k .holds .starts) ∙ ap firstOf (s .only ks (k .holds)) ∙ o .starts)
-
     -- The one list is the leg's own.
-    the-one : {ks : List ℕ} → OneList m (FromLine m leg first) r ks → first ≡ own → Sole m leg ls first → ls ≡ ks
-    the-one k e s = k .only ls (mine e s)
+    the-one : {ks : List ℕ} → OneList m (ReadingTo m leg to) r ks → Sole m leg ls to → ls ≡ ks
+    the-one k s = k .only ls (mine s)
 
-    pub one-other-last : Says m (FromLine m leg first) Anywhere (One r) → first ≡ own → (r .last ≡ last → ⊥) → Sole m leg ls first → ⊥
-    one-other-last (one {ls = ks} k n) e differs s = differs (sym (k .last) ∙ ap lastOf (sym (the-one k e s)) ∙ o .ends)
+    pub one-other-first : Says m (ReadingTo m leg to) Anywhere (One r) → (r .first ≡ first → ⊥) → Sole m leg ls to → ⊥
+    one-other-first (one {ls = ks} k n) differs s = differs (sym (k .first) ∙ ap firstOf (sym (the-one k s)) ∙ o .starts)
 
-    pub one-other-length : Says m (FromLine m leg first) Anywhere (One r) → first ≡ own → (r .length ≡ len → ⊥) → Sole m leg ls first → ⊥
-    one-other-length (one {ls = ks} k n) e differs s = differs (sym (k .sum) ∙ ap (total m) (sym (the-one k e s)) ∙ o .sum)
+    pub one-other-length : Says m (ReadingTo m leg to) Anywhere (One r) → (r .length ≡ len → ⊥) → Sole m leg ls to → ⊥
+    one-other-length (one {ls = ks} k n) differs s = differs (sym (k .sum) ∙ ap (total m) (sym (the-one k s)) ∙ o .sum)
 
-    pub one-own : Says m (FromLine m leg first) Anywhere (One r) → first ≡ own → r .last ≡ last → r .length ≡ len → Sole m leg ls first
-    one-own (one {ls = ks} k n) e ends size =
-        let starts : firstOf ks ≡ firstOf ls = k .holds .starts ∙ e ∙ sym (o .starts) in
-        let arrives : lastOf ks ≡ lastOf ls = k .last ∙ ends ∙ sym (o .ends) in
+    -- Lines with the same ends and length are a reading too, so they are the one.
+    pub one-own : Says m (ReadingTo m leg to) Anywhere (One r) → r .first ≡ first → r .length ≡ len → Sole m leg ls to
+    one-own (one {ls = ks} k n) e size =
+        let end = end-of (o .terminus) in
+        let starts : firstOf ks ≡ firstOf ls = k .first ∙ e ∙ sym (o .starts) in
         let sum : total m ks ≡ total m ls = k .sum ∙ size ∙ sym (o .sum) in
         let reading : Reading m leg ls =
         record {
           allowed = o .allowed;
           distanced = o .distanced;
-          least = λ other a s. omega (arith, sum, k .holds .reading .least other a (same-ends (leg .arrival) ks ls other starts arrives s));
+          least = λ other a s. omega (
+            arith,
+            sum,
+            k .holds .reading .least other a
+                (end .same ks other (starts ∙ end .first ls other s) (k .holds .ends) (end .there ls other (o .ends) s a)),
+          );
         } in
-        let same : ls ≡ ks = k .only ls (record { reading = reading; starts = o .starts ∙ sym e }) in
+        let same : ls ≡ ks = k .only ls (record { reading = reading; ends = o .ends }) in
         record { own = λ x. reading; only = λ other x. k .only other x ∙ sym same }
 
-  pub several-not : Says m (FromLine m leg first) Anywhere Several → Sole m leg ls first → ⊥
-  several-not (several t) s = t .differ (s .only (t .one) (t .first) ∙ sym (s .only (t .other) (t .second)))
+-- A terminus that the own lines do not end at.
+module _ {m : Map} {leg : Leg} {ls : List ℕ} {to : Terminus} (differs : Ends m to (lastOf ls) → ⊥) where
+  pub none-elsewhere : Says m (ReadingTo m leg to) Anywhere Unread → Sole m leg ls to
+  none-elsewhere (unread never) = record { own = λ e. absurd (differs e); only = λ other r. absurd (never other r) }
+
+  pub one-elsewhere : {r : Numbers.Reading} → Says m (ReadingTo m leg to) Anywhere (One r) → Sole m leg ls to → ⊥
+  one-elsewhere (one {ls = ks} k n) s = differs (subst (λ (x : List ℕ). Ends m to (lastOf x)) (s .only ks (k .holds)) (k .holds .ends))
+
+pub several-not : {m : Map} {leg : Leg} {ls : List ℕ} {to : Terminus} → Says m (ReadingTo m leg to) Anywhere Several → Sole m leg ls to → ⊥
+several-not (several t) s = t .differ (s .only (t .one) (t .first) ∙ sym (s .only (t .other) (t .second)))

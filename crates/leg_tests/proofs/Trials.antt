@@ -1,6 +1,6 @@
--- A leg of the stretch under test: its own lines, and what a search from a first line makes ready.
-use Prim.Native.Nat.{ℕ, _+_, _-_, _≤_, _<_}
-use mathlib.Core.Path.{_≡_, refl, sym, _∙_, ap, subst}
+-- A leg of the stretch under test: its own lines, and what a search back from a terminus makes ready.
+use Prim.Native.Nat.{ℕ, zero, suc, _+_, _-_, _≤_, _<_, max}
+use mathlib.Core.Path.{_≡_, refl, sym, _∙_, ap, ap₂, subst}
 use mathlib.Core.Bool.{Bool, true, false}
 use mathlib.Core.List.{List}
 use native.Mathlib.Omega.{arith}
@@ -9,22 +9,27 @@ use lib.Seq.{slice, length-slice, length-take-le}
 use lib.Dec.{eqb}
 use Rattle.model.specs.Map.{Map}
 use Rattle.model.specs.Field.{distance}
-use Rattle.model.specs.Lines.{lineAt, Connected, total, lowest, firstOf, lastOf, leaving}
+use Rattle.model.specs.Lines.{lineAt, Connected, single, linked, total, lowest, firstOf, lastOf, leaving}
 use Rattle.model.specs.WellFormed.{WellFormed}
-use Rattle.model.specs.Reading.{Arrives, greatestLegLength}
+use Rattle.model.specs.Reading.{Arrives, Allowed, greatestLegLength}
 use Rattle.model.specs.Choice.{arrivalOf, fromNode, toNode, legOf}
-use Rattle.model.proofs.Joining.{to-known, lowest-small}
-use Rattle.buffers.proofs.Kept.{kept-none, kept-then, kept-within}
+use Rattle.model.proofs.Joining.{first-known, lowest-small}
+use Rattle.buffers.proofs.Kept.{kept-none}
+use Rattle.work_area.specs.Mirror.{mirror}
+use Rattle.work_area.proofs.Holding.{held-kept}
+use Rattle.search.specs.declared.Terminus.{Terminus}
+use Rattle.search.specs.Ways.{Ends}
 use Rattle.search.specs.Area.{Searched, Set}
 use Rattle.search.specs.Promises.{Finished}
-use Rattle.ways.specs.Told.{NearestPut}
-use Rattle.work_area.proofs.Holding.{held-kept}
-use Rattle.ways.proofs.Carried.{searched-kept, chained-above}
 use Rattle.fields.specs.Leg.{LongestLeg, legIn}
 use Rattle.fields.specs.declared.leg.Leg.{Leg}
-use Rattle.legs.specs.Verdict.{LimitFor, Ready}
-use Rattle.leg_tests.specs.LegTests.{legFrom, OwnLines, Done, DoneFor, DoneUpTo, Trial, SameAttributes, Measured, Prepared}
-use Rattle.leg_tests.proofs.Slices.{first-of-slice, last-of-slice, connected-front, connected-back}
+use Rattle.fields.specs.declared.leg.Reading.{Reading}
+use Rattle.fields.specs.declared.leg.Verdict.{Verdict}
+use Rattle.legs.specs.Verdict.{LimitFor, TerminusOf, Ready, ReadingTo, ReadingFrom, Says, Anywhere}
+use Rattle.legs.proofs.Joining.{says-same, says-then}
+use Rattle.stretches.specs.Stretch.{Known}
+use Rattle.leg_tests.specs.LegTests.{legFrom, Alone, Serves, Own, OwnLines, DoneFor, DoneUpTo, Trial, Measured, Prepared}
+use Rattle.leg_tests.proofs.Slices.{first-of-slice, last-of-slice, connected-front, connected-back, total-slice-back, lowest-slice-back}
 use Rattle.model.specs.Reading as definitions
 
 -- A part of connected lines.
@@ -39,102 +44,127 @@ unfolding arrivalOf
 arrives-so m true ls = refl
 arrives-so m false ls = tt
 
-own-lines : {m : Map} (last : Bool) {ls : List ℕ} → Connected m ls → total m ls ≤ greatestLegLength →
-    OwnLines m (legOf m last ls) ls (firstOf ls) (lastOf ls) (total m ls)
+own-allowed : {m : Map} (last : Bool) {ls : List ℕ} → Connected m ls → total m ls ≤ greatestLegLength → Allowed m (legOf m last ls) ls
 unfolding legOf fromNode toNode
-own-lines {m} last {ls} c short =
+own-allowed {m} last {ls} c short =
     record {
-      allowed = record {
-        connected = c;
-        starts = refl;
-        leaves = refl;
-        ends = refl;
-        arrives = arrives-so m last ls;
-        classes = omega arith;
-        within = short;
-      };
-      distanced = refl;
+      connected = c;
       starts = refl;
+      leaves = refl;
       ends = refl;
-      sum = refl;
+      arrives = arrives-so m last ls;
+      classes = omega arith;
+      within = short;
     }
 
-module _ {m : Map} {lines : ℕ} {s : List ℕ} {i first : ℕ} (t : Trial m lines s i first) {j class len : ℕ}
-    (x : Measured m s i j class len) (short : len ≤ greatestLegLength) where
+module _ {m : Map} {lines : ℕ} {s : List ℕ} {i j class len : ℕ} (t : Trial m lines s i j class len) where
   pub joined : Connected m (slice i j s)
-  joined = slice-connected s i j (x .ordered) (x .inside) (t .connected)
+  joined = slice-connected s i j (t .measured .ordered) (t .measured .inside) (t .connected)
 
-  pub leg-lines : OwnLines m (legFrom m s i j) (slice i j s) (getD s i 0) (getD s (j - 1) 0) len
-  leg-lines =
-      let o = own-lines (eqb j (length s)) joined (omega (arith, x .sum)) in
-      record {
-        allowed = o .allowed;
-        distanced = o .distanced;
-        starts = first-of-slice s i j (x .ordered) (x .inside);
-        ends = last-of-slice s i j (x .ordered) (x .inside);
-        sum = sym (x .sum);
-      }
+  pub class-small : WellFormed m → class ≤ 7
+  class-small w = omega (arith, t .measured .classes, lowest-small w joined)
 
-  module _ {limit : ℕ} {w : List ℕ} (alike : SameAttributes m s i first) (up : DoneUpTo m lines class first len limit w) (leg : Leg) (e : legIn leg ≡ legFrom m s i j) where
-    pub ready : Ready m lines leg first limit w
-    unfolding legIn legOf fromNode
-    ready =
-        let lowest-is : leg .lowest ≡ lowest m (slice i j s) = ap (λ (l : definitions.Leg). l .lowest) e in
-        let distance-is : leg .distance ≡ distance (total m (slice i j s)) = ap (λ (l : definitions.Leg). l .distance) e in
-        let own = first-of-slice s i j (x .ordered) (x .inside) in
+  module _ {to : Terminus} (own : Own m lines s j to) where
+    pub ends-there : Ends m to (lastOf (slice i j s))
+    ends-there = subst (Ends m to) (sym (last-of-slice s i j (t .measured .ordered) (t .measured .inside))) (own .ends)
+
+    pub leg-lines : len ≤ greatestLegLength → OwnLines m (legFrom m s i j) (slice i j s) to (getD s i 0) len
+    unfolding legOf
+    leg-lines short =
+        let x = t .measured in
         record {
-          searched = subst (λ (c : ℕ). Searched m lines c first limit w) (x .classes ∙ sym lowest-is) (up .done .searched);
-          limited = subst (λ (d : ℕ). LimitFor d limit) (ap distance (x .sum) ∙ sym distance-is) (up .limited);
-          start = record {
-            from = t .from ∙ ap (λ (l : ℕ). lineAt m l .start) (sym own) ∙ sym (ap (λ (l : definitions.Leg). l .from) e);
-            leaves = alike ∙ ap (leaving m) (sym own) ∙ sym (ap (λ (l : definitions.Leg). l .leaves) e);
-          };
+          allowed = own-allowed (eqb j (length s)) joined (omega (arith, x .sum));
+          distanced = refl;
+          starts = first-of-slice s i j (x .ordered) (x .inside);
+          sum = sym (x .sum);
+          terminus = own .serves .terminus i (x .ordered);
+          ends = ends-there;
         }
 
-    pub ends-known : leg .to < length (m .nodes)
-    unfolding legIn legOf
-    ends-known =
-        let to-is : leg .to ≡ toNode m (slice i j s) = ap (λ (l : definitions.Leg). l .to) e in
-        omega (arith, to-is, to-known (up .done .searched .held .formed) joined)
+  -- Where the first line is alone, every reading starts with it.
+  only-first : {to : Terminus} → length (m .lines) ≡ lines → Alone m lines s i → (ls : List ℕ) → ReadingTo m (legFrom m s i j) to ls →
+      ReadingFrom m (legFrom m s i j) (getD s i 0) to ls
+  unfolding legOf fromNode
+  only-first all alone ls r =
+      let x = t .measured in
+      let a = r .reading .allowed in
+      let own = first-of-slice s i j (x .ordered) (x .inside) in
+      record {
+        reading = r .reading;
+        starts = alone (firstOf ls) (omega (arith, all, first-known (a .connected)))
+            (a .starts ∙ ap (λ (l : ℕ). lineAt m l .start) own) (a .leaves ∙ ap (leaving m) own);
+        ends = r .ends;
+      }
 
-pub class-small : {m : Map} {lines : ℕ} {s : List ℕ} {i j first class len : ℕ} → WellFormed m → Trial m lines s i first →
-    Measured m s i j class len → class ≤ 7
-class-small {s = s} {i = i} {j = j} w t x =
-    omega (arith, x .classes, lowest-small w (slice-connected s i j (x .ordered) (x .inside) (t .connected)))
+  pub says-alone : {to : Terminus} {N : Reading → List ℕ → Type 0} {v : Verdict} → length (m .lines) ≡ lines → Alone m lines s i →
+      Says m (ReadingFrom m (legFrom m s i j) (getD s i 0) to) N v → Says m (ReadingTo m (legFrom m s i j) to) Anywhere v
+  says-alone all alone says =
+      says-same (λ ls r. record { reading = r .reading; ends = r .ends }) (only-first all alone) (says-then (λ q ls is o n. tt) says)
+
+  -- The search is ready for the leg as its bytes will say.
+  pub ready : {to : Terminus} {limit : ℕ} {w : List ℕ} → Set m lines w → Serves m lines s j to → DoneUpTo m lines class to len limit w →
+      (leg : Leg) → legIn leg ≡ legFrom m s i j → Ready m lines leg to limit w
+  unfolding legIn legOf
+  ready {to} {limit} {w} set serves up leg e =
+      let x = t .measured in
+      let lowest-is : leg .lowest ≡ lowest m (slice i j s) = ap (λ (l : definitions.Leg). l .lowest) e in
+      let distance-is : leg .distance ≡ distance (total m (slice i j s)) = ap (λ (l : definitions.Leg). l .distance) e in
+      record {
+        held = set .held;
+        searched = subst (λ (c : ℕ). Searched (mirror m) lines c to limit w) (x .classes ∙ sym lowest-is) (up .searched);
+        limited = subst (λ (d : ℕ). LimitFor d limit) (ap distance (x .sum) ∙ sym distance-is) (up .limited);
+        terminus = subst (λ (l : definitions.Leg). TerminusOf m l to) (sym e) (serves .terminus i (x .ordered));
+      }
 
 -- What is searched after a class.
-pub done-for : {m : Map} {lines class first limit : ℕ} {w : List ℕ} → Done m lines class first limit w → DoneFor m lines (class + 1) first limit w
-done-for {m} {lines} {class} {first} {limit} {w} d h =
+pub done-for : (m : Map) {lines class : ℕ} {to : Terminus} {limit : ℕ} {w : List ℕ} → Searched (mirror m) lines class to limit w →
+    DoneFor m lines (class + 1) to limit w
+done-for m {lines} {class} {to} {limit} {w} d h =
     let e : class ≡ class + 1 - 1 = omega arith in
-    subst (λ (c : ℕ). Done m lines c first limit w) e d
+    subst (λ (c : ℕ). Searched (mirror m) lines c to limit w) e d
 
 -- A search that was done before serves, and a new one.
-module _ {m : Map} {lines class first len : ℕ} {w : List ℕ} (set : Set m lines w) where
+module _ {m : Map} {lines class : ℕ} {to : Terminus} {len : ℕ} {w : List ℕ} (set : Set m lines w) where
   pub not-again : {searched limit longest : ℕ} → searched ≡ class + 1 → LongestLeg (distance len) longest → longest ≤ limit →
-      DoneFor m lines searched first limit w → Prepared m lines class first len w w limit
+      DoneFor m lines searched to limit w → Prepared m lines class to len w w limit
   not-again {searched} {limit} e l far before =
       let same : searched - 1 ≡ class = omega arith in
-      let done = subst (λ (c : ℕ). Done m lines c first limit w) same (before (omega arith)) in
+      let done = subst (λ (c : ℕ). Searched (mirror m) lines c to limit w) same (before (omega arith)) in
       record {
-        done = record {
-          limited = record { within = done .searched .small; holds = λ length a b. omega (arith, l .holds length a b) };
-          done = done;
-        };
+        done = record { limited = record { within = done .small; holds = λ length a b. omega (arith, l .holds length a b) }; searched = done };
         worked = record { set = set; kept = kept-none };
       }
 
-  pub anew : {limit : ℕ} {v u : List ℕ} → LimitFor (distance len) limit → Finished m lines class first limit w v → NearestPut m lines limit v u →
-      Prepared m lines class first len w u limit
-  anew l f e =
-      let held = held-kept (omega arith) (f .kept) (set .held) in
-      let chained = chained-above (omega arith) (e .kept) held (f .chained) in
+  pub anew : {limit : ℕ} {v : List ℕ} → LimitFor (distance len) limit → Finished (mirror m) lines class to limit w v →
+      Prepared m lines class to len w v limit
+  anew l f =
       record {
-        done = record {
-          limited = l;
-          done = record { searched = searched-kept (omega arith) (e .kept) (f .searched); chained = chained; reaching = e .reaching };
-        };
-        worked = record {
-          set = record { held = held-kept (omega arith) (e .kept) held; chained = chained };
-          kept = kept-then (kept-within (omega arith) (omega arith) (f .kept)) (kept-within (omega arith) (omega arith) (e .kept));
-        };
+        done = record { limited = l; searched = f .searched };
+        worked = record { set = record { held = held-kept (omega arith) (f .kept) (set .held); chained = f .chained }; kept = f .kept };
       }
+
+-- One line more before the leg.
+pub measured-back : {m : Map} {s : List ℕ} {i j class len class′ len′ frc size : ℕ} → 0 < i → i ≤ j → j ≤ length s →
+    class ≡ lowest m (slice i j s) → len ≡ total m (slice i j s) → class′ ≡ max class frc → frc ≡ lineAt m (getD s (i - 1) 0) .frc →
+    len′ ≡ len + size → size ≡ lineAt m (getD s (i - 1) 0) .length → Measured m s (i - 1) j class′ len′
+measured-back {m} {s} {i} {j} some before inside classes sum c f l z =
+    record {
+      ordered = omega arith;
+      inside = inside;
+      classes = c ∙ ap₂ max classes f ∙ sym (lowest-slice-back s i j some before inside m);
+      sum = omega (arith, l, z, sum, total-slice-back s i j some before inside m);
+    }
+
+-- The lines of a connected list are the map's.
+pub connected-lines : {m : Map} {ls : List ℕ} → Connected m ls → Known (length (m .lines)) ls
+connected-lines (single h) zero l = h
+connected-lines (single h) (suc i) l = absurd (omega arith)
+connected-lines (linked h f c) zero l = h
+connected-lines (linked h f c) (suc i) l = connected-lines c i (omega arith)
+
+module _ {m : Map} {lines : ℕ} {s w : List ℕ} (set : Set m lines w) (c : Connected m s) where
+  pub all-known : Known lines s
+  all-known = subst (λ (n : ℕ). Known n s) (set .held .line-count) (connected-lines c)
+
+  pub trial-of : {i j class len : ℕ} → length s ≤ 64 → Measured m s i j class len → Trial m lines s i j class len
+  trial-of few x = record { known = all-known; connected = c; few = few; measured = x }

@@ -1,16 +1,19 @@
-// The test of one leg by one first line: the leg's number in the table, and what the work area is searched for by then.
+// The test of one leg by one terminus: the leg's number in the table, and what the work area is searched for by then.
 use crate::leg::first_mark;
 use crate::leg_search::end_after;
 use crate::leg_search::prepare;
-use crate::leg_search::test_leg;
-use buffers::wide;
+use crate::leg_search::test_other;
+use crate::leg_search::test_own;
+use search::Terminus;
 ghost use mathlib.Core.Path.{_≡_};
 ghost use Prim.Native.Nat.{_≤_};
-ghost use lib.ListN.{getD};
+ghost use lib.ListN.{length};
 ghost use Rattle.model.specs.Map.{Map};
 ghost use Rattle.model.specs.Reading.{greatestLegLength};
+ghost use Rattle.buffers.specs.Decides.{Decides};
+ghost use Rattle.search.specs.Ways.{line};
 ghost use Rattle.search.specs.Area.{Set};
-ghost use Rattle.leg_tests.specs.LegTests.{DoneFor, Trial, SameAttributes, Measured, CellTested, OwnTested};
+ghost use Rattle.leg_tests.specs.LegTests.{Alone, Own, Other, DoneFor, Trial, CellTested, OwnTested};
 
 // A leg's number in the table, and what the work area is searched for: 1 + the class, or 0, and the limit.
 pub struct Cell {
@@ -19,7 +22,7 @@ pub struct Cell {
     pub limit: u32,
 }
 
-// The same after the test of a leg's own first line, and the position that its row ends at: no leg to a later one can be used.
+// The same after the test of a leg's own terminus, and the position that its column ends at: no leg from an earlier one can be used.
 pub struct OwnCell {
     pub mark: u8,
     pub searched: u32,
@@ -27,45 +30,46 @@ pub struct OwnCell {
     pub end: usize,
 }
 
-// The number of the leg from position `i` to position `j` after the test of line `first`. Where it is not 1 there is nothing to test.
+// The number of the leg from position `i` to the last position after the test of another last line. Where it is not 1 there is nothing to test.
 pub fn test_cell(
     work: &mut [u32],
     lines: usize,
     stretch: &[u32],
     i: usize,
-    j: usize,
-    first: usize,
+    last: usize,
     class: u32,
     len: usize,
+    alone: bool,
     reach: usize,
     before: Cell,
 ) -> Cell
-    requires { ⌜ ((m : Map) × Set m lines (now work) × Trial m lines (now stretch) i first × SameAttributes m (now stretch) i first
-        × Measured m (now stretch) i j class len × (before .mark ≡ 1 → len ≤ greatestLegLength)
-        × DoneFor m lines (before .searched) first (before .limit) (now work)) ⌝ }
-    ensures { λ r. ⌜ ((m : Map) → Set m lines (now (work .entry)) → Trial m lines (now (stretch .entry)) i first
-        → SameAttributes m (now (stretch .entry)) i first → Measured m (now (stretch .entry)) i j class len
-        → (before .mark ≡ 1 → len ≤ greatestLegLength) → DoneFor m lines (before .searched) first (before .limit) (now (work .entry))
-        → CellTested m lines (now (stretch .entry)) i j first (before .mark) (now (work .entry)) (now (work .exit)) r) ⌝ }
+    requires { ⌜ ((m : Map) × Set m lines (now work) × Trial m lines (now stretch) i (length (now stretch)) class len
+        × Decides (Alone m lines (now stretch) i) alone × Other m lines (now stretch) last × (before .mark ≡ 1 → len ≤ greatestLegLength)
+        × DoneFor m lines (before .searched) (line last) (before .limit) (now work)) ⌝ }
+    ensures { λ r. ⌜ ((m : Map) → Set m lines (now (work .entry)) → Trial m lines (now (stretch .entry)) i (length (now (stretch .entry))) class len
+        → Decides (Alone m lines (now (stretch .entry)) i) alone → Other m lines (now (stretch .entry)) last
+        → (before .mark ≡ 1 → len ≤ greatestLegLength) → DoneFor m lines (before .searched) (line last) (before .limit) (now (work .entry))
+        → CellTested m lines (now (stretch .entry)) i last (before .mark) (now (work .entry)) (now (work .exit)) r) ⌝ }
 {
     let mark = before.mark;
     if mark != 1 {
         return before;
     }
+    let size = len as u32;
     let limit = prepare(
         work,
         lines,
         stretch,
-        j,
-        first,
+        i,
+        Terminus::Line(last),
         class,
-        len as u32,
+        size,
         reach,
         before.searched,
         before.limit,
     );
     let searched = class + 1;
-    if test_leg(work, lines, stretch, i, j, first, class, len as u32, limit) {
+    if test_other(work, lines, stretch, i, last, class, size, alone, limit) {
         return Cell {
             mark: 1,
             searched,
@@ -79,26 +83,28 @@ pub fn test_cell(
     }
 }
 
-// The number of the leg from position `i` to position `j` after the test of its own first line, and the end of the row.
+// The number of the leg from position `i` to position `j` after the test of its own terminus, and the end of the column.
 pub fn test_own_cell(
     work: &mut [u32],
     lines: usize,
     stretch: &[u32],
     i: usize,
     j: usize,
+    to: Terminus,
     class: u32,
     len: usize,
+    alone: bool,
     reach: usize,
     before: OwnCell,
 ) -> OwnCell
-    requires { ⌜ j ≤ before .end ⌝ }
-    requires { ⌜ ((m : Map) × Set m lines (now work) × Trial m lines (now stretch) i (getD (now stretch) i 0) × Measured m (now stretch) i j class len
-        × DoneFor m lines (before .searched) (getD (now stretch) i 0) (before .limit) (now work)) ⌝ }
-    ensures { λ r. ⌜ (j ≤ r .end) × (r .end ≤ before .end) ⌝ }
-    ensures { λ r. ⌜ ((m : Map) → Set m lines (now (work .entry)) → Trial m lines (now (stretch .entry)) i (getD (now (stretch .entry)) i 0)
-        → Measured m (now (stretch .entry)) i j class len
-        → DoneFor m lines (before .searched) (getD (now (stretch .entry)) i 0) (before .limit) (now (work .entry))
-        → OwnTested m lines (now (stretch .entry)) i j (before .end) (now (work .entry)) (now (work .exit)) r) ⌝ }
+    requires { ⌜ before .end ≤ i ⌝ }
+    requires { ⌜ ((m : Map) × Set m lines (now work) × Trial m lines (now stretch) i j class len × Decides (Alone m lines (now stretch) i) alone
+        × Own m lines (now stretch) j to × DoneFor m lines (before .searched) to (before .limit) (now work)) ⌝ }
+    ensures { λ r. ⌜ (before .end ≤ r .end) × (r .end ≤ i) ⌝ }
+    ensures { λ r. ⌜ ((m : Map) → Set m lines (now (work .entry)) → Trial m lines (now (stretch .entry)) i j class len
+        → Decides (Alone m lines (now (stretch .entry)) i) alone → Own m lines (now (stretch .entry)) j to
+        → DoneFor m lines (before .searched) to (before .limit) (now (work .entry))
+        → OwnTested m lines (now (stretch .entry)) i j to (before .end) (now (work .entry)) (now (work .exit)) r) ⌝ }
 {
     let end = before.end;
     if first_mark(work, lines, stretch, i, j, len) != 1 {
@@ -110,13 +116,12 @@ pub fn test_own_cell(
         };
     }
     let size = len as u32;
-    let first = wide(stretch[i]);
     let limit = prepare(
         work,
         lines,
         stretch,
-        j,
-        first,
+        i,
+        to,
         class,
         size,
         reach,
@@ -124,7 +129,7 @@ pub fn test_own_cell(
         before.limit,
     );
     let searched = class + 1;
-    if test_leg(work, lines, stretch, i, j, first, class, size, limit) {
+    if test_own(work, lines, stretch, i, j, class, size, alone, limit) {
         return OwnCell {
             mark: 1,
             searched,

@@ -3,4 +3,4 @@ pub mod Joining
 pub mod Readings
 pub mod Lines
 pub mod Verdicts
-pub mod FirstLines
+pub mod Searched

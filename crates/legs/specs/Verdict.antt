@@ -1,5 +1,5 @@
 -- What a verdict says of line lists, and which leg of the definitions a leg of the code is.
-use Rattle.work_area.specs.Area.{linePlace, lineFrc, lineFow, searchFrom, searchTo}
+use Rattle.work_area.specs.Area.{linePlace, lineFrc, lineFow, searchFrom, searchTo, Held}
 use Rattle.model.specs.Map.{Map}
 use Rattle.model.specs.Reading.{greatestLegLength}
 use Prim.Native.Nat.{ℕ, _+_, _≤_}
@@ -9,10 +9,13 @@ use mathlib.Core.List.{List}
 use lib.ListN.{length, getD}
 use lib.Dec.{eqb}
 use Rattle.model.specs.Field.{sector, distance}
-use Rattle.model.specs.Lines.{LineAttributes, lineAt, total, firstOf, lastOf, leaving}
+use Rattle.model.specs.Lines.{LineAttributes, lineAt, total, firstOf, lastOf, leaving, arriving}
 use Rattle.buffers.specs.Kept.{Kept}
-use Rattle.search.specs.Ways.{Target, Ends}
-use Rattle.search.specs.Area.{Searched, linesTo, Set}
+use Rattle.work_area.specs.Mirror.{mirror}
+use Rattle.search.specs.declared.Terminus.{Terminus}
+use Rattle.search.specs.declared.Terminus.the-variants.{Line, Node}
+use Rattle.search.specs.Ways.{Ends}
+use Rattle.search.specs.Area.{Searched, linesFrom, Set}
 use Rattle.ways.specs.declared.Ways.{Ways}
 use Rattle.fields.specs.declared.leg.Leg.{Leg}
 use Rattle.fields.specs.declared.leg.Reading.{Reading}
@@ -54,33 +57,37 @@ pub data Says (m : Map) (P : List ℕ → Type 0) (Q : Reading → List ℕ → 
   one : {r : Reading} {ls : List ℕ} → OneList m P r ls → Q r ls → Says m P Q (One r)
   several : TwoLists P → Says m P Q Several
 
--- The lines of a reading stand in the work area, up to its last line; or nothing is said of them.
+-- The lines of a reading stand in the work area, from its first line on; or nothing is said of them.
 abbrev pub StandsIn : List ℕ → Reading → List ℕ → Type 0
-StandsIn w r ls = ls ≡ linesTo w (r .last) (r .count)
+StandsIn w r ls = ls ≡ linesFrom w (r .first) (r .count)
 
 abbrev pub Anywhere : Reading → List ℕ → Type 0
 Anywhere r ls = Unit {0}
 
--- The readings of a leg with the first line `first`; those with a first line from `at` on; those with the first line `first` and a last
--- line of the property `P`.
-pub record FromLine (m : Map) (leg : definitions.Leg) (first : ℕ) (ls : List ℕ) : Type 0 where
+-- A terminus of a leg: its end node where any line may be the last; or a last line that arrives there as the leg says.
+pub data TerminusOf (m : Map) (leg : definitions.Leg) : Terminus → Type 0 where
+  at-node : leg .arrival ≡ definitions.any → TerminusOf m leg (Node (leg .to))
+  at-line : {last : ℕ} → leg .arrival ≡ definitions.matching (arriving m last) → lineAt m last .end ≡ leg .to → TerminusOf m leg (Line last)
+
+-- The readings of a leg that end at a terminus; those of them with the first line `first`; those with a first line of the property `P`.
+pub record ReadingTo (m : Map) (leg : definitions.Leg) (to : Terminus) (ls : List ℕ) : Type 0 where
+  pub reading : definitions.Reading m leg ls
+  pub ends : Ends m to (lastOf ls)
+
+pub record ReadingFrom (m : Map) (leg : definitions.Leg) (first : ℕ) (to : Terminus) (ls : List ℕ) : Type 0 where
   pub reading : definitions.Reading m leg ls
   pub starts : firstOf ls ≡ first
+  pub ends : Ends m to (lastOf ls)
 
-pub record FromLines (m : Map) (leg : definitions.Leg) (at : ℕ) (ls : List ℕ) : Type 0 where
+pub record ReadingAmong (m : Map) (leg : definitions.Leg) (P : ℕ → Type 0) (to : Terminus) (ls : List ℕ) : Type 0 where
   pub reading : definitions.Reading m leg ls
-  pub starts : at ≤ firstOf ls
+  pub starts : P (firstOf ls)
+  pub ends : Ends m to (lastOf ls)
 
-pub record ToLines (m : Map) (leg : definitions.Leg) (first : ℕ) (P : ℕ → Type 0) (ls : List ℕ) : Type 0 where
+-- The readings of a leg with a last line from `at` on.
+pub record ToLines (m : Map) (leg : definitions.Leg) (at : ℕ) (ls : List ℕ) : Type 0 where
   pub reading : definitions.Reading m leg ls
-  pub starts : firstOf ls ≡ first
-  pub ends : P (lastOf ls)
-
--- Those with the first line `first` that lead to a target.
-pub record ReadingTo (m : Map) (leg : definitions.Leg) (first : ℕ) (to : Target) (ls : List ℕ) : Type 0 where
-  pub reading : definitions.Reading m leg ls
-  pub starts : firstOf ls ≡ first
-  pub ends : Ends m to ls
+  pub ends : at ≤ lastOf ls
 
 -- A first line of a leg: it starts at the leg's node with the leg's attributes.
 pub record FirstOf (m : Map) (leg : definitions.Leg) (first : ℕ) : Type 0 where
@@ -92,11 +99,12 @@ pub record LimitFor (d limit : ℕ) : Type 0 where
   pub within : limit ≤ greatestLegLength
   pub holds : (length : ℕ) → length ≤ greatestLegLength → distance length ≤ d → length ≤ limit
 
--- The search for a leg from a first line is done: under the leg's lowest class, up to such a limit.
-pub record Ready (m : Map) (lines : ℕ) (leg : Leg) (first limit : ℕ) (w : List ℕ) : Type 0 where
-  pub searched : Searched m lines (leg .lowest) first limit w
+-- The search for a leg back from one of its termini is done: under the leg's lowest class, up to such a limit.
+pub record Ready (m : Map) (lines : ℕ) (leg : Leg) (to : Terminus) (limit : ℕ) (w : List ℕ) : Type 0 where
+  pub held : Held w lines m
+  pub searched : Searched (mirror m) lines (leg .lowest) to limit w
   pub limited : LimitFor (leg .distance) limit
-  pub start : FirstOf m (legIn leg) first
+  pub terminus : TerminusOf m (legIn leg) to
 
 -- A verdict on readings, with what it leaves of the work area.
 pub record Judged (m : Map) (lines : ℕ) (P : List ℕ → Type 0) (Q : Reading → List ℕ → Type 0) (w v : List ℕ) (r : Verdict) : Type 0 where

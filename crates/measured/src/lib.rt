@@ -10,6 +10,7 @@ use model::number_of;
 use opening::Opened;
 use opening::open_map;
 use reader::read;
+use search::Terminus;
 use search::search;
 use writer::write;
 ghost use mathlib.Core.Path.{_≡_};
@@ -33,7 +34,7 @@ pub extern "C" fn measured_read_map(map: &[u8], work: &mut [u32]) -> u32
     }
 }
 
-// Searches `times` times from the same line, on a map that is ready in the work area.
+// Searches `times` times back from the same line, on a map that is ready in the work area.
 fn search_again(work: &mut [u32], lines: usize, first: u32, class: u32, limit: u32, times: u32)
     requires { ⌜ ((m : Map) × Set m lines (now work)) ⌝ }
 {
@@ -45,7 +46,7 @@ fn search_again(work: &mut [u32], lines: usize, first: u32, class: u32, limit: u
     }
     let mut i: u32 = 0;
     while i < times {
-        search(work, lines, wide(first), class, limit);
+        search(work, lines, Terminus::Line(wide(first)), class, limit);
         i += 1;
     }
 }

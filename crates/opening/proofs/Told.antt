@@ -8,7 +8,9 @@ use Rattle.model.specs.Refusal.{refusalOf}
 use Rattle.model.specs.Map.{Map, refused, decode}
 use Rattle.buffers.specs.Kept.{Kept}
 use Rattle.buffers.proofs.Kept.{kept-over}
-use Rattle.work_area.specs.Area.{Held}
+use Rattle.work_area.specs.Mirror.{mirror}
+use Rattle.search.specs.Area.{Mirrored}
+use Rattle.search.proofs.Holding.{mirrored}
 use Rattle.model.specs.Work.{workLength}
 use Rattle.work_area.proofs.Holding.{held, held-kept}
 use Rattle.depot_map.specs.Answer.{WholeMap}
@@ -18,10 +20,10 @@ use Rattle.opening.specs.declared.Opened.the-variants.{Ready, Refused}
 use Rattle.opening.specs.Opened.{ReadyMap, OpenAnswers, MapOpened}
 
 pub opened : {bytes w u v : List ℕ} {nodes lines : ℕ} → WholeMap bytes u nodes lines → Kept 0 workLength w u →
-    ((m : Map) → Held u lines m → Linked u lines m v) → MapOpened bytes w v (Ready nodes lines)
+    ((m : Map) → Mirrored u lines m → Linked u lines m v) → MapOpened bytes w v (Ready nodes lines)
 opened whole kept links =
     let h = held (whole .held) in
-    let l = links (whole .map) h in
+    let l = links (mirror (whole .map)) (mirrored h) in
     record {
       answers = record {
         map = whole .map;

@@ -16,7 +16,7 @@ use Rattle.model.specs.Reading.{Leg, Only, joined, bannedMeeting, greatestLegLe
 use Rattle.model.specs.Outcome.{LegsRead, none, only, later, every, failed}
 use Rattle.model.specs.Work.{placed}
 use Rattle.model.proofs.Skipping.{total-append}
-use Rattle.model.proofs.Joining.{last-known}
+use Rattle.model.proofs.Joining.{first-known}
 use Rattle.fields.specs.declared.leg.Reading.{Reading}
 use Rattle.legs.specs.Verdict.{OneList, TwoLists, Says}
 use Rattle.search.specs.Area.{Set}
@@ -143,7 +143,6 @@ pub record Gathering (m : Map) (lines : ℕ) (all : List Leg) (k : ℕ) (rest : 
   pub few : s .count ≤ greatestLegLength * k
   pub short : s .length ≤ greatestLegLength * k
   pub laid : Laid (joined lists) before out
-  pub arrived : 0 < k → s .arrives < lines
 
 pub gather-none : {m : Map} {lines : ℕ} {all : List Leg} {w before : List ℕ} → Set m lines w →
     Gathering m lines all 0 all w before before none-yet
@@ -158,7 +157,6 @@ gather-none {m} set =
       few = omega arith;
       short = omega arith;
       laid = λ fits. refl;
-      arrived = λ some. absurd (omega arith);
     }
 
 -- A reading is no longer than a leg may be, and has no more lines than that.
@@ -173,6 +171,9 @@ module _ {m : Map} {leg : Leg} {N : Reading → List ℕ → Type 0} where
   pub read-bounds : {r : Reading} → WellFormed m → Says m (definitions.Reading m leg) N (verdict.One r) →
       (r .count ≤ greatestLegLength) × (r .length ≤ greatestLegLength)
   read-bounds formed (Says.one o n) = (one-few formed o, one-short formed o)
+
+  pub read-first : {r : Reading} → Says m (definitions.Reading m leg) N (verdict.One r) → r .first < length (m .lines)
+  read-first (Says.one o n) = omega (arith, o .first, first-known (o .holds .allowed .connected))
 
 module _ {m : Map} {lines : ℕ} {all rest : List Leg} {leg : Leg} {k : ℕ} {w before mid : List ℕ} {s : Sums} (g : Gathering m lines all k (leg ∷ rest) w before mid s) where
   pub gather-on : {v after : List ℕ} {r : Reading} → length mid ≡ length before → Set m lines v →
@@ -191,7 +192,6 @@ module _ {m : Map} {lines : ℕ} {all rest : List Leg} {leg : Leg} {k : ℕ} {w 
         few = omega (arith, g .few);
         short = omega (arith, g .short);
         laid = rw (joined-more (g .lists) ls) (laid-more (joined (g .lists)) ls before mid after same (g .laid) (rw (g .sums .count) n));
-        arrived = λ some. omega (arith, o .last, last-known (o .holds .allowed .connected), set .held .line-count);
       }
 
   pub gather-unread : {N : Reading → List ℕ → Type 0} → Says m (definitions.Reading m leg) N verdict.Unread → LegsRead m 0 all (failed 17 k)

@@ -11,7 +11,7 @@ use Rattle.model.specs.Choice.{firstLeg, lastLeg}
 use Rattle.model.specs.Reading.{Leg, joined, bannedMeeting}
 use Rattle.model.specs.Outcome.{LegsRead, every, failed}
 use Rattle.model.specs.Work.{placed}
-use Rattle.search.specs.Area.{linesTo, Set}
+use Rattle.search.specs.Area.{linesFrom, Set}
 use Rattle.fields.specs.declared.leg.Reading.{Reading}
 use Rattle.fields.specs.declared.leg.Verdict.{Verdict}
 use Rattle.reference_legs.specs.declared.Sums.{Sums}
@@ -38,7 +38,7 @@ sumsWith s k r barred =
 -- The lines of one reading, from number `from` of the buffer on, where there is room.
 pub record PutOne (w : List ℕ) (from : ℕ) (before after : List ℕ) (r : Reading) : Type 0 where
   pub fits : from + r .count ≤ length before →
-      after ≡ take from before ++ (linesTo w (r .last) (r .count) ++ drop (from + r .count) before)
+      after ≡ take from before ++ (linesFrom w (r .first) (r .count) ++ drop (from + r .count) before)
   pub short : length before < from + r .count → after ≡ before
 
 -- What a verdict puts there: its one reading, or else nothing.

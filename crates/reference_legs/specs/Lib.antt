@@ -1,2 +1,3 @@
 -- What is promised of the legs of a reference, read one after another.
+pub mod TerminusAt
 pub mod Legs

@@ -2,11 +2,11 @@
 use banned_turns::banned;
 use fields::leg::Reading;
 use fields::leg::Verdict;
-use legs::ends::both;
-use legs::from_line;
+use legs::first_lines::both;
 use references::leg::leg_at;
-use search::adjacency::first_leaving;
-use search::adjacency::next_leaving;
+use termini::first_terminus;
+use termini::next_terminus;
+use termini::read_terminus;
 use ways::write_lines;
 ghost use mathlib.Core.Path.{_≡_};
 ghost use Prim.Native.Nat.{ℕ, _*_, _≤_, _<_};
@@ -15,10 +15,12 @@ ghost use Rattle.model.specs.Map.{Map};
 ghost use Rattle.model.specs.Lines.{Connected};
 ghost use Rattle.model.specs.Reading.{greatestLegLength};
 ghost use Rattle.work_area.specs.Area.{Held};
-ghost use Rattle.search.specs.Area.{linesTo, Set};
+ghost use Rattle.search.specs.Area.{linesFrom, Set};
 ghost use Rattle.references.specs.Form.{SoundBytes};
 ghost use Rattle.references.specs.Legs.{legsAt};
 ghost use Rattle.reference_legs.specs.Legs.{barredWith, sumsWith, Put, PlacesIn, LegsDone};
+
+pub mod termini;
 
 // Of the legs that are read: how many lines they have, how long they are together, and how long the first and the last of them are; the line
 // that the last of them arrives by, and whether a banned turn stands where two of them meet.
@@ -40,7 +42,7 @@ pub enum Legs {
 
 // Whether a banned turn stands where two legs meet, once leg `k` is one of them.
 fn barred_with(work: &[u32], lines: usize, sums: Sums, k: usize, reading: Reading) -> bool
-    requires { ⌜ (0 < k → sums .arrives < lines) ⌝ }
+    requires { ⌜ reading .first < lines ⌝ }
     requires { ⌜ ((m : Map) × Held (now work) lines m) ⌝ }
     ensures { λ r. ⌜ ((m : Map) → Held (now (work .entry)) lines m → r ≡ barredWith m sums k reading) ⌝ }
 {
@@ -73,7 +75,7 @@ fn with_leg(sums: Sums, k: usize, reading: Reading, barred: bool) -> Sums
 // Writes the lines of a reading into `out`, from its number `from` on: where there is exactly one, and room for it.
 fn put_reading(work: &[u32], found: Verdict, out: &mut [u32], from: usize)
     requires { ⌜ ((m : Map) × (lines : ℕ) × Held (now work) lines m
-        × ((r : Reading) → found ≡ Verdict.One r → Connected m (linesTo (now work) (r .last) (r .count)))) ⌝ }
+        × ((r : Reading) → found ≡ Verdict.One r → Connected m (linesFrom (now work) (r .first) (r .count)))) ⌝ }
     ensures { λ _. ⌜ Put (now (work .entry)) from (now (out .entry)) (now (out .exit)) found ⌝ }
 {
     let Verdict::One(reading) = found else {
@@ -86,7 +88,7 @@ fn put_reading(work: &[u32], found: Verdict, out: &mut [u32], from: usize)
     if room - from < reading.count {
         return;
     }
-    write_lines(work, reading.last, &mut out[from..from + reading.count]);
+    write_lines(work, reading.first, &mut out[from..from + reading.count]);
 }
 
 // Reads every leg between the nodes in `places`, or up to the first without exactly one reading. The lines of the legs stand in `out` as long as
@@ -119,15 +121,15 @@ pub fn read_legs(
         }
         let leg = leg_at(bytes, points, places, k);
         let mut found = Verdict::Unread;
-        let mut at = first_leaving(work, lines, leg.from);
+        let mut at = first_terminus(work, lines, leg);
         while 0 < at {
-            let more = from_line(work, lines, at - 1, leg);
+            let more = read_terminus(work, lines, at, leg);
             put_reading(work, more, out, sums.count);
             found = both(found, more);
             if let Verdict::Several = found {
                 break 'legs Legs::Several(k as u32);
             }
-            at = next_leaving(work, lines, at);
+            at = next_terminus(work, lines, at, leg);
         }
         let Verdict::One(reading) = found else {
             break 'legs Legs::Unread(k as u32);

@@ -1,7 +1,7 @@
 -- A line is reached: what that does to the list, to the queue, to the nearest free lines and to what is known of all lines.
-use Rattle.work_area.specs.Area.{headsFrom, searchFrom, lengthsFrom, nextFrom, nearestFrom, banChain, Held, queueFrom}
+use Rattle.work_area.specs.Area.{headsFrom, searchFrom, lengthsFrom, nextFrom, lastBarredFrom, banChain, queueFrom}
 use Rattle.model.specs.Map.{greatestLineCount, Map}
-use Rattle.search.specs.Area.{far, noteWeight, listWeight, keyWeight, Listing, lengthTo, predecessor, firstLeaving, nearestFree, queued, reached, named, Nearest, NearerBy, farther, nearest, alike, lineOf, keyOf}
+use Rattle.search.specs.Area.{Mirrored, far, noteWeight, listWeight, keyWeight, Listing, lengthTo, predecessor, firstLeaving, nearestFree, queued, reached, named, Nearest, NearerBy, farther, nearest, alike, lineOf, keyOf}
 use Prim.Native.Nat.{ℕ, _+_, _/_, _%_, _≤_, _<_}
 use mathlib.Core.Path.{_≡_, refl, sym, _∙_, ap, subst}
 use mathlib.Core.List.{List}
@@ -15,7 +15,7 @@ use Rattle.buffers.specs.Kept.{Kept}
 use Rattle.search.specs.Ways.{line, Reached}
 use Rattle.search.specs.Steps.{Free, FreeReached, Waits, Backed, Settled, Standing, Queued, Task, Underway, Grew, Put, Sent}
 use Rattle.buffers.proofs.Cases.{le-or-lt, here-or}
-use Rattle.work_area.proofs.Holding.{held-kept, few, line-ok}
+use Rattle.search.proofs.Holding.{held-kept, few, line-ok}
 use Rattle.search.proofs.Follows.{known, follows-free}
 use Rattle.search.proofs.Reached.{listing-same}
 use Rattle.search.proofs.Listing.{listing-more}
@@ -46,10 +46,10 @@ pub record Entered (m : Map) (n limit place j note x count end : ℕ) (w v : Lis
   pub ordered : (i k : ℕ) → place ≤ i → i ≤ k → k < end′ → queued v i ≤ queued v k
   pub queue : (i : ℕ) → place ≤ i → i < end′ → (queued v i ≡ keyOf x j) ⊎ ((k : ℕ) × (place ≤ k) × (k < end) × (queued v i ≡ queued w k))
   pub still : (l : ℕ) → Waits place end w l → Waits place end′ v l
-  pub kept : Kept searchFrom nearestFrom w v
+  pub kept : Kept searchFrom lastBarredFrom w v
 
 -- It came about by `put` and `sends`, and then at most the queue was changed.
-module _ {m : Map} {n limit j note x count : ℕ} {w first second : List ℕ} {sent : Bool} (h : Held w n m) (j< : j < n)
+module _ {m : Map} {n limit j note x count : ℕ} {w first second : List ℕ} {sent : Bool} (h : Mirrored w n m) (j< : j < n)
     (put : Put j note x count w first) (s : Sent m limit j first second sent) where
   head-same : (b : ℕ) → b < length (m .nodes) → getD first (headsFrom + b) 0 ≡ getD w (headsFrom + b) 0
   head-same b b< = let f = h .formed in put .rest (headsFrom + b) (omega arith) (omega arith)
@@ -62,7 +62,7 @@ module _ {m : Map} {n limit j note x count : ℕ} {w first second : List ℕ} {s
     nears-now : (b : ℕ) → nearestFree u b ≡ nearestFree second b
     nears-now b = ap (λ (y : ℕ). y / listWeight) (high (headsFrom + b) (omega arith))
 
-    pub enter : {place end : ℕ} → Kept searchFrom nearestFrom second u → Waits place last u j ⊎ (Free m j × (nearestFree u (lineAt m j .end) ≢ j + 1)) → place ≤ last →
+    pub enter : {place end : ℕ} → Kept searchFrom lastBarredFrom second u → Waits place last u j ⊎ (Free m j × (nearestFree u (lineAt m j .end) ≢ j + 1)) → place ≤ last →
         last ≤ count + 1 → ((i k : ℕ) → place ≤ i → i ≤ k → k < last → queued u i ≤ queued u k) →
         ((i : ℕ) → place ≤ i → i < last → (queued u i ≡ keyOf x j) ⊎ ((k : ℕ) × (place ≤ k) × (k < end) × (queued u i ≡ queued w k))) →
         ((k : ℕ) → Waits place end w k → Waits place last u k) → Entered m n limit place j note x count end w u last
@@ -304,7 +304,7 @@ module _ {q : Task} {n c limit place count end j note x d end′ : ℕ} {w v : L
               (λ z. z)
               (le-or-lt (nearestFree v (lineAt (q .map) j .end)) 0)
 
-  pub entered : Reached (q .map) c (q .first) (line j) x → Backed (q .map) v j note → Underway q n c limit place (count + 1) end′ v
+  pub entered : Reached (q .map) c (q .from) (line j) x → Backed (q .map) v j note → Underway q n c limit place (count + 1) end′ v
   entered way backed =
       let n≤ = few-lines in
       let f = g .held .formed in
@@ -323,7 +323,7 @@ module _ {q : Task} {n c limit place count end j note x d end′ : ℕ} {w v : L
         ordered = a .ordered;
         queue = queue;
         within = each (λ k. lengthTo v k ≤ limit) (omega (arith, found)) (λ k k< z. omega (arith, stays k k< z, g .within k k< z));
-        real = each (λ k. Reached (q .map) c (q .first) (line k) (lengthTo v k)) (rw found way) (λ k k< z. rw (stays k k< z) (g .real k k< z));
+        real = each (λ k. Reached (q .map) c (q .from) (line k) (lengthTo v k)) (rw found way) (λ k k< z. rw (stays k k< z) (g .real k k< z));
         level = level;
         nearest = nearest-all;
         standing = each (Standing (q .map) c limit place end′ v) standing-new standing-old;
@@ -336,3 +336,6 @@ module _ {q : Task} {n c limit place count end j note x d end′ : ℕ} {w v : L
 
   pub noted-now : predecessor v j ≡ note
   noted-now = note-now
+
+  pub lengths-now : (k : ℕ) → k < n → k ≢ j → lengthTo v k ≡ lengthTo w k
+  lengths-now k k< o = same k k< o .0

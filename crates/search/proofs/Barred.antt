@@ -1,6 +1,6 @@
 -- How the search goes on from a line with banned turns: where two others have gone on before it from the same node, the turns banned from these are left.
-use Rattle.work_area.specs.Area.{Held, searchTo, lengthsFrom, nearestFrom}
-use Rattle.search.specs.Area.{far, noteWeight, keyWeight, lengthTo, predecessor, nearestFree, queued, Tie, lineOf}
+use Rattle.work_area.specs.Area.{searchTo, lengthsFrom, lastBarredFrom}
+use Rattle.search.specs.Area.{Mirrored, far, noteWeight, keyWeight, lengthTo, predecessor, nearestFree, queued, Tie, lineOf}
 use Prim.Native.Nat.{ℕ, _+_, _-_, _/_, _%_, _≤_, _<_}
 use mathlib.Core.Path.{_≡_, refl, sym, _∙_, ap, subst}
 use mathlib.Core.Bool.{Bool, true, false}
@@ -15,7 +15,7 @@ use Rattle.search.specs.declared.relax.Going.{Going}
 use Rattle.search.specs.declared.expand.Pair.{Pair}
 use Rattle.buffers.proofs.Kept.{kept-then, kept-within}
 use Rattle.buffers.proofs.Cases.{le-or-lt}
-use Rattle.work_area.proofs.Holding.{held-kept, few, line-ok}
+use Rattle.search.proofs.Holding.{held-kept, few, line-ok}
 use Rattle.search.proofs.Follows.{known, follows-unless}
 use Rattle.search.proofs.Keeping.{key-same, underway-same}
 use Rattle.search.proofs.Growing.{grew-then, free-grew, backed-grew, settled-grew}
@@ -25,9 +25,9 @@ true-or : (b : Bool) → (b ≡ true) ⊎ (b ≡ false)
 true-or true = inl refl
 true-or false = inr refl
 
--- The cells of the nearest lines are changed alone.
-module _ {q : Task} {n c limit place count end : ℕ} {w v : List ℕ} (g : Underway q n c limit place count end w) (k : Kept nearestFrom searchTo w v) where
-  same : (a : ℕ) → a < nearestFrom → getD v a 0 ≡ getD w a 0
+-- The cells of the last lines with banned turns are changed alone.
+module _ {q : Task} {n c limit place count end : ℕ} {w v : List ℕ} (g : Underway q n c limit place count end w) (k : Kept lastBarredFrom searchTo w v) where
+  same : (a : ℕ) → a < lastBarredFrom → getD v a 0 ≡ getD w a 0
   same = k .below
 
   length-same : (l : ℕ) → l < n → lengthTo v l ≡ lengthTo w l
@@ -44,7 +44,7 @@ module _ {q : Task} {n c limit place count end : ℕ} {w v : List ℕ} (g : Unde
         new = λ l l< z y. absurd (omega (arith, length-same l l<));
       }
 
-  held-now : Held v n (q .map)
+  held-now : Mirrored v n (q .map)
   held-now = held-kept (omega arith) k (g .held)
 
   head-same : place < end → queued v place ≡ queued w place
@@ -211,8 +211,8 @@ module _ {q : Task} {n c limit place count end count₁ end₁ count₂ end₂ a
         kept = kept-within (omega arith) (omega arith) (kept-then (first .went .kept) (second .went .kept));
       }
 
--- What was changed of the nearest lines before is changed too.
-pub expanded-kept : {q : Task} {n c limit place count end count′ end′ : ℕ} {u w v : List ℕ} → Underway q n c limit place count end u → Kept nearestFrom searchTo u w →
+-- What was changed of those cells before is changed too.
+pub expanded-kept : {q : Task} {n c limit place count end count′ end′ : ℕ} {u w v : List ℕ} → Underway q n c limit place count end u → Kept lastBarredFrom searchTo u w →
     Expanded q n c limit place w v count′ end′ → Expanded q n c limit place u v count′ end′
 expanded-kept g k e =
     record {

@@ -1,5 +1,6 @@
 -- What is used of `Follows`, and what decides it. No other module looks inside it.
-use Rattle.work_area.specs.Area.{banChain, Held}
+use Rattle.search.specs.Area.{Mirrored}
+use Rattle.work_area.specs.Area.{banChain}
 use Rattle.banned_turns.proofs.Chains.{walk-start, walk-end}
 use Rattle.model.specs.Map.{Map}
 use Prim.Native.Nat.{ℕ, _<_}
@@ -23,7 +24,7 @@ module _ {m : Map} {l j : ℕ} where
   unfolding banned
   follows-unless allowed e f = record { line = f .line; meets = e ∙ f .meets; allowed = allowed }
 
-  pub follows-free : {w : List ℕ} {n k : ℕ} → Held w n m → banChain (m .bans) k ≡ 0 → lineAt m k .end ≡ lineAt m l .end → Follows m l j → Follows m k j
+  pub follows-free : {w : List ℕ} {n k : ℕ} → Mirrored w n m → banChain (m .bans) k ≡ 0 → lineAt m k .end ≡ lineAt m l .end → Follows m l j → Follows m k j
   follows-free {k = k} h free = follows-unless (walk-end (h .bans-held) k j 0 (omega arith) (walk-start (h .bans-held) k j 0 (sym free)))
 
   -- A line that starts where the other ends can follow it, unless the turn is banned.

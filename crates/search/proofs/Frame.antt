@@ -1,17 +1,17 @@
 -- What a store leaves as it was.
-use Rattle.work_area.specs.Area.{nearestFrom, lengthsFrom, headsFrom, nextFrom, Held}
+use Rattle.work_area.specs.Area.{lastBarredFrom, lengthsFrom, headsFrom, nextFrom}
 use Rattle.model.specs.Map.{Map}
-use Rattle.search.specs.Area.{noteWeight, listWeight, Chained, lengthTo}
+use Rattle.search.specs.Area.{Mirrored, noteWeight, listWeight, Chained, lengthTo}
 use Prim.Native.Nat.{ℕ, _+_, _/_, _%_, _≤_, _<_}
 use mathlib.Core.Path.{_≡_, _∙_, ap}
 use mathlib.Core.List.{List}
 use native.Mathlib.Omega.{arith}
 use Rattle.buffers.specs.Kept.{Kept}
-use Rattle.work_area.proofs.Holding.{few}
+use Rattle.search.proofs.Holding.{few}
 use Rattle.search.proofs.Reached.{listing-same}
 
--- The adjacency lists and the list of the reached lines stand before the cells of the nearest lines.
-pub chained-kept : {lo hi n : ℕ} {w v : List ℕ} {m : Map} → nearestFrom ≤ lo → Held w n m → Kept lo hi w v → Chained w n m → Chained v n m
+-- The adjacency lists and the list of the reached lines stand before the cells of the last lines with banned turns.
+pub chained-kept : {lo hi n : ℕ} {w v : List ℕ} {m : Map} → lastBarredFrom ≤ lo → Mirrored w n m → Kept lo hi w v → Chained w n m → Chained v n m
 chained-kept {n = n} {w = w} {v = v} low h k ch =
     let n≤ = few h in
     let f = h .formed in

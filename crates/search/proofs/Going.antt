@@ -16,7 +16,7 @@ use Rattle.search.specs.Steps.{Waits, Backed, Counted, Queued, Task, Und
 use Rattle.search.specs.declared.relax.Going.{Going}
 use Rattle.buffers.proofs.Kept.{kept-none, kept-within}
 use Rattle.buffers.proofs.Cases.{le-or-lt, here-or}
-use Rattle.work_area.proofs.Holding.{held-kept, few, line-ok}
+use Rattle.search.proofs.Holding.{held-kept, few, line-ok}
 use Rattle.search.proofs.Plain.{way-more, total-more}
 use Rattle.search.proofs.Follows.{known, follows-free}
 use Rattle.search.proofs.Reached.{count-le, room-left}
@@ -102,6 +102,10 @@ module _ {q : Task} {n c limit place count end j : ℕ} {w : List ℕ} {going : 
 
   pub apart : (Follows m l j → ⊥) → Relaxed q n c limit place going j w w count end
   apart d = relaxed-none (λ f. absurd (d f))
+
+  -- A length that is found is at most that by way of line `l`.
+  pub not-more : lengthTo w j < far → lengthTo w j ≤ going .length + getD w (linePlace j + lineLength) 0
+  not-more z = omega (arith, level j j< z, length-at)
 
   pub nearer : lengthTo w j < far → lengthTo w j ≢ going .length + getD w (linePlace j + lineLength) 0 → Relaxed q n c limit place going j w w count end
   nearer z d =

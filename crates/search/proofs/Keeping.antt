@@ -1,6 +1,6 @@
 -- The search stays under way where lengths, the queue, the adjacency lists and the nearest free lines stay, and what notes rest on.
-use Rattle.work_area.specs.Area.{queueFrom, headsFrom, nextFrom, nearestFrom, Held}
-use Rattle.search.specs.Area.{far, listWeight, lengthTo, predecessor, nearestFree, queued, named, lineOf}
+use Rattle.work_area.specs.Area.{queueFrom, headsFrom, nextFrom, lastBarredFrom}
+use Rattle.search.specs.Area.{Mirrored, far, listWeight, lengthTo, predecessor, nearestFree, queued, named, lineOf}
 use Prim.Native.Nat.{ℕ, _+_, _/_, _%_, _≤_, _<_}
 use mathlib.Core.Path.{_≡_, _∙_, ap}
 use mathlib.Core.List.{List}
@@ -9,13 +9,13 @@ use native.Mathlib.Omega.{arith}
 use lib.ListN.{length, getD}
 use Rattle.model.specs.Lines.{lineAt}
 use Rattle.search.specs.Steps.{FreeReached, Waits, Backed, Standing, Task, Underway, Grew}
-use Rattle.work_area.proofs.Holding.{few, line-ok}
+use Rattle.search.proofs.Holding.{few, line-ok}
 use Rattle.search.proofs.Reached.{listing-same, count-le}
 use Rattle.search.proofs.Nearness.{nearest-lengths}
 use Rattle.search.proofs.Growing.{free-grew, settled-grew}
 
-module _ {q : Task} {n c limit place count end d : ℕ} {w v : List ℕ} (g : Underway q n c limit place count end w) (held : Held v n (q .map))
-    (lengths : (l : ℕ) → l < n → lengthTo v l ≡ lengthTo w l) (cells : (a : ℕ) → queueFrom ≤ a → a < nearestFrom → getD v a 0 ≡ getD w a 0)
+module _ {q : Task} {n c limit place count end d : ℕ} {w v : List ℕ} (g : Underway q n c limit place count end w) (held : Mirrored v n (q .map))
+    (lengths : (l : ℕ) → l < n → lengthTo v l ≡ lengthTo w l) (cells : (a : ℕ) → queueFrom ≤ a → a < lastBarredFrom → getD v a 0 ≡ getD w a 0)
     (grew : Grew (q .map) n c d w v) where
   pub key-same : (i : ℕ) → i < end → queued v i ≡ queued w i
   key-same i i< = let n≤ = few held in let b = g .room in cells (queueFrom + i) (omega arith) (omega (arith, count-le (g .listing)))

@@ -1,7 +1,7 @@
 -- The adjacency lists: how they are made, and that a walk along one meets every such line.
-use Rattle.work_area.specs.Area.{linePlace, startNode, endNode, searchFrom, lengthsFrom, headsFrom, nextFrom, nearestFrom, Held}
+use Rattle.work_area.specs.Area.{linePlace, endNode, startNode, searchFrom, lengthsFrom, headsFrom, nextFrom, lastBarredFrom}
 use Rattle.model.specs.Map.{greatestNodeCount, greatestLineCount, Map}
-use Rattle.search.specs.Area.{far, noteWeight, listWeight, latest, lengthTo, nextLeaving, listed}
+use Rattle.search.specs.Area.{Mirrored, far, noteWeight, listWeight, latest, lengthTo, nextLeaving, listed}
 use Prim.Native.Nat.{ℕ, zero, suc, _+_, _-_, _*_, _/_, _%_, _≤_, _<_}
 use mathlib.Core.Path.{_≡_, sym, _∙_, ap, subst}
 use mathlib.Core.Bool.{cond}
@@ -20,7 +20,7 @@ use Rattle.search.specs.Promises.{Linked}
 use Rattle.buffers.proofs.Kept.{kept-none, kept-then, at-set, kept-set}
 use Rattle.search.proofs.Reached.{listing-none}
 use Rattle.buffers.proofs.Cases.{picked}
-use Rattle.work_area.proofs.Holding.{held-kept, line-ok, few}
+use Rattle.search.proofs.Holding.{held-kept, line-ok, few}
 
 latest-same : (m : Map) (v i : ℕ) → lineAt m i .start ≡ v → latest m v (i + 1) ≡ i + 1
 latest-same m v i e = rw (add-one i) (ap (λ t. cond t (suc i) (latest m v i)) (eq-eqb _ v e))
@@ -62,9 +62,9 @@ pub record Linking (w : List ℕ) (i : ℕ) (m : Map) (v : List ℕ) : Type 0 wh
   pub heads : (a : ℕ) → a < length (m .nodes) → getD v (headsFrom + a) 0 ≡ latest m a i
   pub nexts : (l : ℕ) → l < i → (nextLeaving v l ≡ latest m (lineAt m l .start) l) × (listed v l ≡ 0)
   pub all : (l : ℕ) → l < i → far ≤ lengthTo v l
-  pub kept : Kept searchFrom nearestFrom w v
+  pub kept : Kept searchFrom lastBarredFrom w v
 
-pub link-none : {w v : List ℕ} {n : ℕ} {m : Map} → Held v n m → Filled headsFrom greatestNodeCount 0 w v → Linking v 0 m v
+pub link-none : {w v : List ℕ} {n : ℕ} {m : Map} → Mirrored v n m → Filled headsFrom greatestNodeCount 0 w v → Linking v 0 m v
 link-none h f =
     let k = h .formed in
     record {
@@ -86,14 +86,14 @@ linked {n = n} {m = m} few k =
       kept = k .kept;
     }
 
-module _ {u w : List ℕ} {n i : ℕ} {m : Map} (h : Held u n m) (i< : i < n) (k : Linking u i m w) where
-  pub start-at : getD w (linePlace i + startNode) 0 ≡ lineAt m i .start
-  start-at = held-kept (omega arith) (k .kept) h .line-held i 0 i< (omega arith)
+module _ {u w : List ℕ} {n i : ℕ} {m : Map} (h : Mirrored u n m) (i< : i < n) (k : Linking u i m w) where
+  pub start-at : getD w (linePlace i + endNode) 0 ≡ lineAt m i .start
+  start-at = held-kept (omega arith) (k .kept) h .line-held i 1 i< (omega arith)
 
-  pub start-small : getD w (linePlace i + startNode) 0 < greatestNodeCount
+  pub start-small : getD w (linePlace i + endNode) 0 < greatestNodeCount
   start-small = let f = h .formed in omega (arith, start-at, line-ok h i< .start)
 
-  pub link-step : {v : ℕ} → v ≡ getD w (linePlace i + startNode) 0 →
+  pub link-step : {v : ℕ} → v ≡ getD w (linePlace i + endNode) 0 →
       Linking u (i + 1) m (set (set (set w (nextFrom + i) (getD w (headsFrom + v) 0)) (headsFrom + v) (i + 1)) (lengthsFrom + i) (far * noteWeight))
   link-step {v} at =
       let x = getD w (headsFrom + v) 0 in
@@ -126,9 +126,9 @@ module _ {u w : List ℕ} {n i : ℕ} {m : Map} (h : Held u n m) (i< : i < n) (k
       }
 
 -- The node where line `l` ends.
-module _ {w : List ℕ} {n l v : ℕ} {m : Map} (h : Held w n m) (l< : l < n) (at : v ≡ getD w (linePlace l + endNode) 0) where
+module _ {w : List ℕ} {n l v : ℕ} {m : Map} (h : Mirrored w n m) (l< : l < n) (at : v ≡ getD w (linePlace l + startNode) 0) where
   pub end-is : v ≡ lineAt m l .end
-  end-is = at ∙ h .line-held l 1 l< (omega arith)
+  end-is = at ∙ h .line-held l 0 l< (omega arith)
 
   pub end-in : v < length (m .nodes)
   end-in = omega (arith, end-is, line-ok h l< .end)

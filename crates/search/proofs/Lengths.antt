@@ -8,18 +8,19 @@ use mathlib.Core.Logic.{⊎-elim}
 use native.Mathlib.Omega.{arith}
 use lib.ListN.{length}
 use Rattle.model.specs.Lines.{Follows, total}
+use Rattle.search.specs.declared.Terminus.{Terminus}
 use Rattle.search.specs.Ways.{line, Distance}
 use Rattle.search.specs.Steps.{Task, Counted, Underway, Based}
 use Rattle.search.proofs.Plain.{Grown, one, more, total-more, total-one, grown-of}
 use Rattle.search.proofs.Follows.{known}
 use Rattle.buffers.proofs.Cases.{le-or-lt}
 
-pub last-known : {m : Map} {c f l : ℕ} {r : List ℕ} → Grown m c f l r → l < length (m .lines)
-last-known (one h k) = h
+pub last-known : {m : Map} {c l : ℕ} {f : Terminus} {r : List ℕ} → Grown m c f l r → l < length (m .lines)
+last-known (one h s k) = h
 last-known (more g f k) = known f
 
 module _ {q : Task} {n c limit place count end : ℕ} {w : List ℕ} (g : Underway q n c limit place count end w)
-    (b : Based (q .map) c (q .first) limit w) (done : end ≤ place) where
+    (b : Based (q .map) n c (q .from) limit w) (done : end ≤ place) where
   all : (l j : ℕ) → l < n → lengthTo w l ≤ limit → Follows (q .map) l j → Counted (q .map) c limit (l + 1) l j w
   all l j l< near f =
       ⊎-elim
@@ -27,8 +28,10 @@ module _ {q : Task} {n c limit place count end : ℕ} {w : List ℕ} (g : Underw
       (⊎-elim (λ y. absurd (omega (arith, y .1, y .2))) (λ y. absurd (omega (arith, y .1 .1, y .1 .2))))
       (g .standing l l< (let s = g .small in omega arith))
 
-  below : {l : ℕ} {r : List ℕ} → Grown (q .map) c (q .first) l r → total (q .map) r ≤ limit → lengthTo w l ≤ total (q .map) r
-  below (one i k) t = omega (arith, b k (omega (arith, total-one (q .map) (q .first))), total-one (q .map) (q .first))
+  below : {l : ℕ} {r : List ℕ} → Grown (q .map) c (q .from) l r → total (q .map) r ≤ limit → lengthTo w l ≤ total (q .map) r
+  below {l} (one i s k) t =
+      let h = g .held .line-count in
+      omega (arith, b l (omega arith) s k (omega (arith, total-one (q .map) l)), total-one (q .map) l)
   below (more {l} {j} {ls = r} p f k) t =
       let from = last-known p in
       let h = g .held in
@@ -36,7 +39,7 @@ module _ {q : Task} {n c limit place count end : ℕ} {w : List ℕ} (g : Underw
       let d = below p (omega arith) in
       omega (arith, all l j (omega arith) (omega arith) f .tight k (omega arith))
 
-  pub settled : (l : ℕ) → l < n → Distance (q .map) c (q .first) limit (line l) (lengthTo w l)
+  pub settled : (l : ℕ) → l < n → Distance (q .map) c (q .from) limit (line l) (lengthTo w l)
   settled l l< =
       record {
         near = λ d. record {

@@ -1,4 +1,5 @@
 -- Laws that the proofs of the functions cite.
+pub mod Holding
 pub mod Plain
 pub mod Follows
 pub mod Reached
@@ -19,5 +20,5 @@ pub mod Arriving
 pub mod Going
 pub mod Passing
 pub mod Barred
-pub mod Beginning
+pub mod Seeding
 pub mod Lengths

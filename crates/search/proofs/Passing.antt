@@ -2,9 +2,8 @@
 use Rattle.work_area.specs.Area.{searchFrom, searchTo, banChain, banAt, banSecond, banEarlier}
 use Rattle.banned_turns.proofs.Chains.{WalkAt, walk-start, walk-on, walk-less, walk-end}
 use Rattle.model.proofs.Tests.{both}
-use borrow.Author.Tests.{ltb-true, eqb-true}
-use Rattle.banned_turns.proofs.Fitting.{fits-first, fits-meeting}
-use lib.Dec.{ltb}
+use borrow.Author.Tests.{eqb-true}
+use Rattle.banned_turns.proofs.Fitting.{fits-first, fits-second, fits-meeting}
 use lib.ListN.{length, getD}
 use mathlib.Core.Bool.{true}
 use Rattle.model.specs.Map.{greatestLineCount, greatestBanCount, Line, Turn, Map, fitting, allFitting}
@@ -21,7 +20,7 @@ use Rattle.search.specs.Steps.{Free, FreeReached, Waits, Counted, Settle
 use Rattle.search.specs.declared.relax.Going.{Going}
 use Rattle.buffers.proofs.Kept.{kept-none, kept-then, kept-within}
 use Rattle.buffers.proofs.Cases.{le-or-lt}
-use Rattle.work_area.proofs.Holding.{few, line-ok}
+use Rattle.search.proofs.Holding.{few, line-ok}
 use Rattle.search.proofs.Plain.{class-last, grown-of}
 use Rattle.search.proofs.Follows.{known, meets, follows-free}
 use Rattle.search.proofs.Leaving.{latest-le, latest-hit, latest-all}
@@ -238,10 +237,6 @@ pub record AlongBans (q : Task) (n c limit place : ℕ) (going : Going) (other :
   pub goes : Goes (q .map) n place end w going
   pub walk : WalkAt (q .map .bans) other greatestLineCount x
   pub counted : (j : ℕ) → (WalkAt (q .map .bans) other j x → ⊥) → Follows (q .map) (going .line) j → Counted (q .map) c limit (going .note) (going .line) j w
-
-fits-second : (lines : List Line) (t : Turn) → fitting lines t ≡ true → t .second < length lines
-unfolding fitting
-fits-second lines t e = ltb-true _ _ (both (ltb (t .second) (length lines)) _ (both (ltb (t .first) (length lines)) _ e .1) .0)
 
 fits-at : (lines : List Line) (bans : List Turn) (i : ℕ) → i < length bans → allFitting lines bans ≡ true → fitting lines (banAt bans i) ≡ true
 unfolding allFitting

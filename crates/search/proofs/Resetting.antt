@@ -1,7 +1,7 @@
 -- How the list is gone through to reset what a search found.
-use Rattle.work_area.specs.Area.{linePlace, endNode, searchFrom, lengthsFrom, headsFrom, nextFrom, nearestFrom, Held}
+use Rattle.work_area.specs.Area.{linePlace, startNode, searchFrom, lengthsFrom, headsFrom, nextFrom, lastBarredFrom}
 use Rattle.model.specs.Map.{greatestNodeCount, Map}
-use Rattle.search.specs.Area.{far, noteWeight, listWeight, Chained, Listing, lengthTo, firstLeaving, nextLeaving, listed, nearestFree}
+use Rattle.search.specs.Area.{Mirrored, far, noteWeight, listWeight, Chained, Listing, lengthTo, firstLeaving, nextLeaving, listed, nearestFree}
 use Rattle.model.specs.Lines.{lineAt}
 use Prim.Native.Nat.{ℕ, _+_, _-_, _*_, _/_, _%_, _≤_, _<_}
 use mathlib.Core.Path.{_≡_, refl, sym, _∙_, ap, subst}
@@ -17,7 +17,7 @@ use Rattle.buffers.proofs.Kept.{kept-none, kept-then, at-set, kept-set}
 use Rattle.search.proofs.Reached.{listing-none}
 use Rattle.search.proofs.Places.{place-le, past}
 use Rattle.buffers.proofs.Cases.{le-or-lt}
-use Rattle.work_area.proofs.Holding.{held-kept, few}
+use Rattle.search.proofs.Holding.{held-kept, few}
 use Rattle.search.proofs.Leaving.{end-is, end-in}
 
 -- The first `i` places are gone through. A line that is still reached is at one of the others.
@@ -28,7 +28,7 @@ pub record Resetting (m : Map) (n count i : ℕ) (u w : List ℕ) : Type 0 where
   pub left : (k : ℕ) → i ≤ k → k < n → listed w k ≡ listed u k
   pub every : (l : ℕ) → l < n → lengthTo w l < far → (k : ℕ) × (i ≤ k) × (k < count) × (listed u k ≡ l + 1)
   pub bare : (a : ℕ) → a < length (m .nodes) → 0 < nearestFree w a → (k : ℕ) × (i ≤ k) × (k < count) × (lineAt m (listed u k - 1) .end ≡ a)
-  pub kept : Kept searchFrom nearestFrom u w
+  pub kept : Kept searchFrom lastBarredFrom u w
 
 pub resetting-start : {m : Map} {n : ℕ} {u : List ℕ} (ch : Chained u n m) → Resetting m n (ch .listing .0) 0 u u
 resetting-start {m} {u = u} ch =
@@ -47,7 +47,7 @@ resetting-start {m} {u = u} ch =
       kept = kept-none;
     }
 
-module _ {n count i : ℕ} {u w : List ℕ} {m : Map} (h : Held u n m) (s : Listing u n count) (i< : i < n) (k : Resetting m n count i u w) where
+module _ {n count i : ℕ} {u w : List ℕ} {m : Map} (h : Mirrored u n m) (s : Listing u n count) (i< : i < n) (k : Resetting m n count i u w) where
   -- What stands at place `i`.
   pub listed-le : listed w i ≤ n
   listed-le = omega (arith, k .left i (omega arith) i<, place-le s i<)
@@ -56,7 +56,7 @@ module _ {n count i : ℕ} {u w : List ℕ} {m : Map} (h : Held u n m) (s : List
   at-end e = past s i< (sym (k .left i (omega arith) i<) ∙ e)
 
   -- The node where that line ends.
-  module _ (l a : ℕ) (e : l + 1 ≡ listed w i) (at : a ≡ getD w (linePlace l + endNode) 0) where
+  module _ (l a : ℕ) (e : l + 1 ≡ listed w i) (at : a ≡ getD w (linePlace l + startNode) 0) where
     here< : l < n
     here< = omega (arith, listed-le)
 
@@ -152,7 +152,7 @@ module _ {n count i : ℕ} {u w : List ℕ} {m : Map} (h : Held u n m) (s : List
           }
 
 -- The list is gone through, by its end or by its length.
-pub reset-done : {n i : ℕ} {u w : List ℕ} {m : Map} → Held u n m → (ch : Chained u n m) → ch .listing .0 ≤ i →
+pub reset-done : {n i : ℕ} {u w : List ℕ} {m : Map} → Mirrored u n m → (ch : Chained u n m) → ch .listing .0 ≤ i →
     Resetting m n (ch .listing .0) i u w → Reset m n u w
 reset-done {n} {i} {u} {w} {m} h ch c k =
     let n≤ = few h in

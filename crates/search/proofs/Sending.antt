@@ -1,8 +1,8 @@
 -- The store of the nearest free line of a node.
-use Rattle.work_area.specs.Area.{linePlace, endNode, headsFrom, banChain, Held}
+use Rattle.work_area.specs.Area.{linePlace, startNode, headsFrom, banChain}
 use Rattle.model.specs.Map.{greatestLineCount, Map}
 use Rattle.model.specs.Lines.{lineAt}
-use Rattle.search.specs.Area.{listWeight, NearerBy, farther, nearest, alike, firstLeaving, nearestFree}
+use Rattle.search.specs.Area.{Mirrored, listWeight, NearerBy, farther, nearest, alike, firstLeaving, nearestFree}
 use Rattle.search.specs.Steps.{Free, Sent}
 use Prim.Native.Nat.{ℕ, _+_, _*_, _/_, _%_, _<_}
 use mathlib.Core.Path.{_≡_, refl, sym, ap, subst}
@@ -32,7 +32,7 @@ sent-barred bars =
       kept = kept-none;
     }
 
-pub sent-free : {m : Map} {limit n j v x : ℕ} {w : List ℕ} → Held w n m → j < n → v ≡ getD w (linePlace j + endNode) 0 → Free m j →
+pub sent-free : {m : Map} {limit n j v x : ℕ} {w : List ℕ} → Mirrored w n m → j < n → v ≡ getD w (linePlace j + startNode) 0 → Free m j →
     NearerBy limit w (getD w (headsFrom + v) 0 / listWeight) j x →
     Sent m limit j w (set w (headsFrom + v) (getD w (headsFrom + v) 0 % listWeight + listWeight * x)) (eqb x (j + 1))
 sent-free {m} {limit} {n} {j} {v} {x} {w} h j< at free by =

@@ -1,17 +1,29 @@
 -- What stands in the work area besides the map: the adjacency lists, the list of the lines that a search has
 -- reached, and what it has found.
-use Rattle.work_area.specs.Area.{lengthsFrom, queueFrom, headsFrom, nextFrom, nearestFrom, Held}
+use Rattle.work_area.specs.Area.{lineSize, linePlace, lengthsFrom, queueFrom, headsFrom, nextFrom, lineNumbers, BansHeld, Held}
+use Rattle.work_area.specs.Mirror.{mirrorLine, mirror}
+use Rattle.model.specs.WellFormed.{WellFormed}
+use Rattle.model.specs.Work.{workLength}
+use Rattle.search.specs.declared.Terminus.{Terminus}
 use Rattle.model.specs.Map.{Map}
 use Rattle.model.specs.Reading.{greatestLegLength}
 use Prim.Native.Nat.{ℕ, zero, suc, _+_, _-_, _*_, _/_, _%_, _≤_, _<_}
 use mathlib.Core.Path.{_≡_}
 use mathlib.Core.Bool.{cond}
-use mathlib.Core.List.{List, [], _∷_, _++_}
+use mathlib.Core.List.{List, [], _∷_}
 use mathlib.Core.Logic.{_⊎_}
 use lib.ListN.{length, getD}
 use lib.Dec.{eqb}
 use Rattle.model.specs.Lines.{lineAt, Follows}
 use Rattle.search.specs.Ways.{line, Distance}
+
+-- Searches go along the mirrored map. The work area holds the map whose mirror is `m`: each line's numbers are those of the mirrored line.
+pub record Mirrored (w : List ℕ) (lines : ℕ) (m : Map) : Type 0 where
+  pub full : workLength ≤ length w
+  pub formed : WellFormed m
+  pub line-count : length (m .lines) ≡ lines
+  pub line-held : (i k : ℕ) → i < lines → k < lineSize → getD w (linePlace i + k) 0 ≡ getD (lineNumbers (mirrorLine (lineAt m i))) k 0
+  pub bans-held : BansHeld w lines (m .bans)
 
 -- The cells. For each line the length found to it (past the limit of the search where no way is within it) and, below `noteWeight`, its predecessor:
 -- 1 + the line, several, or 0.
@@ -28,7 +40,7 @@ lengthTo w l = getD w (lengthsFrom + l) 0 / noteWeight
 abbrev pub predecessor : List ℕ → ℕ → ℕ
 predecessor w l = getD w (lengthsFrom + l) 0 % noteWeight
 
--- For each node the first line of its adjacency list, for each line the next, and for each node the nearest line that ends there.
+-- For each node the first line of its adjacency list, and for each line the next.
 abbrev pub listWeight : ℕ
 listWeight = 2_048
 
@@ -37,9 +49,6 @@ firstLeaving w v = getD w (headsFrom + v) 0 % listWeight
 
 abbrev pub nextLeaving : List ℕ → ℕ → ℕ
 nextLeaving w l = getD w (nextFrom + l) 0 % listWeight
-
-abbrev pub nearestLine : List ℕ → ℕ → ℕ
-nearestLine w v = getD w (nearestFrom + v) 0
 
 -- In the cells of the next lines stands the list of the lines that a search has reached, times `listWeight`: 1 + the line at place `i`, or 0.
 abbrev pub listed : List ℕ → ℕ → ℕ
@@ -127,17 +136,16 @@ pub record Predecessors (m : Map) (w : List ℕ) (i j x : ℕ) : Type 0 where
 abbrev pub Tied : Map → ℕ → ℕ → List ℕ → Type 0
 Tied m lines limit w = (j : ℕ) → j < lines → lengthTo w j ≤ limit → Predecessors m w lines j (predecessor w j)
 
--- The `count` lines up to line `last`, by the predecessor of each that stands in the area.
-abbrev pub linesTo : List ℕ → ℕ → ℕ → List ℕ
-linesTo w last zero = []
-linesTo w last (suc count) = linesTo w (predecessor w last - 1) count ++ last ∷ []
+-- The `count` lines from line `first` on, on the map itself: behind each stands the one that is before it on the mirrored map.
+abbrev pub linesFrom : List ℕ → ℕ → ℕ → List ℕ
+linesFrom w first zero = []
+linesFrom w first (suc count) = first ∷ linesFrom w (predecessor w first - 1) count
 
--- A search from line `first` is done: the length to every line, and its predecessor.
-pub record Searched (m : Map) (lines class first limit : ℕ) (w : List ℕ) : Type 0 where
-  pub held : Held w lines m
-  pub inside : first < lines
+-- A search from there is done: the length to every line, and its predecessor.
+pub record Searched (m : Map) (lines class : ℕ) (from : Terminus) (limit : ℕ) (w : List ℕ) : Type 0 where
+  pub held : Mirrored w lines m
   pub small : limit ≤ greatestLegLength
-  pub found : (l : ℕ) → l < lines → Distance m class first limit (line l) (lengthTo w l)
+  pub found : (l : ℕ) → l < lines → Distance m class from limit (line l) (lengthTo w l)
   pub tied : Tied m lines limit w
 
 -- The line that the cell of a node names: the cell is 1 + the line where it alone is nearest, and 1,024 more where another is as near.
@@ -161,15 +169,7 @@ pub data NearerBy (limit : ℕ) (w : List ℕ) (x l : ℕ) : ℕ → Type 0 wher
   nearest : {r : ℕ} → r ≡ l + 1 → lengthTo w l ≤ limit → (0 < x → lengthTo w l < lengthTo w (named x)) → NearerBy limit w x l r
   alike : {r : ℕ} → r ≡ named x + several → lengthTo w l ≤ limit → 0 < x → lengthTo w l ≡ lengthTo w (named x) → NearerBy limit w x l r
 
--- What it says of all lines.
-abbrev pub NearestLine : Map → ℕ → ℕ → List ℕ → ℕ → ℕ → Type 0
-NearestLine m lines limit w v x = Nearest m limit w (λ l. l < lines) v x
-
--- That stands in the area for every node.
-abbrev pub Reaching : Map → ℕ → ℕ → List ℕ → Type 0
-Reaching m lines limit w = (v : ℕ) → v < length (m .nodes) → NearestLine m lines limit w v (nearestLine w v)
-
--- The work area is ready for searches: it holds the map, and the adjacency lists are made.
+-- The work area is ready for searches: it holds the map, and the adjacency lists of the mirrored map are made.
 pub record Set (m : Map) (lines : ℕ) (w : List ℕ) : Type 0 where
   pub held : Held w lines m
-  pub chained : Chained w lines m
+  pub chained : Chained w lines (mirror m)

@@ -1,8 +1,8 @@
 -- What the steps of a search promise one another.
-use Rattle.work_area.specs.Area.{searchFrom, searchTo, lengthsFrom, queueFrom, headsFrom, nextFrom, nearestFrom, banChain, banSecond, banEarlier, Held}
+use Rattle.work_area.specs.Area.{searchFrom, searchTo, lengthsFrom, queueFrom, headsFrom, nextFrom, lastBarredFrom, banChain, banSecond, banEarlier}
 use Rattle.model.specs.Map.{greatestLineCount, greatestNodeCount, Map}
 use Rattle.model.specs.Reading.{greatestLegLength}
-use Rattle.search.specs.Area.{far, several, keyWeight, Chained, Listing, latest, lengthTo, predecessor, firstLeaving, nextLeaving, listed, nearestFree, queued, named, Tie, Nearest, NearerBy, lineOf, keyOf}
+use Rattle.search.specs.Area.{Mirrored, far, several, keyWeight, Chained, Listing, latest, lengthTo, predecessor, firstLeaving, nextLeaving, listed, nearestFree, queued, named, Tie, Nearest, NearerBy, lineOf, keyOf}
 use Prim.Native.Nat.{ℕ, _+_, _-_, _/_, _≤_, _<_}
 use mathlib.Core.Path.{_≡_}
 use mathlib.Core.Bool.{Bool, true}
@@ -12,7 +12,9 @@ use lib.ListN.{length, getD}
 use lib.Dec.{eqb}
 use Rattle.model.specs.Lines.{lineAt, turnAmong, Follows}
 use Rattle.buffers.specs.Kept.{Kept}
-use Rattle.search.specs.Ways.{line, Reached}
+use Rattle.search.specs.Ways.{line, node, Begins, Reached}
+use Rattle.search.specs.declared.Terminus.{Terminus}
+use Rattle.search.specs.declared.Terminus.the-variants.{Line, Node}
 use Rattle.search.specs.declared.relax.Going.{Going}
 use Rattle.search.specs.declared.expand.Pair.{Pair}
 
@@ -67,15 +69,15 @@ pub record Queued (lines : ℕ) (w : List ℕ) (key : ℕ) : Type 0 where
 -- What is searched for.
 pub record Task : Type 0 where
   pub map : Map
-  pub first : ℕ
+  pub from : Terminus
 
-abbrev pub task : Map → ℕ → Task
-task m first = record { map = m; first = first }
+abbrev pub task : Map → Terminus → Task
+task m from = record { map = m; from = from }
 
 -- The search is under way. The queue waits from place `place` on, in the order of lengths. A length is that of a way within the limit, and no longer than
 -- by way of a line that waits: so it is found once and stays.
 pub record Underway (q : Task) (lines class limit place count end : ℕ) (w : List ℕ) : Type 0 where
-  pub held : Held w lines (q .map)
+  pub held : Mirrored w lines (q .map)
   pub chained : Chained w lines (q .map)
   pub listing : Listing w lines count
   pub small : limit ≤ greatestLegLength
@@ -84,7 +86,7 @@ pub record Underway (q : Task) (lines class limit place count end : ℕ) (w : Li
   pub ordered : (i k : ℕ) → place ≤ i → i ≤ k → k < end → queued w i ≤ queued w k
   pub queue : (i : ℕ) → place ≤ i → i < end → Queued lines w (queued w i)
   pub within : (l : ℕ) → l < lines → lengthTo w l < far → lengthTo w l ≤ limit
-  pub real : (l : ℕ) → l < lines → lengthTo w l < far → Reached (q .map) class (q .first) (line l) (lengthTo w l)
+  pub real : (l : ℕ) → l < lines → lengthTo w l < far → Reached (q .map) class (q .from) (line l) (lengthTo w l)
   pub level : (l i : ℕ) → l < lines → lengthTo w l < far → place ≤ i → i < end → lengthTo w l ≤ queued w i / keyWeight + lineAt (q .map) l .length
   pub nearest : (v : ℕ) → v < length (q .map .nodes) → Nearest (q .map) limit w (FreeReached (q .map) lines w) v (nearestFree w v)
   pub standing : (l : ℕ) → l < lines → lengthTo w l < far → Standing (q .map) class limit place end w l
@@ -103,18 +105,44 @@ pub record Reset (m : Map) (lines : ℕ) (w v : List ℕ) : Type 0 where
   pub empty : Listing v lines 0
   pub all : (l : ℕ) → l < lines → far ≤ lengthTo v l
   pub bare : (a : ℕ) → a < length (m .nodes) → nearestFree v a ≡ 0
-  pub kept : Kept searchFrom nearestFrom w v
+  pub kept : Kept searchFrom lastBarredFrom w v
 
--- The length to the first line is its own, where its class and its length allow that.
-abbrev pub Based : Map → ℕ → ℕ → ℕ → List ℕ → Type 0
-Based m class first limit w =
-    lineAt m first .frc ≤ class → lineAt m first .length ≤ limit → lengthTo w first ≤ lineAt m first .length
+-- The length to line `l` is at most its own, where its class and its length allow that.
+abbrev pub BasedAt : Map → ℕ → ℕ → List ℕ → ℕ → Type 0
+BasedAt m class limit w l = lineAt m l .frc ≤ class → lineAt m l .length ≤ limit → lengthTo w l ≤ lineAt m l .length
 
--- The search from line `first` begins, with one line on the list and in the queue, or none.
-pub record Begun (m : Map) (lines class first limit : ℕ) (w v : List ℕ) (count end : ℕ) : Type 0 where
-  pub underway : Underway (task m first) lines class limit 0 count end v
-  pub based : Based m class first limit v
-  pub kept : Kept searchFrom nearestFrom w v
+-- So it is to each line that ways may begin with.
+abbrev pub Based : Map → ℕ → ℕ → Terminus → ℕ → List ℕ → Type 0
+Based m lines class from limit w = (l : ℕ) → l < lines → Begins m from l → BasedAt m class limit w l
+
+-- The search from there begins: some of the lines that ways may begin with are reached, each at its own length.
+pub record Seeding (q : Task) (lines class limit count end : ℕ) (w : List ℕ) : Type 0 where
+  pub underway : Underway q lines class limit 0 count end w
+  pub own : (l : ℕ) → l < lines → lengthTo w l < far → lengthTo w l ≡ lineAt (q .map) l .length
+
+-- Line `j` is one more, where its class and its length allow that.
+pub record Seeded (q : Task) (lines class limit j : ℕ) (w v : List ℕ) (count end : ℕ) : Type 0 where
+  pub seeding : Seeding q lines class limit count end v
+  pub based : BasedAt (q .map) class limit v j
+  pub others : (k : ℕ) → k < lines → k ≢ j → lengthTo v k ≡ lengthTo w k
+  pub kept : Kept searchFrom lastBarredFrom w v
+
+-- All lines that start at node `v` are.
+pub record SeededNode (m : Map) (lines class v limit : ℕ) (w u : List ℕ) (count end : ℕ) : Type 0 where
+  pub seeding : Seeding (task m (node v)) lines class limit count end u
+  pub based : Based m lines class (node v) limit u
+  pub kept : Kept searchFrom lastBarredFrom w u
+
+-- The terminus is one of the map.
+abbrev pub Stands : Map → ℕ → Terminus → Type 0
+Stands m lines (Line l) = l < lines
+Stands m lines (Node v) = v < length (m .nodes)
+
+-- All lines that ways may begin with are reached, where their class and their length allow that.
+pub record Begun (m : Map) (lines class : ℕ) (from : Terminus) (limit : ℕ) (w v : List ℕ) (count end : ℕ) : Type 0 where
+  pub underway : Underway (task m from) lines class limit 0 count end v
+  pub based : Based m lines class from limit v
+  pub kept : Kept searchFrom lastBarredFrom w v
 
 -- `r` is `x` with `note` noted too.
 pub record Noted (x note r : ℕ) : Type 0 where
@@ -139,7 +167,7 @@ pub record Put (j note x count : ℕ) (w v : List ℕ) : Type 0 where
   pub list : (i : ℕ) → i < greatestLineCount → i ≢ count → listed v i ≡ listed w i
   pub last : listed v count ≡ j + 1
   pub rest : (a : ℕ) → queueFrom ≤ a → a < nextFrom → getD v a 0 ≡ getD w a 0
-  pub kept : Kept searchFrom nearestFrom w v
+  pub kept : Kept searchFrom lastBarredFrom w v
 
 -- Line `j` is sent, or not, and the nearest free line of the node where it ends is updated where it is free.
 pub record Sent (m : Map) (limit j : ℕ) (w v : List ℕ) (r : Bool) : Type 0 where
@@ -160,6 +188,14 @@ pub record Inserted (place end key : ℕ) (w v : List ℕ) : Type 0 where
   pub least : queued w (at - 1) ≤ key
   pub greater : (i : ℕ) → at ≤ i → i < end → key < queued w i
   pub kept : Kept (queueFrom + place + 1) (queueFrom + end + 1) w v
+
+-- The key is put into a queue of which none is gone on from, wherever its place is.
+pub record InsertedSeed (end key : ℕ) (w v : List ℕ) : Type 0 where
+  pub ordered : ((i k : ℕ) → i ≤ k → k < end → queued w i ≤ queued w k) → (i k : ℕ) → i ≤ k → k < end + 1 → queued v i ≤ queued v k
+  pub queue : (i : ℕ) → i < end + 1 → (queued v i ≡ key) ⊎ ((k : ℕ) × (k < end) × (queued v i ≡ queued w k))
+  pub still : (k : ℕ) → k < end → (i : ℕ) × (i < end + 1) × (queued v i ≡ queued w k)
+  pub here : (i : ℕ) × (i < end + 1) × (queued v i ≡ key)
+  pub kept : Kept queueFrom (queueFrom + end + 1) w v
 
 -- Line `j` is reached: put on the list, sent or not, and put into the queue where it is sent.
 pub record Arrived (m : Map) (limit place j note x count end : ℕ) (w v : List ℕ) (count′ end′ : ℕ) : Type 0 where
@@ -220,7 +256,7 @@ pub record GoesOn (m : Map) (lines place : ℕ) (w : List ℕ) (g : Going) : Typ
 pub record Relaxed (q : Task) (lines class limit place : ℕ) (g : Going) (j : ℕ) (w v : List ℕ) (count end : ℕ) : Type 0 where
   pub underway : Underway q lines class limit place count end v
   pub grew : Grew (q .map) lines class (g .length) w v
-  pub kept : Kept searchFrom nearestFrom w v
+  pub kept : Kept searchFrom lastBarredFrom w v
   pub here : Follows (q .map) (g .line) j → Counted (q .map) class limit (g .note) (g .line) j v
   pub head : queued v place ≡ queued w place
   pub inside : place < end
@@ -229,7 +265,7 @@ pub record Relaxed (q : Task) (lines class limit place : ℕ) (g : Going) (j : �
 pub record Went (q : Task) (lines class limit place : ℕ) (g : Going) (w v : List ℕ) (count end : ℕ) : Type 0 where
   pub underway : Underway q lines class limit place count end v
   pub grew : Grew (q .map) lines class (g .length) w v
-  pub kept : Kept searchFrom nearestFrom w v
+  pub kept : Kept searchFrom lastBarredFrom w v
   pub inside : place < end
   pub head : queued v place ≡ queued w place
 
@@ -259,12 +295,12 @@ pub record PairBefore (m : Map) (lines l key : ℕ) (w : List ℕ) (p : Pair) : 
   pub other : 0 < p .one → GoneBefore m lines l key w (p .other)
   pub differ : 0 < p .one → p .one ≢ p .other
 
--- The same for a line that goes on, and then only the cells of the nearest lines are changed.
+-- The same for a line that goes on, and then only the cells of the last lines with banned turns are changed.
 pub record PairFor (m : Map) (lines place : ℕ) (g : Going) (w v : List ℕ) (p : Pair) : Type 0 where
   pub pair : PairBefore m lines (g .line) (queued w place) w p
   pub barred : 0 < p .one → Free m (g .line) → ⊥
   pub some : 0 < p .one → 0 < g .note
-  pub kept : Kept nearestFrom searchTo w v
+  pub kept : Kept lastBarredFrom searchTo w v
 
 -- A walk along the lines that leave a node, or, where `other` is not 0, along the turns that are banned from line `other - 1`: where it starts, what
 -- line is at `at`, and where it goes on.

@@ -1,14 +1,21 @@
 // How the search packs what it knows into its cells of the work area, and how their numbers are read.
 use buffers::wide;
 use model::limits::GREATEST_LEG_LENGTH;
+use work_area::END;
 use work_area::LENGTHS;
 use work_area::NEXT;
+use work_area::START;
 ghost use Rattle.model.specs.Map.{greatestLineCount};
 ghost use Rattle.model.specs.Work.{workLength};
 ghost use Rattle.search.specs.Area.{several, noteLimit, listed, keyOf, lineOf, lengthTo, predecessor};
 ghost use mathlib.Core.Path.{_≡_};
 ghost use Prim.Native.Nat.{_≤_, _<_};
 ghost use lib.ListN.{length};
+
+// A search goes along the mirrored map. There a line leads from its end to its start.
+pub const MIRROR_START: usize = END;
+
+pub const MIRROR_END: usize = START;
 
 // A cell of `LENGTHS` has the length to a line times this, and 1 + its predecessor, or 0.
 pub const NOTE_WEIGHT: u32 = 2_048;

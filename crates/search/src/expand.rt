@@ -4,6 +4,7 @@ use crate::adjacency::first_leaving;
 use crate::adjacency::next_leaving;
 use crate::cells::KEY_WEIGHT;
 use crate::cells::LIST_WEIGHT;
+use crate::cells::MIRROR_END;
 use crate::cells::SEVERAL;
 use crate::cells::key_of;
 use crate::cells::length_to;
@@ -15,17 +16,16 @@ use banned_turns::bans_from;
 use buffers::wide;
 use work_area::BAN_EARLIER;
 use work_area::BAN_SECONDS;
-use work_area::END;
 use work_area::HEADS;
-use work_area::NEAREST;
+use work_area::LAST_BARRED;
 use work_area::QUEUE;
 use work_area::field;
 ghost use mathlib.Core.Path.{_≡_};
-ghost use Rattle.work_area.specs.Area.{nearestFrom, searchTo, Held};
+ghost use Rattle.work_area.specs.Area.{lastBarredFrom, searchTo};
 ghost use Rattle.model.specs.Map.{greatestBanCount, Map};
 ghost use Rattle.model.specs.Work.{workLength};
 ghost use lib.ListN.{length};
-ghost use Rattle.search.specs.Area.{Chained};
+ghost use Rattle.search.specs.Area.{Mirrored, Chained};
 ghost use Prim.Native.Nat.{ℕ, _≤_, _<_};
 ghost use Rattle.buffers.specs.Decides.{Decides};
 ghost use Rattle.buffers.specs.Kept.{Kept};
@@ -41,10 +41,10 @@ pub struct Pair {
 // do, since a nearer free line that ends at the same node has gone on.
 fn note_for(work: &[u32], lines: usize, l: usize, chain: usize) -> u32
     requires { ⌜ l < lines ⌝ }
-    requires { ⌜ ((m : Map) × Held (now work) lines m) ⌝ }
-    ensures { λ r. ⌜ ((m : Map) → Held (now (work .entry)) lines m → NoteFor m l chain (now (work .entry)) r) ⌝ }
+    requires { ⌜ ((m : Map) × Mirrored (now work) lines m) ⌝ }
+    ensures { λ r. ⌜ ((m : Map) → Mirrored (now (work .entry)) lines m → NoteFor m l chain (now (work .entry)) r) ⌝ }
 {
-    let v = wide(field(work, l, END));
+    let v = wide(field(work, l, MIRROR_END));
     let x = work[HEADS + v] / LIST_WEIGHT;
     let own = (l + 1) as u32;
     if x == 0 {
@@ -85,8 +85,8 @@ fn going_at(work: &[u32], lines: usize, place: usize) -> Going
 // the turns that are banned from line `other - 1`.
 fn walk_start(work: &[u32], lines: usize, going: Going, other: usize) -> usize
     requires { ⌜ (going .line < lines) × (other ≤ lines) ⌝ }
-    requires { ⌜ ((m : Map) × Held (now work) lines m × Chained (now work) lines m) ⌝ }
-    ensures { λ r. ⌜ ((m : Map) → Held (now (work .entry)) lines m → Chained (now (work .entry)) lines m
+    requires { ⌜ ((m : Map) × Mirrored (now work) lines m × Chained (now work) lines m) ⌝ }
+    ensures { λ r. ⌜ ((m : Map) → Mirrored (now (work .entry)) lines m → Chained (now (work .entry)) lines m
         → Starts m lines (going .line) (going .note) other r) ⌝ }
 {
     if 0 < other {
@@ -95,7 +95,7 @@ fn walk_start(work: &[u32], lines: usize, going: Going, other: usize) -> usize
     if going.note == 0 {
         return 0;
     }
-    first_leaving(work, lines, wide(field(work, going.line, END)))
+    first_leaving(work, lines, wide(field(work, going.line, MIRROR_END)))
 }
 
 // The line at `at` of such a walk.
@@ -112,8 +112,8 @@ fn walk_line(work: &[u32], other: usize, at: usize) -> usize
 // Where the walk goes on behind `at`.
 fn walk_next(work: &[u32], lines: usize, other: usize, at: usize) -> usize
     requires { ⌜ (0 < at) × (0 < other → at ≤ greatestBanCount) × (other ≡ 0 → at ≤ lines) ⌝ }
-    requires { ⌜ ((m : Map) × Held (now work) lines m × Chained (now work) lines m) ⌝ }
-    ensures { λ r. ⌜ ((m : Map) → Held (now (work .entry)) lines m → Chained (now (work .entry)) lines m
+    requires { ⌜ ((m : Map) × Mirrored (now work) lines m × Chained (now work) lines m) ⌝ }
+    ensures { λ r. ⌜ ((m : Map) → Mirrored (now (work .entry)) lines m → Chained (now (work .entry)) lines m
         → WalkNext m (now (work .entry)) other at r) ⌝ }
 {
     if 0 < other {
@@ -151,8 +151,8 @@ fn walk(
 
 // Whether line `x - 1` has banned turns, ends where line `l` does, and stands before the key `key` in the queue: then the search has gone on from it.
 fn has_gone(work: &[u32], lines: usize, l: usize, key: u32, x: usize) -> bool
-    requires { ⌜ (l < lines) × ((m : Map) × Held (now work) lines m) ⌝ }
-    ensures { λ r. ⌜ ((m : Map) → Held (now (work .entry)) lines m → Decides (GoneBefore m lines l key (now (work .entry)) x) r) ⌝ }
+    requires { ⌜ (l < lines) × ((m : Map) × Mirrored (now work) lines m) ⌝ }
+    ensures { λ r. ⌜ ((m : Map) → Mirrored (now (work .entry)) lines m → Decides (GoneBefore m lines l key (now (work .entry)) x) r) ⌝ }
 {
     if x == 0 {
         return false;
@@ -161,7 +161,7 @@ fn has_gone(work: &[u32], lines: usize, l: usize, key: u32, x: usize) -> bool
         return false;
     }
     let other = x - 1;
-    if field(work, other, END) != field(work, l, END) {
+    if field(work, other, MIRROR_END) != field(work, l, MIRROR_END) {
         return false;
     }
     if bans_from(work, lines, other) == 0 {
@@ -176,10 +176,10 @@ fn has_gone(work: &[u32], lines: usize, l: usize, key: u32, x: usize) -> bool
 
 // Two lines that have gone on before line `l`, whose key is `key`, from the same node, if the node's cell has them. What else stands there is no harm.
 fn pair_before(work: &[u32], lines: usize, l: usize, key: u32) -> Pair
-    requires { ⌜ (l < lines) × ((m : Map) × Held (now work) lines m) ⌝ }
-    ensures { λ r. ⌜ ((m : Map) → Held (now (work .entry)) lines m → PairBefore m lines l key (now (work .entry)) r) ⌝ }
+    requires { ⌜ (l < lines) × ((m : Map) × Mirrored (now work) lines m) ⌝ }
+    ensures { λ r. ⌜ ((m : Map) → Mirrored (now (work .entry)) lines m → PairBefore m lines l key (now (work .entry)) r) ⌝ }
 {
-    let cell = work[NEAREST + wide(field(work, l, END))];
+    let cell = work[LAST_BARRED + wide(field(work, l, MIRROR_END))];
     let one = wide(cell % LIST_WEIGHT);
     let other = wide(cell / LIST_WEIGHT);
     if one == other {
@@ -196,10 +196,10 @@ fn pair_before(work: &[u32], lines: usize, l: usize, key: u32) -> Pair
 
 // Keeps line `l` in the cell of the node where it ends, and the last one that was kept there.
 fn keep_last(work: &mut [u32], lines: usize, l: usize)
-    requires { ⌜ (l < lines) × ((m : Map) × Held (now work) lines m) ⌝ }
-    ensures { λ _. ⌜ Kept nearestFrom searchTo (now (work .entry)) (now (work .exit)) ⌝ }
+    requires { ⌜ (l < lines) × ((m : Map) × Mirrored (now work) lines m) ⌝ }
+    ensures { λ _. ⌜ Kept lastBarredFrom searchTo (now (work .entry)) (now (work .exit)) ⌝ }
 {
-    let at = NEAREST + wide(field(work, l, END));
+    let at = LAST_BARRED + wide(field(work, l, MIRROR_END));
     work[at] = work[at] % LIST_WEIGHT * LIST_WEIGHT + (l + 1) as u32;
 }
 

@@ -1,22 +1,21 @@
 // The list of the lines that a search has reached, in the order in which it reached them, and the queue of those that it goes on from, the nearest first.
 use crate::cells::FAR;
 use crate::cells::LIST_WEIGHT;
+use crate::cells::MIRROR_END;
 use crate::cells::NOTE_WEIGHT;
 use crate::cells::line_at;
 use crate::nearest::nearer;
 use banned_turns::bans_from;
 use buffers::wide;
-use work_area::END;
 use work_area::HEADS;
 use work_area::LENGTHS;
 use work_area::NEXT;
 use work_area::QUEUE;
 use work_area::field;
-ghost use Rattle.work_area.specs.Area.{Held};
 ghost use Rattle.model.specs.Map.{greatestLineCount, Map};
 ghost use Rattle.model.specs.Reading.{greatestLegLength};
 ghost use Rattle.model.specs.Work.{workLength};
-ghost use Rattle.search.specs.Area.{several, Chained, lengthTo, queued};
+ghost use Rattle.search.specs.Area.{Mirrored, several, Chained, lengthTo, queued};
 ghost use mathlib.Core.Path.{_≡_};
 ghost use Prim.Native.Nat.{ℕ, _≤_, _<_};
 ghost use lib.ListN.{length};
@@ -30,8 +29,8 @@ pub struct ReachedLines {
 
 // Resets what the last search found: no line is reached, the list is empty, and no node has a nearest free line.
 pub fn reset(work: &mut [u32], lines: usize)
-    requires { ⌜ ((m : Map) × Held (now work) lines m × Chained (now work) lines m) ⌝ }
-    ensures { λ _. ⌜ ((m : Map) → Held (now (work .entry)) lines m → Chained (now (work .entry)) lines m
+    requires { ⌜ ((m : Map) × Mirrored (now work) lines m × Chained (now work) lines m) ⌝ }
+    ensures { λ _. ⌜ ((m : Map) → Mirrored (now (work .entry)) lines m → Chained (now (work .entry)) lines m
         → Reset m lines (now (work .entry)) (now (work .exit))) ⌝ }
 {
     let mut i = 0;
@@ -40,7 +39,7 @@ pub fn reset(work: &mut [u32], lines: usize)
         if x == 0 {
             return;
         }
-        let v = wide(field(work, x - 1, END));
+        let v = wide(field(work, x - 1, MIRROR_END));
         work[HEADS + v] = work[HEADS + v] % LIST_WEIGHT;
         work[LENGTHS + (x - 1)] = FAR * NOTE_WEIGHT;
         work[NEXT + i] = work[NEXT + i] % LIST_WEIGHT;
@@ -60,13 +59,13 @@ pub fn put(work: &mut [u32], j: usize, note: u32, to: u32, count: usize)
 // Whether the search is to go on from line `j`, which is just reached, with the length `to`. From a line with banned turns always. Of the free lines that end at a node only
 // the nearest goes on, and that they are several is kept in the node's cell: so the others have nothing to do.
 pub fn sends(work: &mut [u32], lines: usize, j: usize, to: u32, limit: u32) -> bool
-    requires { ⌜ (j < lines) × (to ≡ lengthTo (now work) j) × ((m : Map) × Held (now work) lines m) ⌝ }
-    ensures { λ r. ⌜ ((m : Map) → Held (now (work .entry)) lines m → Sent m limit j (now (work .entry)) (now (work .exit)) r) ⌝ }
+    requires { ⌜ (j < lines) × (to ≡ lengthTo (now work) j) × ((m : Map) × Mirrored (now work) lines m) ⌝ }
+    ensures { λ r. ⌜ ((m : Map) → Mirrored (now (work .entry)) lines m → Sent m limit j (now (work .entry)) (now (work .exit)) r) ⌝ }
 {
     if bans_from(work, lines, j) != 0 {
         return true;
     }
-    let v = wide(field(work, j, END));
+    let v = wide(field(work, j, MIRROR_END));
     let cell = work[HEADS + v];
     let x = nearer(work, cell / LIST_WEIGHT, j, to, limit);
     work[HEADS + v] = cell % LIST_WEIGHT + LIST_WEIGHT * x;

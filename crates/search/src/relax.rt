@@ -15,12 +15,11 @@ use work_area::LENGTH;
 use work_area::LENGTHS;
 use work_area::field;
 ghost use mathlib.Core.Path.{_≡_};
-ghost use Rattle.work_area.specs.Area.{Held};
 ghost use Rattle.model.specs.Lines.{lineAt};
 ghost use Rattle.model.specs.Map.{greatestLineCount, Map};
 ghost use Rattle.model.specs.Reading.{greatestLegLength};
 ghost use Rattle.model.specs.Work.{workLength};
-ghost use Rattle.search.specs.Area.{several, keyOf, queued};
+ghost use Rattle.search.specs.Area.{Mirrored, several, keyOf, queued};
 ghost use Prim.Native.Nat.{ℕ, _≤_, _<_};
 ghost use lib.ListN.{length};
 ghost use Rattle.search.specs.Steps.{Task, Underway, Noted, TieNoted, Goes, Arrived, Relaxed};
@@ -68,8 +67,8 @@ fn reach(
     limit: u32,
 ) -> ReachedLines
     requires { ⌜ (j < lines) × (note ≤ several) × (to ≤ greatestLegLength) × (list .count < lines) × (list .end ≤ list .count) ⌝ }
-    requires { ⌜ ((m : Map) × Held (now work) lines m) × ((place : ℕ) × (place < list .end) × (queued (now work) place ≤ keyOf to j)) ⌝ }
-    ensures { λ r. ⌜ ((m : Map) → Held (now (work .entry)) lines m → (place : ℕ) → place < list .end → queued (now (work .entry)) place ≤ keyOf to j
+    requires { ⌜ ((m : Map) × Mirrored (now work) lines m) × ((place : ℕ) × (place < list .end) × (queued (now work) place ≤ keyOf to j)) ⌝ }
+    ensures { λ r. ⌜ ((m : Map) → Mirrored (now (work .entry)) lines m → (place : ℕ) → place < list .end → queued (now (work .entry)) place ≤ keyOf to j
         → Arrived m limit place j note to (list .count) (list .end) (now (work .entry)) (now (work .exit)) (r .count) (r .end)) ⌝ }
 {
     put(work, j, note, to, list.count);
@@ -104,16 +103,17 @@ pub fn relax(
         → Goes (q .map) lines place (list .end) (now (work .entry)) going → lineAt (q .map) j .start ≡ lineAt (q .map) (going .line) .end
         → Relaxed q lines class limit place going j (now (work .entry)) (now (work .exit)) (r .count) (r .end)) ⌝ }
 {
+    let length = wide(going.length) + wide(field(work, j, LENGTH));
+    let found = length_to(work, j);
+    if wide(found) < length {
+        return list;
+    }
     if in_chain(work, lines, going.chain, j) {
         return list;
     }
-    let length = wide(going.length) + wide(field(work, j, LENGTH));
-    let found = length_to(work, j);
+    // A length that is found is not more than this one: so they are equal.
     if found < FAR {
-        if wide(found) == length {
-            record_tie(work, j, going.note);
-            return list;
-        }
+        record_tie(work, j, going.note);
         return list;
     }
     if class < field(work, j, FRC) {

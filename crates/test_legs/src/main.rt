@@ -11,26 +11,28 @@ use fields::leg::Leg;
 use fields::leg::Reading;
 use fields::leg::Verdict;
 use fields::leg::longest_leg;
-use legs::ends::both;
-use legs::from_line;
+use legs::first_lines::both;
 use model::limits::WORK_LENGTH;
 use model::number_of;
 use opening::Opened;
 use opening::open_map;
-use search::adjacency::first_leaving;
-use search::adjacency::next_leaving;
+use reference_legs::termini::first_terminus;
+use reference_legs::termini::next_terminus;
+use reference_legs::termini::read_terminus;
+use search::Terminus;
 use search::search;
 use ways::Ways;
-use ways::to_line;
+use ways::ways_from;
 use ways::write_lines;
 use work_area::MAP_LINES;
 ghost use mathlib.Core.Path.{_≡_};
-ghost use Prim.Native.Nat.{_<_, _≤_};
+ghost use Prim.Native.Nat.{ℕ, _<_, _≤_};
 ghost use lib.ListN.{length};
 ghost use Rattle.model.specs.Map.{Map, greatestLineCount};
 ghost use Rattle.fields.specs.Leg.{legIn};
 ghost use Rattle.legs.specs.Verdict.{Anywhere, Judged};
 ghost use Rattle.search.specs.Area.{Set};
+ghost use Rattle.search.specs.Steps.{Stands};
 ghost use Rattle.model.specs.Work.{workLength};
 ghost use Rattle.model.specs.Reading as definitions;
 
@@ -81,60 +83,73 @@ fn print_verdict(found: Verdict) {
     }
 }
 
-// The verdict on a leg: that on each line that leaves its first node, one after another.
+// The verdict on a leg: that on the readings to each of its termini, one after another.
 fn verdict(work: &mut [u32], lines: usize, leg: Leg) -> Verdict
-    requires { ⌜ ((m : Map) × Set m lines (now work) × (leg .from < length (m .nodes))) ⌝ }
-    ensures { λ r. ⌜ ((m : Map) → Set m lines (now (work .entry)) → leg .from < length (m .nodes)
+    requires { ⌜ ((m : Map) × Set m lines (now work) × (leg .to < length (m .nodes))) ⌝ }
+    ensures { λ r. ⌜ ((m : Map) → Set m lines (now (work .entry)) → leg .to < length (m .nodes)
         → Judged m lines (definitions.Reading m (legIn leg)) Anywhere (now (work .entry)) (now (work .exit)) r) ⌝ }
 {
-    let from = leg.from;
     let mut found = Verdict::Unread;
-    let mut at = first_leaving(work, lines, from);
+    let mut at = first_terminus(work, lines, leg);
     while 0 < at {
-        let more = from_line(work, lines, at - 1, leg);
+        let more = read_terminus(work, lines, at, leg);
         found = both(found, more);
-        at = next_leaving(work, lines, at);
+        at = next_terminus(work, lines, at, leg);
     }
     found
 }
 
-// The same where the leg may start at no node of the map: then it has no reading.
+// The same where the leg may end at no node of the map: then it has no reading. Nor has one that starts at no node: no line starts there.
 fn judge(work: &mut [u32], nodes: u32, lines: usize, leg: Leg) -> Verdict
     requires { ⌜ ((m : Map) × Set m lines (now work) × (length (m .nodes) ≡ nodes)) ⌝ }
     ensures { λ _. ⌜ ((m : Map) → Set m lines (now (work .entry)) → length (m .nodes) ≡ nodes → Set m lines (now (work .exit))) ⌝ }
 {
-    if nodes as usize <= leg.from {
+    if nodes as usize <= leg.to {
         return Verdict::Unread;
     }
     verdict(work, lines, leg)
 }
 
-// Writes the lines of a leg's reading by a search from its first line, and answers how many they are: 0 where the search finds no such reading.
+// Where the reading of a leg ends: at the leg's end node; on a last leg with the reading's last line.
+fn terminus_of(leg: Leg, reading: Reading) -> Terminus
+    ensures { λ r. ⌜ ((m : Map) (lines : ℕ) → leg .to < length (m .nodes) → reading .last < lines → Stands m lines r) ⌝ }
+{
+    let arrival = leg.arrival;
+    match arrival {
+        Arrival::Any => Terminus::Node(leg.to),
+        Arrival::Matching(_) => Terminus::Line(reading.last),
+    }
+}
+
+// Writes the lines of a leg's reading by a search back from where it ends, and answers how many they are: 0 where the search finds no such reading.
 fn write_reading(
     work: &mut [u32],
+    nodes: u32,
     lines: usize,
     leg: Leg,
     reading: Reading,
     out: &mut [u32],
 ) -> usize
-    requires { ⌜ ((m : Map) × Set m lines (now work)) × (greatestLineCount ≤ length (now out)) ⌝ }
+    requires { ⌜ ((m : Map) × Set m lines (now work) × (length (m .nodes) ≡ nodes)) × (greatestLineCount ≤ length (now out)) ⌝ }
     ensures { λ r. ⌜ r ≤ greatestLineCount ⌝ }
 {
     let first = reading.first;
-    let last = reading.last;
     if lines <= first {
         return 0;
     }
-    if lines <= last {
+    if lines <= reading.last {
+        return 0;
+    }
+    if nodes as usize <= leg.to {
         return 0;
     }
     let limit = longest_leg(leg.distance);
-    search(work, lines, first, leg.lowest, limit);
-    match to_line(work, lines, first, last, limit) {
+    search(work, lines, terminus_of(leg, reading), leg.lowest, limit);
+    match ways_from(work, lines, first, limit) {
         Ways::Nothing => 0,
         Ways::Several(_) => 0,
-        Ways::One(end, _, count) => {
-            write_lines(work, end, &mut out[..count]);
+        Ways::One(_, _, count) => {
+            write_lines(work, first, &mut out[..count]);
             count
         }
     }
@@ -150,7 +165,7 @@ fn show_leg(work: &mut [u32], nodes: u32, lines: usize, leg: Leg)
         return;
     };
     let mut out = [0; MAP_LINES];
-    let n = write_reading(work, lines, leg, reading, &mut out);
+    let n = write_reading(work, nodes, lines, leg, reading, &mut out);
     hand_over(b":");
     print_each(b" ", &out[..n]);
 }

@@ -21,7 +21,8 @@ ghost use Rattle.model.specs.Work.{workLength};
 ghost use Prim.Native.Nat.{_≤_, _<_};
 ghost use lib.ListN.{length};
 
-// Puts the banned turns from line `l` behind the first `from` numbers of `turns`, two numbers each, the last listed first: how many there are then.
+// Puts the banned turns into line `l` behind the first `from` numbers of `turns`, two numbers each, the last listed first: how many there are then.
+// They stand mirrored in the work area, in the chain of line `l`.
 fn put_chain(work: &[u32], l: usize, turns: &mut [u32], from: usize) -> usize
     requires { ⌜ (l < greatestLineCount) × (from ≤ length (now turns)) × (workLength ≤ length (now work)) ⌝ }
     ensures { λ r. ⌜ r ≤ length (now (turns .entry)) ⌝ }
@@ -36,8 +37,8 @@ fn put_chain(work: &[u32], l: usize, turns: &mut [u32], from: usize) -> usize
         if turns.len() - n < 2 {
             return n;
         }
-        turns[n] = l as u32;
-        turns[n + 1] = work[BAN_SECONDS + (x - 1)];
+        turns[n] = work[BAN_SECONDS + (x - 1)];
+        turns[n + 1] = l as u32;
         n += 2;
         let earlier = wide(work[BAN_EARLIER + (x - 1)]);
         if x <= earlier {

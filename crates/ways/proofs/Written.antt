@@ -1,13 +1,13 @@
--- The lines of a way, written from the last to the first.
+-- The lines of a way, written from the first to the last.
 use Rattle.work_area.specs.Area.{Held}
 use Rattle.model.specs.Map.{greatestLineCount, Map}
-use Rattle.search.specs.Area.{linesTo, predecessor}
-use Prim.Native.Nat.{ℕ, zero, suc, _-_, _≤_, _<_}
+use Rattle.search.specs.Area.{linesFrom, predecessor}
+use Prim.Native.Nat.{ℕ, zero, suc, _+_, _-_, _≤_, _<_}
 use mathlib.Core.Path.{_≡_, refl, sym, _∙_, ap}
 use mathlib.Core.List.{List, [], _∷_, _++_, append-nil}
 use native.Mathlib.Omega.{arith}
-use lib.ListN.{length, set, drop, length-set}
-use lib.Seq.{append-snoc, drop-cons, drop-length, drop-set-lt, getD-set-same}
+use lib.ListN.{length, set, take}
+use lib.Seq.{append-snoc, take-all, take-suc-set}
 use Rattle.model.specs.Lines.{Connected, single, linked}
 use Rattle.work_area.proofs.Holding.{few}
 
@@ -20,38 +20,27 @@ pub numbers : {m : Map} {w : List ℕ} {n : ℕ} {ls : List ℕ} → Held w n m 
 numbers h (single k) = (omega (arith, few h), tt)
 numbers h (linked k f c) = (omega (arith, few h), numbers h c)
 
-numbers-apart : (xs : List ℕ) (l : ℕ) → Numbers (xs ++ l ∷ []) → Numbers xs × (l < greatestLineCount)
-numbers-apart [] l h = (tt, h .0)
-numbers-apart (x ∷ xs) l h = let r = numbers-apart xs l (h .1) in ((h .0, r .0), r .1)
+pub numbers-first : (w : List ℕ) (at left : ℕ) → 0 < left → Numbers (linesFrom w at left) →
+    Numbers (linesFrom w (predecessor w at - 1) (left - 1)) × (at < greatestLineCount)
+numbers-first w at zero pos h = absurd (omega arith)
+numbers-first w at (suc j) pos h = let z : suc j - 1 ≡ j = omega arith in (rw z (h .1), h .0)
 
--- The last line still to be written, and those before it.
-apart : (w : List ℕ) (at left : ℕ) → 0 < left → linesTo w at left ≡ linesTo w (predecessor w at - 1) (left - 1) ++ at ∷ []
+-- The next line to be written, and those behind it.
+apart : (w : List ℕ) (at left : ℕ) → 0 < left → linesFrom w at left ≡ at ∷ linesFrom w (predecessor w at - 1) (left - 1)
 apart w at zero pos = absurd (omega arith)
 apart w at (suc j) pos = let z : suc j - 1 ≡ j = omega arith in rw z refl
 
-pub numbers-last : (w : List ℕ) (at left : ℕ) → 0 < left → Numbers (linesTo w at left) →
-    Numbers (linesTo w (predecessor w at - 1) (left - 1)) × (at < greatestLineCount)
-numbers-last w at left pos h = numbers-apart (linesTo w (predecessor w at - 1) (left - 1)) at (rw (apart w at left pos) at h)
+-- `all` is what is to be written: what is, and then the lines still to be written.
+pub write-step : (w all out : List ℕ) (at i n : ℕ) → i < n → n ≡ length out → all ≡ take i out ++ linesFrom w at (n - i) →
+    all ≡ take (i + 1) (set out i at) ++ linesFrom w (predecessor w at - 1) (n - (i + 1))
+write-step w all out at i n i< fits e =
+    let rest = linesFrom w (predecessor w at - 1) (n - (i + 1)) in
+    let z : n - i - 1 ≡ n - (i + 1) = omega arith in
+    let one : i + 1 ≡ suc i = omega arith in
+    e ∙ ap (λ (l : List ℕ). take i out ++ l) (rw z at (apart w at (n - i) (omega arith))) ∙ sym (append-snoc (take i out) at rest)
+    ∙ ap (λ (l : List ℕ). l ++ rest) (sym (ap (λ (k : ℕ). take k (set out i at)) one ∙ take-suc-set out i at (omega arith)))
 
-drop-set : (out : List ℕ) (i x : ℕ) → i < length out → drop i (set out i x) ≡ x ∷ drop (suc i) out
-drop-set out i x h =
-    drop-cons (set out i x) i 0 (simp length-set h)
-    ∙ ap (λ (y : ℕ). y ∷ drop (suc i) (set out i x)) (getD-set-same out i x 0 h)
-    ∙ ap (λ (l : List ℕ). x ∷ l) (drop-set-lt (suc i) out i x (omega arith))
-
--- `all` is what is to be written: the lines still to be written, and then what is.
-pub write-step : (w all out : List ℕ) (at left : ℕ) → 0 < left → left ≤ length out → all ≡ linesTo w at left ++ drop left out →
-    all ≡ linesTo w (predecessor w at - 1) (left - 1) ++ drop (left - 1) (set out (left - 1) at)
-write-step w all out at left pos fits e =
-    let rest = linesTo w (predecessor w at - 1) (left - 1) in
-    let z : left ≡ suc (left - 1) = omega arith in
-    let d : drop (left - 1) (set out (left - 1) at) ≡ at ∷ drop left out =
-    drop-set out (left - 1) at (omega arith) ∙ ap (λ (k : ℕ). at ∷ drop k out) (sym z) in
-    e ∙ ap (λ (l : List ℕ). l ++ drop left out) (apart w at left pos) ∙ append-snoc rest at (drop left out)
-    ∙ ap (λ (l : List ℕ). rest ++ l) (sym d)
-
-pub write-start : (all out : List ℕ) → all ≡ all ++ drop (length out) out
-write-start all out = sym (ap (λ (l : List ℕ). all ++ l) (drop-length out) ∙ append-nil all)
-
-pub write-end : (w all out : List ℕ) (at left : ℕ) → left ≡ 0 → all ≡ linesTo w at left ++ drop left out → out ≡ all
-write-end w all out at left z e = sym (rw z at e)
+pub write-end : (w all out : List ℕ) (at i n : ℕ) → n ≤ i → n ≡ length out → all ≡ take i out ++ linesFrom w at (n - i) → out ≡ all
+write-end w all out at i n done fits e =
+    let z : n - i ≡ 0 = omega arith in
+    sym (e ∙ ap (λ (k : ℕ). take i out ++ linesFrom w at k) z ∙ append-nil (take i out) ∙ take-all i out (omega arith))

@@ -9,6 +9,7 @@ use Rattle.model.specs.Map.{Node, Line, Turn, Map, greatestNodeCount, greatestL
 use Rattle.model.specs.Lines.{nodeAt, lineAt}
 use Rattle.model.specs.WellFormed.{WellFormed}
 use Rattle.model.specs.Work.{workLength}
+use Rattle.work_area.specs.Mirror.{mirrorTurns}
 
 -- ---- the map: its nodes, and then its lines
 
@@ -56,7 +57,7 @@ bearingBack = 6
 -- ---- behind the map: the cells of searches
 
 -- For each line the length found to it and its predecessor; the lines that a search goes on from; for each node the first line of its adjacency
--- list, and for each line the next of that list; for each node the nearest line that ends there, or what a search keeps there for itself.
+-- list, and for each line the next of that list; for each node what a search keeps there for itself.
 abbrev pub searchFrom : ℕ
 searchFrom = linesFrom + lineSize * greatestLineCount
 
@@ -72,16 +73,16 @@ headsFrom = queueFrom + greatestLineCount
 abbrev pub nextFrom : ℕ
 nextFrom = headsFrom + greatestNodeCount
 
-abbrev pub nearestFrom : ℕ
-nearestFrom = nextFrom + greatestLineCount
+abbrev pub lastBarredFrom : ℕ
+lastBarredFrom = nextFrom + greatestLineCount
 
 abbrev pub searchTo : ℕ
-searchTo = nearestFrom + greatestNodeCount
+searchTo = lastBarredFrom + greatestNodeCount
 
 -- ---- behind the search: the banned turns (W1)
 
--- For each line 1 + the last banned turn from it, or 0. For each banned turn its second line, and 1 + the one before it from the same first line,
--- or 0. So the turns from one line are a chain.
+-- They stand there mirrored, as turns of the mirrored map. For each line 1 + the last banned turn from it, or 0. For each banned turn its second line,
+-- and 1 + the one before it from the same first line, or 0. So the turns from one line are a chain.
 abbrev pub bansFrom : ℕ
 bansFrom = searchTo
 
@@ -157,7 +158,7 @@ pub record Holds (w : List ℕ) (nodes lines : ℕ) (m : Map) : Type 0 where
   pub line-count : length (m .lines) ≡ lines
   pub node-held : (i k : ℕ) → i < nodes → k < nodeSize → getD w (nodePlace i + k) 0 ≡ getD (nodeNumbers (nodeAt m i)) k 0
   pub line-held : (i k : ℕ) → i < lines → k < lineSize → getD w (linePlace i + k) 0 ≡ getD (lineNumbers (lineAt m i)) k 0
-  pub bans-held : BansHeld w lines (m .bans)
+  pub bans-held : BansHeld w lines (mirrorTurns (m .bans))
 
 -- The work area holds the map `m`, which has so many lines.
 abbrev pub Held : List ℕ → ℕ → Map → Type 0

@@ -52,12 +52,12 @@ pub const HEADS: usize = QUEUE + MAP_LINES;
 
 pub const NEXT: usize = HEADS + NODES;
 
-// A number for each node: the nearest line that ends there. While a search is under way, the last two lines with banned turns that went on from there.
-pub const NEAREST: usize = NEXT + MAP_LINES;
+// A number for each node: the last two lines with banned turns that a search went on from there. Nothing is promised of it.
+pub const LAST_BARRED: usize = NEXT + MAP_LINES;
 
-// Behind the search, the banned turns: 1 + the last one from each line, or 0; the second line of each, and 1 + the one before it from the same first
-// line, or 0.
-pub const BAN_HEADS: usize = NEAREST + NODES;
+// Behind the search, the banned turns, mirrored: 1 + the last one from each line, or 0; the second line of each, and 1 + the one before it from the
+// same first line, or 0.
+pub const BAN_HEADS: usize = LAST_BARRED + NODES;
 
 pub const BAN_SECONDS: usize = BAN_HEADS + MAP_LINES;
 

@@ -25,7 +25,7 @@ use Rattle.reference_bytes.specs.Put.{CutInto, Inside, Puts}
 use Rattle.leg_tests.specs.LegTests.{AllTested}
 use Rattle.point_choice.proofs.Routes.{short}
 use Rattle.point_choice.proofs.Choosing.{good-filled, chosen}
-use Rattle.leg_tests.proofs.Rows.{connected-lines}
+use Rattle.leg_tests.proofs.Trials.{connected-lines}
 use Rattle.point_choice.proofs.Choosing as Choosing
 
 -- The offsets that are left end on the first and on the last line.

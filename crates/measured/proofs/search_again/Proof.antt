@@ -6,7 +6,9 @@ use mathlib.Core.Path.{_≡_, refl}
 use lib.ListN.{length}
 use Rattle.model.specs.Map.{Map}
 use Rattle.search.specs.Area.{Set}
+use Rattle.work_area.specs.Mirror.{mirror}
 use Rattle.work_area.proofs.Holding.{held-kept}
+use Rattle.search.proofs.Holding.{mirrored}
 use Rattle.measured.proofs.search_again.Statement.{statement}
 use Rattle.measured.proofs.search_again.Tie as tie
 
@@ -34,8 +36,8 @@ wide-requires-2 c κs = search needs
 search-requires : tie.Need-search-requires Inv-loop μ-loop
 search-requires c κs =
     let v = c .before .before .before .loop .inv in (
-      v .0,
-      v .1 .held,
+      mirror (v .0),
+      mirrored (v .1 .held),
       v .1 .chained,
       omega (arith, c .before .before .before .before .before .if1 .left, c .before .before .before .before .before .before .wide .ensures .0, c .wide2 .ensures .0),
       omega (arith, c .before .before .before .before .if2 .left),
@@ -50,7 +52,7 @@ loop-less c = search needs
 loop-again : tie.Need-loop-again Inv-loop μ-loop
 loop-again c =
     let v = c .before .before .before .before .before .before .loop .inv in
-    let f = c .before .before .search .ensures (v .0) (v .1 .held) (v .1 .chained) in
+    let f = c .before .before .search .ensures (mirror (v .0)) (mirrored (v .1 .held)) (v .1 .chained) (omega (arith, c .before .before .before .before .before .before .before .before .if1 .left, c .before .before .before .before .before .before .before .before .before .wide .ensures .0, c .before .before .before .wide2 .ensures .0)) in
     (v .0, record { held = held-kept (omega arith) (f .kept) (v .1 .held); chained = f .chained }, omega (arith, f .kept .same, v .2))
 
 same-length : tie.Need-same-length Inv-loop μ-loop

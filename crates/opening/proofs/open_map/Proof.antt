@@ -1,7 +1,8 @@
 -- `open_map` meets its contract: the map that is read, linked; or its refusal.
-use native.Mathlib.Omega.{arith}
 use borrow.Author.Needs.{needs}
+use Rattle.work_area.specs.Mirror.{mirror}
 use Rattle.work_area.proofs.Holding.{held}
+use Rattle.search.proofs.Holding.{mirrored}
 use Rattle.depot_map.proofs.Whole.{read-whole, read-refused}
 use Rattle.opening.proofs.Told.{opened}
 use Rattle.opening.proofs.open_map.Statement.{statement}
@@ -19,7 +20,7 @@ cast-lines c = search needs
 link-requires : tie.Need-link-requires
 link-requires c κs =
     let w = read-whole (c .before .before .before .before .before .before .read-map .ensures) (c .before .before .nodes .given .1) in
-    (w .map, held (w .held))
+    (mirror (w .map), mirrored (held (w .held)))
 
 enum-known-why : tie.Need-enum-known-why
 enum-known-why c = search needs

@@ -1,8 +1,5 @@
 -- `barred_with` meets its contract: already so, no leg before, or the turn into the leg.
-use mathlib.Core.Path.{sym}
-use borrow.Author.Needs.{needs}
 use borrow.Author.Tests.{eq-eqb, ne-eqb}
-use native.Mathlib.Omega.{arith}
 use Rattle.model.specs.Lines.{banned}
 use Rattle.work_area.proofs.Holding.{few}
 use Rattle.reference_legs.specs.Legs.{barredWith}
@@ -21,7 +18,7 @@ banned-requires : tie.Need-banned-requires
 banned-requires c κs =
     let p = c .before .before .before .pre in
     let h = p .1 .1 in
-    (p .0 (omega (arith, c .if2 .left)), few h, h .full, (p .1 .0 .bans, h .bans-held))
+    (p .0, few h, h .full, (p .1 .0 .bans, h .bans-held))
 
 returns-3 : tie.Need-returns-3
 unfolding barredWith banned

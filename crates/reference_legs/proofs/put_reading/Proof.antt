@@ -9,7 +9,7 @@ use lib.ListN.{length, take, drop, length-drop}
 use lib.Seq.{length-take-le, drop-drop}
 use Rattle.model.specs.Map.{Map}
 use Rattle.model.specs.Lines.{Connected}
-use Rattle.search.specs.Area.{linesTo}
+use Rattle.search.specs.Area.{linesFrom}
 use Rattle.fields.specs.declared.leg.Reading.{Reading}
 use Rattle.fields.specs.declared.leg.Verdict.{Verdict}
 use Rattle.fields.specs.declared.leg.Verdict.the-variants.{Unread, One, Several}
@@ -45,11 +45,11 @@ module _ (from : ℕ) (r : Reading) (before : List ℕ) (fits : from + r .count 
       let k : from + r .count - from ≡ r .count = omega arith in
       rw k (length-take-le (r .count) (drop from before) (omega (arith, length-drop from before)))
 
-  connected-part : {m : Map} (w : List ℕ) → Connected m (linesTo w (r .last) (r .count)) →
-      Connected m (linesTo w (r .last) (length (take (from + r .count - from) (drop from before))))
+  connected-part : {m : Map} (w : List ℕ) → Connected m (linesFrom w (r .first) (r .count)) →
+      Connected m (linesFrom w (r .first) (length (take (from + r .count - from) (drop from before))))
   connected-part w h = rw part h
 
-  part-put : (w ys : List ℕ) → ys ≡ linesTo w (r .last) (length (take (from + r .count - from) (drop from before))) →
+  part-put : (w ys : List ℕ) → ys ≡ linesFrom w (r .first) (length (take (from + r .count - from) (drop from before))) →
       PutOne w from before (take from before ++ (ys ++ drop (from + r .count - from) (drop from before))) r
   part-put w ys e =
       let k : from + r .count - from ≡ r .count = omega arith in

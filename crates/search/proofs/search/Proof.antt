@@ -3,7 +3,7 @@ use Prim.Native.Nat.{_-_}
 use mathlib.Core.Path.{_∙_}
 use Rattle.search.specs.Steps.{Task, task, Underway, Based}
 use Rattle.buffers.proofs.Kept.{kept-then, kept-within}
-use Rattle.work_area.proofs.Holding.{few}
+use Rattle.search.proofs.Holding.{few}
 use Rattle.search.proofs.Reached.{count-le}
 use Rattle.search.proofs.Passing.{Searching, searching-start, searching-step}
 use Rattle.search.proofs.Lengths.{settled, tied}
@@ -17,12 +17,12 @@ use Rattle.search.proofs.begin.Reads as begin-reads
 use Rattle.search.proofs.expand.expand.Reads as expand-reads
 
 abbrev Inv-loop : tie.InvT-loop
-Inv-loop work₀ lines first class limit list₀ place₀ work list place =
+Inv-loop work₀ lines class limit list₀ place₀ work list place =
     (q : Task) → Underway q lines class limit 0 (list₀ .count) (list₀ .end) work₀ →
     Searching q lines class limit work₀ work place (list .count) (list .end)
 
 abbrev μ-loop : tie.MeasureT-loop
-μ-loop work₀ lines first class limit list₀ place₀ work list place = lines - place
+μ-loop work₀ lines class limit list₀ place₀ work list place = lines - place
 
 -- The search is under way at the start of each turn.
 state : (c : tie.Then1 Inv-loop μ-loop) →
@@ -31,8 +31,8 @@ state : (c : tie.Then1 Inv-loop μ-loop) →
     (q : Task) × Underway q (a .lines) (a .class) (a .limit) (k .place) (k .list .count) (k .list .end) (k .work)
 state c =
     let p = c .before .before .before .before .before .before .before .before .pre in
-    let q = task (p .0) (c .before .before .before .before .before .before .before .before .args .first) in
-    (q, c .before .before .loop .inv q (c .before .before .before .before .before .begin .ensures (p .0) (p .1) (p .2) .underway) .underway)
+    let q = task (p .0) (c .before .before .before .before .before .before .before .before .args .from) in
+    (q, c .before .before .loop .inv q (c .before .before .before .before .before .begin .ensures (p .0) (p .1) (p .2) (p .3) .underway) .underway)
 
 begin-requires : tie.Need-begin-requires Inv-loop μ-loop
 begin-requires c κs = search needs
@@ -66,27 +66,21 @@ loop-again c =
 same-length : tie.Need-same-length Inv-loop μ-loop
 same-length c =
     let p = c .before .before .before .before .before .before .before .before .pre in
-    let b = c .before .before .before .before .before .begin .ensures (p .0) (p .1) (p .2) in
+    let b = c .before .before .before .before .before .begin .ensures (p .0) (p .1) (p .2) (p .3) in
     c .before .before .loop .inv _ (b .underway) .kept .same ∙ b .kept .same
 
 returns : tie.Need-returns Inv-loop μ-loop
 returns c =
-    λ m h ch.
-    let inside = c .before .before .before .before .before .before .before .before .pre .3 in
-    let b = c .before .before .before .before .before .begin .ensures m h ch in
+    λ m h ch stands.
+    let a = c .before .before .before .before .before .before .before .before .args in
+    let b = c .before .before .before .before .before .begin .ensures m h ch stands in
     let s = c .before .before .loop .inv _ (b .underway) in
     let g = s .underway in
     let small = g .small in
-    let based : Based m (c .before .before .before .before .before .before .before .before .args .class) (c .before .before .before .before .before .before .before .before .args .first) (c .before .before .before .before .before .before .before .before .args .limit) (c .before .before .loop .work) =
-    λ ok near. let z = b .based ok near in omega (arith, s .same _ inside (omega arith)) in
+    let based : Based m (a .lines) (a .class) (a .from) (a .limit) (c .before .before .loop .work) =
+    λ l l< at ok near. let z = b .based l l< at ok near in omega (arith, s .same _ l< (omega arith)) in
     record {
-      searched = record {
-        held = g .held;
-        inside = inside;
-        small = small;
-        found = settled g based (c .if1 .left);
-        tied = tied g based (c .if1 .left);
-      };
+      searched = record { held = g .held; small = small; found = settled g based (c .if1 .left); tied = tied g based (c .if1 .left) };
       chained = g .chained;
       kept = kept-then (kept-within (omega arith) (omega arith) (b .kept)) (s .kept);
     }

@@ -1,4 +1,4 @@
--- `judge` is safe: a leg that starts at a node of the map is judged.
+-- `judge` is safe: a leg that ends at a node of the map is judged.
 use native.Mathlib.Omega.{arith}
 use borrow.Author.Needs.{needs}
 use Rattle.test_legs.proofs.judge.Statement.{statement}

@@ -25,7 +25,7 @@ slice-aggregate-write-reading : tie.Need-slice-aggregate-write-reading
 slice-aggregate-write-reading c = search needs
 
 write-reading-requires : tie.Need-write-reading-requires
-write-reading-requires c κs = let p = c .before .before .before .before .before .before .before .before .before .before .before .pre in ((p .0, c .before .before .before .before .before .before .before .before .judge .ensures (p .0) (p .1) (p .2)), omega arith)
+write-reading-requires c κs = let p = c .before .before .before .before .before .before .before .before .before .before .before .pre in ((p .0, c .before .before .before .before .before .before .before .before .judge .ensures (p .0) (p .1) (p .2), p .2), omega arith)
 
 slice-aggregate-hand-over : tie.Need-slice-aggregate-hand-over
 slice-aggregate-hand-over c = search needs
@@ -42,7 +42,7 @@ array-share-prefix-out c = search needs
 slice-aggregate-print-each-2 : tie.Need-slice-aggregate-print-each-2
 slice-aggregate-print-each-2 c =
     let w = c .before .before .before .before .before .before .before .write-reading in
-    sym (length-take-le _ _ (omega (arith, w .ensures, w .kept .1 .1 .1 .1 .0)))
+    sym (length-take-le _ _ (omega (arith, w .ensures, w .kept .1 .1 .1 .1 .1 .0)))
 
 print-each-requires : tie.Need-print-each-requires
 print-each-requires c κs = search needs

@@ -1,74 +1,72 @@
--- `verdict` meets its contract: the verdict on the first lines that the walk along the chain has passed, and at its end on all.
+-- `verdict` meets its contract: the verdict on the termini that the walk has passed, and at its end on all.
 use native.Mathlib.Omega.{arith}
 use borrow.Author.Needs.{needs}
-use Prim.Native.Nat.{_-_, _<_}
+use Prim.Native.Nat.{_<_}
 use mathlib.Core.Path.{_≡_, refl}
 use lib.ListN.{length}
 use Rattle.model.specs.Map.{Map}
-use Rattle.model.specs.Lines.{lineAt}
-use Rattle.search.proofs.Leaving.{latest-le}
-use Rattle.legs.specs.Verdict.{Anywhere}
 use Rattle.search.specs.Area.{Set}
-use Rattle.legs.proofs.FirstLines.{Walked, walk-start, walk-on, walk-end}
+use Rattle.fields.specs.Leg.{arrivalIn, legIn}
+use Rattle.legs.specs.Verdict.{Anywhere}
+use Rattle.reference_legs.proofs.OneMore.{Walked, next-less, walk-start, walk-on, walk-end}
 use Rattle.test_legs.proofs.verdict.Statement.{statement}
 use Rattle.test_legs.proofs.verdict.Tie as tie
 
 abbrev Inv-loop : tie.InvT-loop
-Inv-loop work₀ lines leg from found₀ at₀ work found at =
+Inv-loop work₀ lines leg found₀ at₀ work found at =
     (length work ≡ length work₀) ×
-    ((m : Map) → Set m lines work₀ → leg .from < length (m .nodes) → Walked m lines leg Anywhere work₀ work at found)
+    ((m : Map) → Set m lines work₀ → leg .to < length (m .nodes) → Walked m lines leg Anywhere work₀ work at found)
 
 abbrev μ-loop : tie.MeasureT-loop
-μ-loop work₀ lines leg from found₀ at₀ work found at = at
+μ-loop work₀ lines leg found₀ at₀ work found at = at
 
-first-leaving-requires : tie.Need-first-leaving-requires Inv-loop μ-loop
-first-leaving-requires c κs = let p = c .before .before .pre in (p .0, p .1 .held, p .1 .chained, p .2)
+first-terminus-requires : tie.Need-first-terminus-requires Inv-loop μ-loop
+first-terminus-requires c κs = search needs
 
 loop-holds : tie.Need-loop-holds Inv-loop μ-loop
-loop-holds c = (refl, λ m set from. walk-start _ set (c .first-leaving .ensures m (set .held) (set .chained) from))
+loop-holds c = (refl, λ m set to. walk-start _ set (c .first-terminus .ensures m set to))
 
-sub-from-line : tie.Need-sub-from-line Inv-loop μ-loop
-sub-from-line c = search needs
-
-from-line-requires : tie.Need-from-line-requires Inv-loop μ-loop
-from-line-requires c κs =
+read-terminus-requires : tie.Need-read-terminus-requires Inv-loop μ-loop
+read-terminus-requires c κs =
     let p = c .before .before .before .before .before .before .pre in
     let k = c .before .before .loop .inv .1 (p .0) (p .1) (p .2) in
-    (omega (arith, k .inside), (p .0, k .judged .set, k .next (c .before .loop-test .taken)))
+    ((c .before .loop-test .taken, k .inside), (p .0, k .judged .set, p .2, k .stands (c .before .loop-test .taken)))
 
 both-requires : tie.Need-both-requires Inv-loop μ-loop
 both-requires c κs = search needs
 
-next-leaving-requires : tie.Need-next-leaving-requires Inv-loop μ-loop
-next-leaving-requires c κs =
+next-terminus-requires : tie.Need-next-terminus-requires Inv-loop μ-loop
+next-terminus-requires c κs =
     let p = c .before .before .before .before .before .before .before .before .before .before .before .pre in
+    let some = c .before .before .before .before .before .before .loop-test .taken in
     let k = c .before .before .before .before .before .before .before .loop .inv .1 (p .0) (p .1) (p .2) in
-    let j = c .before .before .before .before .from-line .ensures (p .0) (k .judged .set) (k .next (c .before .before .before .before .before .before .loop-test .taken)) in
-    ((c .before .before .before .before .before .before .loop-test .taken, k .inside), (p .0, j .set .held, j .set .chained))
+    let j = c .before .before .before .before .read-terminus .ensures (p .0) (k .judged .set) (p .2) (k .stands some) in
+    ((some, k .inside), (p .0, j .set))
 
 loop-less : tie.Need-loop-less Inv-loop μ-loop
 loop-less c =
     let p = c .before .before .before .before .before .before .before .before .before .before .before .before .pre in
-    let at = c .before .before .before .before .before .before .before .before .loop .at in
+    let leg = c .before .before .before .before .before .before .before .before .before .before .before .before .args .leg in
+    let some = c .before .before .before .before .before .before .before .loop-test .taken in
     let k = c .before .before .before .before .before .before .before .before .loop .inv .1 (p .0) (p .1) (p .2) in
-    let j = c .before .before .before .before .before .from-line .ensures (p .0) (k .judged .set) (k .next (c .before .before .before .before .before .before .before .loop-test .taken)) in
-    omega (arith, c .before .before .before .before .before .before .before .loop-test .taken, c .next-leaving .ensures (p .0) (j .set .held) (j .set .chained), latest-le (p .0) (lineAt (p .0) (at - 1) .start) (at - 1))
+    let j = c .before .before .before .before .before .read-terminus .ensures (p .0) (k .judged .set) (p .2) (k .stands some) in
+    omega (arith, c .next-terminus .ensures (p .0) (j .set), next-less (p .0) (legIn leg) (j .set .held .line-count) (arrivalIn (leg .arrival)) (c .before .before .before .before .before .before .before .before .loop .at) some)
 
 loop-again : tie.Need-loop-again Inv-loop μ-loop
 loop-again c = (
-  omega (arith, c .before .before .before .before .before .from-line .kept .0, c .before .before .before .before .before .before .before .before .loop .inv .0),
-  λ m set from.
-      let k = c .before .before .before .before .before .before .before .before .loop .inv .1 m set from in
+  omega (arith, c .before .before .before .before .before .read-terminus .kept .0, c .before .before .before .before .before .before .before .before .loop .inv .0),
+  λ m set to.
+      let k = c .before .before .before .before .before .before .before .before .loop .inv .1 m set to in
       let some = c .before .before .before .before .before .before .before .loop-test .taken in
-      let j = c .before .before .before .before .before .from-line .ensures m (k .judged .set) (k .next some) in
-      rw (c .before .before .both .ensures) (walk-on (λ r ls e n. tt) (λ r ls e q o n. tt) k some j (c .next-leaving .ensures m (j .set .held) (j .set .chained))),
+      let j = c .before .before .before .before .before .read-terminus .ensures m (k .judged .set) to (k .stands some) in
+      rw (c .before .before .both .ensures) (walk-on (λ r ls e n. tt) (λ r ls e q o n. tt) k some j (c .next-terminus .ensures m (j .set))),
 )
 
 same-length : tie.Need-same-length Inv-loop μ-loop
 same-length c = c .before .loop .inv .0
 
 returns : tie.Need-returns Inv-loop μ-loop
-returns c m set from = walk-end (c .before .loop .inv .1 m set from) (omega (arith, c .loop-test .left))
+returns c m set to = walk-end (c .before .loop .inv .1 m set to) (omega (arith, c .loop-test .left))
 
 pub verdict-spec : {M : Type 1} → statement M
 verdict-spec =
@@ -76,12 +74,11 @@ verdict-spec =
     (tie.spec
     Inv-loop
     μ-loop
-    first-leaving-requires
+    first-terminus-requires
     loop-holds
-    sub-from-line
-    from-line-requires
+    read-terminus-requires
     both-requires
-    next-leaving-requires
+    next-terminus-requires
     loop-less
     loop-again
     same-length

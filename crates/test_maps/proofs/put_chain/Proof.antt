@@ -6,6 +6,9 @@ use native.Mathlib.Omega.{arith}
 use borrow.Author.Needs.{needs}
 use Rattle.test_maps.proofs.put_chain.Statement.{statement}
 use Rattle.test_maps.proofs.put_chain.Tie as tie
+use Rattle.test_maps.proofs.put_chain.Reads as reads
+use Rattle.test_maps.proofs.put_chain.Lts as lts
+use Rattle.buffers.proofs.wide.Reads as wide-reads
 
 abbrev Inv-loop : tie.InvT-loop
 Inv-loop work l turns₀ from n₀ x₀ turns n x = (length turns ≡ length turns₀) × (n ≤ length turns₀)
@@ -43,26 +46,26 @@ same-length-2 c = search needs
 returns-2 : tie.Need-returns-2 Inv-loop μ-loop
 returns-2 c = search needs
 
-cast-turns : tie.Need-cast-turns Inv-loop μ-loop
-cast-turns c = search needs
-
-mul-turns : tie.Need-mul-turns Inv-loop μ-loop
-mul-turns c = search needs
-
-slice-write-turns : tie.Need-slice-write-turns Inv-loop μ-loop
-slice-write-turns c = search needs
-
 sub-turns : tie.Need-sub-turns Inv-loop μ-loop
 sub-turns c = search needs
 
 add-turns : tie.Need-add-turns Inv-loop μ-loop
 add-turns c = search needs
 
-mul-turns-2 : tie.Need-mul-turns-2 Inv-loop μ-loop
-mul-turns-2 c = search needs
+mul-turns : tie.Need-mul-turns Inv-loop μ-loop
+mul-turns c = search needs
 
 shared-slice-read-turns : tie.Need-shared-slice-read-turns Inv-loop μ-loop
 shared-slice-read-turns c = search needs
+
+mul-turns-2 : tie.Need-mul-turns-2 Inv-loop μ-loop
+mul-turns-2 c = search needs
+
+slice-write-turns : tie.Need-slice-write-turns Inv-loop μ-loop
+slice-write-turns c = search needs
+
+cast-turns : tie.Need-cast-turns Inv-loop μ-loop
+cast-turns c = search needs
 
 add-turns-2 : tie.Need-add-turns-2 Inv-loop μ-loop
 add-turns-2 c = search needs
@@ -125,13 +128,13 @@ put-chain-spec =
     sub-if2
     same-length-2
     returns-2
-    cast-turns
-    mul-turns
-    slice-write-turns
     sub-turns
     add-turns
-    mul-turns-2
+    mul-turns
     shared-slice-read-turns
+    mul-turns-2
+    slice-write-turns
+    cast-turns
     add-turns-2
     mul-turns-3
     slice-write-turns-2

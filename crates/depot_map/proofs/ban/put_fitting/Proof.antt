@@ -2,7 +2,7 @@
 use Rattle.work_area.specs.Held.{heldLine}
 use Rattle.work_area.proofs.Held.{listed-length}
 use Rattle.depot_map.proofs.Bans.{put-sorted, not-sorted}
-use Rattle.banned_turns.proofs.Fitting.{fits-first}
+use Rattle.banned_turns.proofs.Fitting.{fits-second}
 use mathlib.Core.Path.{sym, _∙_}
 use native.Mathlib.Omega.{arith}
 use borrow.Author.Needs.{needs}
@@ -15,7 +15,7 @@ fits-requires c κs = search needs
 put-ban-requires : tie.Need-put-ban-requires
 put-ban-requires c κs =
     let start = c .before .before .before .before .before in
-    let fit = fits-first _ _ (sym (c .before .before .fits2 .ensures) ∙ c .before .if1 .taken) in
+    let fit = fits-second _ _ (sym (c .before .before .fits2 .ensures) ∙ c .before .if1 .taken) in
     omega (arith, fit, listed-length (heldLine (start .args .work .now)) (start .args .lines))
 
 same-length : tie.Need-same-length

@@ -20,7 +20,9 @@ wide-requires-2 : tie.Need-wide-requires-2
 wide-requires-2 c κs = search needs
 
 look-ahead-requires : tie.Need-look-ahead-requires
-look-ahead-requires c κs = let p = c .before .before .before .before .before .pre in ((p .0 .0, p .0 .1, p .0 .2, omega (arith, p .0 .3, c .wide2 .ensures .0)), p .1)
+look-ahead-requires c κs =
+    let start = c .before .before .before .before .before in
+    let p = start .pre in ((p .0 .0, p .0 .1, p .0 .2, omega (arith, p .0 .3, c .wide2 .ensures .0)), p .1)
 
 wide-requires-3 : tie.Need-wide-requires-3
 wide-requires-3 c κs = search needs
@@ -39,8 +41,11 @@ longest-leg-requires c κs = search needs
 
 returns-2 : tie.Need-returns-2
 returns-2 c =
+    let at-look-ahead = c .before .before .before .before in
+    let at-wide2 = at-look-ahead .before in
+    let start = at-wide2 .before .before .before .before .before in
     let longest = c .longest-leg .ensures in
-    let le = shorter (c .before .before .before .before .before .before .before .before .before .before .args .len) (c .before .before .before .before .look-ahead .result) (omega (arith, c .before .before .before .before .look-ahead .ensures, c .before .before .before .before .before .wide2 .ensures .0)) in
+    let le = shorter (start .args .len) (at-look-ahead .look-ahead .result) (omega (arith, at-look-ahead .look-ahead .ensures, at-wide2 .wide2 .ensures .0)) in
     record { within = longest .within; holds = λ length x y. longest .holds length x (omega (arith, y, le, c .before .distance .ensures)) }
 
 pub limit-for-spec : {M : Type 1} → statement M

@@ -1,46 +1,59 @@
 -- `look_ahead` meets its contract: a length only grows.
-use Prim.Native.Nat.{_+_, _*_, _-_, _≤_}
 use lib.ListN.{length}
+use Prim.Native.Nat.{_+_, _*_, _≤_}
 use native.Mathlib.Omega.{arith}
 use borrow.Author.Needs.{needs}
 use Rattle.leg_tests.proofs.leg_search.look_ahead.Statement.{statement}
 use Rattle.leg_tests.proofs.leg_search.look_ahead.Tie as tie
 
 abbrev Inv-loop : tie.InvT-loop
-Inv-loop work lines stretch j class len goal far₀ k₀ far k = (k ≤ length stretch) × (len ≤ far) × (far ≤ len + k * 4294967295)
+Inv-loop work lines stretch i class len goal far₀ k₀ far k = (k ≤ length stretch) × (len ≤ far) × (far + k * 4294967295 ≤ len + length stretch * 4294967295)
 
 abbrev μ-loop : tie.MeasureT-loop
-μ-loop work lines stretch j class len goal far₀ k₀ far k = length stretch - k
+μ-loop work lines stretch i class len goal far₀ k₀ far k = k
 
 loop-holds : tie.Need-loop-holds Inv-loop μ-loop
-loop-holds c = (omega (arith, c .before .before .pre .0 .2), omega arith, omega arith)
+loop-holds c = (omega (arith, c .before .before .pre .0 .2), omega arith, omega (arith, c .before .before .pre .0 .2))
 
 returns : tie.Need-returns Inv-loop μ-loop
 returns c = c .before .before .loop .inv .1
 
+sub-k : tie.Need-sub-k Inv-loop μ-loop
+sub-k c = search needs
+
 field-of-requires : tie.Need-field-of-requires Inv-loop μ-loop
-field-of-requires c κs = let p = c .before .before .before .before .before .pre in ((p .0 .0, c .before .loop-test .taken, omega arith), p .1)
+field-of-requires c κs =
+    let start = c .before .before .before .before .before in
+    let p = start .pre in ((p .0 .0, omega (arith, c .before .loop-test .taken, c .before .before .loop .inv .0), omega arith), p .1)
 
 returns-2 : tie.Need-returns-2 Inv-loop μ-loop
 returns-2 c = c .before .before .before .before .loop .inv .1
 
 field-of-requires-2 : tie.Need-field-of-requires-2 Inv-loop μ-loop
-field-of-requires-2 c κs = let p = c .before .before .before .before .before .before .before .pre in ((p .0 .0, c .before .before .before .loop-test .taken, omega arith), p .1)
+field-of-requires-2 c κs =
+    let at-loop-test = c .before .before .before in
+    let at-loop = at-loop-test .before in
+    let start = at-loop .before .before .before in
+    let p = start .pre in ((p .0 .0, omega (arith, at-loop-test .loop-test .taken, at-loop .loop .inv .0), omega arith), p .1)
 
 wide-requires : tie.Need-wide-requires Inv-loop μ-loop
 wide-requires c κs = search needs
 
 add-far : tie.Need-add-far Inv-loop μ-loop
-add-far c = let p = c .before .before .before .before .before .before .before .before .before .pre .0 in omega (arith, p .1, p .3, c .before .before .before .before .before .before .loop .inv .2, c .before .before .before .before .before .loop-test .taken, c .wide .ensures .1)
-
-add-k : tie.Need-add-k Inv-loop μ-loop
-add-k c = omega (arith, c .before .before .before .before .before .before .before .before .before .pre .0 .1, c .before .before .before .before .before .loop-test .taken)
+add-far c =
+    let at-loop-test = c .before .before .before .before .before in
+    let at-loop = at-loop-test .before in
+    let start = at-loop .before .before .before in
+    let p = start .pre .0 in omega (arith, p .1, p .3, at-loop .loop .inv, at-loop-test .loop-test .taken, c .wide .ensures .1)
 
 loop-less : tie.Need-loop-less Inv-loop μ-loop
 loop-less c = omega (arith, c .before .before .before .before .before .loop-test .taken)
 
 loop-again : tie.Need-loop-again Inv-loop μ-loop
-loop-again c = let l = c .before .before .before .before .before .before .loop in (omega (arith, c .before .before .before .before .before .loop-test .taken), omega (arith, l .inv .1), omega (arith, l .inv .2, c .wide .ensures .1))
+loop-again c =
+    let at-loop-test = c .before .before .before .before .before in
+    let at-loop = at-loop-test .before in
+    let l = at-loop .loop in (omega (arith, l .inv .0), omega (arith, l .inv .1), omega (arith, l .inv .2, at-loop-test .loop-test .taken, c .wide .ensures .1))
 
 returns-3 : tie.Need-returns-3 Inv-loop μ-loop
 returns-3 c = c .before .loop .inv .1
@@ -53,12 +66,12 @@ look-ahead-spec =
     μ-loop
     loop-holds
     returns
+    sub-k
     field-of-requires
     returns-2
     field-of-requires-2
     wide-requires
     add-far
-    add-k
     loop-less
     loop-again
     returns-3)

@@ -1,10 +1,11 @@
 -- `link` meets its contract: after `i` turns the adjacency lists of the lines below `i` are made.
-use Rattle.work_area.specs.Area.{linePlace, startNode, Held}
+use Rattle.work_area.specs.Area.{linePlace, endNode}
+use Rattle.search.specs.Area.{Mirrored}
 use Rattle.model.specs.Map.{greatestLineCount, greatestNodeCount, Map}
 use Rattle.model.specs.Work.{workLength}
 use Rattle.search.proofs.Leaving.{Linking, link-none, link-step, linked, start-small}
 use Rattle.buffers.proofs.Kept.{kept-then, kept-within}
-use Rattle.work_area.proofs.Holding.{held-kept, few}
+use Rattle.search.proofs.Holding.{held-kept, few}
 use lib.ListN.{length, getD, length-set}
 use Prim.Native.Nat.{ℕ, _+_, _≤_, _<_, _-_}
 use mathlib.Core.Path.{_≡_, refl, _∙_}
@@ -15,7 +16,7 @@ use Rattle.search.proofs.adjacency.link.Tie as tie
 
 abbrev Inv-loop : tie.InvT-loop
 Inv-loop work₀ lines i₀ work i =
-    (i ≤ lines) × (length work ≡ length work₀) × ((m : Map) → Held work₀ lines m → Linking work₀ i m work)
+    (i ≤ lines) × (length work ≡ length work₀) × ((m : Map) → Mirrored work₀ lines m → Linking work₀ i m work)
 
 abbrev μ-loop : tie.MeasureT-loop
 μ-loop work₀ lines i₀ work i = lines - i
@@ -23,7 +24,7 @@ abbrev μ-loop : tie.MeasureT-loop
 -- What is known at the start of each turn, and once the node is read.
 known : (c : tie.In-loop Inv-loop μ-loop) →
     let k = c .before .loop in
-    (workLength ≤ length (k .work)) × (k .i < greatestLineCount) × (getD (k .work) (linePlace (k .i) + startNode) 0 < greatestNodeCount)
+    (workLength ≤ length (k .work)) × (k .i < greatestLineCount) × (getD (k .work) (linePlace (k .i) + endNode) 0 < greatestNodeCount)
 known c =
     let p = c .before .before .before .before .before .before .before .pre in
     let h = held-kept (omega arith) (c .before .before .before .before .fill .ensures .kept) (p .1) in

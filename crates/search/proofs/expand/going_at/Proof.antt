@@ -1,7 +1,7 @@
 -- `going_at` meets its contract: the line of the key, and what is noted for it.
 use mathlib.Core.Path.{sym, _∙_, ap}
 use Rattle.search.specs.Area.{lengthTo}
-use Rattle.work_area.proofs.Holding.{few}
+use Rattle.search.proofs.Holding.{few}
 use Rattle.search.proofs.Reached.{count-le}
 use Rattle.search.proofs.Passing.{goes-on}
 use native.Mathlib.Omega.{arith}

@@ -2,7 +2,7 @@
 use Rattle.work_area.specs.Area.{lengthsFrom}
 use Prim.Native.Nat.{_+_, _-_}
 use mathlib.Core.Path.{sym, _∙_}
-use Rattle.work_area.proofs.Holding.{few}
+use Rattle.search.proofs.Holding.{few}
 use native.Mathlib.Omega.{arith}
 use borrow.Author.Needs.{needs}
 use Rattle.search.proofs.expand.has_gone.Statement.{statement}
@@ -35,7 +35,7 @@ returns-3 c =
     let i = b .inside in
     let z = c .before .before .before .before .if1 .left in
     c .if3 .taken
-    (c .before .before .field .ensures ∙ h .line-held _ 1 (omega (arith, z)) (omega arith) ∙ b .ends ∙ sym (c .before .field2 .ensures ∙ h .line-held _ 1 p (omega arith)))
+    (c .before .before .field .ensures ∙ h .line-held _ 0 (omega (arith, z)) (omega arith) ∙ b .ends ∙ sym (c .before .field2 .ensures ∙ h .line-held _ 0 p (omega arith)))
 
 bans-from-requires : tie.Need-bans-from-requires
 bans-from-requires c κs = search needs
@@ -72,7 +72,7 @@ returns-6 c =
     record {
       some = omega (arith, z);
       inside = y;
-      ends = sym (c .before .before .before .before .before .before .before .field .ensures ∙ h .line-held _ 1 (omega (arith, z)) (omega arith)) ∙ c .before .before .before .before .before .if3 .left ∙ c .before .before .before .before .before .before .field2 .ensures ∙ h .line-held _ 1 p (omega arith);
+      ends = sym (c .before .before .before .before .before .before .before .field .ensures ∙ h .line-held _ 0 (omega (arith, z)) (omega arith)) ∙ c .before .before .before .before .before .if3 .left ∙ c .before .before .before .before .before .before .field2 .ensures ∙ h .line-held _ 0 p (omega arith);
       barred = λ free. c .before .before .before .if4 .left (c .before .before .before .before .bans-from .ensures _ (h .bans-held) ∙ free);
       earlier = omega arith;
     }

@@ -1,12 +1,11 @@
 -- `note_for` meets its contract, in the order of its tests.
 use Rattle.model.specs.Map.{greatestNodeCount, Map}
 use Rattle.model.specs.Lines.{lineAt}
-use Rattle.work_area.specs.Area.{Held}
-use Rattle.search.specs.Area.{lengthTo, nearestFree, named}
+use Rattle.search.specs.Area.{Mirrored, lengthTo, nearestFree, named}
 use Prim.Native.Nat.{_<_}
 use mathlib.Core.Logic.{inl, inr}
 use mathlib.Core.Path.{_≡_, refl, _∙_, ap}
-use Rattle.work_area.proofs.Holding.{few}
+use Rattle.search.proofs.Holding.{few}
 use Rattle.search.proofs.Leaving.{end-in, end-is}
 use Rattle.search.proofs.Noting.{note-alone, note-over, note-own, note-many}
 use native.Mathlib.Omega.{arith}
@@ -24,7 +23,7 @@ there c =
 
 ends : (c : tie.After-wide) (m : Map) →
     let a = c .before .before .before .args in
-    Held (a .work .now) (a .lines) m → c .wide .result ≡ lineAt m (a .l) .end
+    Mirrored (a .work .now) (a .lines) m → c .wide .result ≡ lineAt m (a .l) .end
 ends c m h = end-is h (c .before .before .before .pre .0) (c .wide .ensures .0 ∙ c .before .field .ensures)
 
 -- The lengths to the line that its cell names, and to the line itself.

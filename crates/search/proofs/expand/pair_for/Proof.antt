@@ -1,7 +1,7 @@
 -- `pair_for` meets its contract: none for a line that is free or has nothing to do.
 use mathlib.Core.Path.{_∙_}
 use Rattle.buffers.proofs.Kept.{kept-none}
-use Rattle.work_area.proofs.Holding.{few}
+use Rattle.search.proofs.Holding.{few}
 use Rattle.search.proofs.Reached.{count-le}
 use Rattle.search.proofs.Passing.{waiting}
 use native.Mathlib.Omega.{arith}

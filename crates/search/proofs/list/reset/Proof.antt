@@ -1,13 +1,12 @@
 -- `reset` meets its contract: after `i` turns the first `i` places of the list are gone through.
-use Rattle.work_area.specs.Area.{Held}
 use Rattle.model.specs.Map.{greatestLineCount, greatestNodeCount, Map}
 use Rattle.model.specs.Work.{workLength}
-use Rattle.search.specs.Area.{Chained}
+use Rattle.search.specs.Area.{Mirrored, Chained}
 use lib.ListN.{length, length-set}
 use Prim.Native.Nat.{_≤_, _<_, _-_}
 use mathlib.Core.Path.{_≡_, refl, _∙_}
 use Rattle.search.proofs.Reached.{count-le}
-use Rattle.work_area.proofs.Holding.{few}
+use Rattle.search.proofs.Holding.{few}
 use Rattle.search.proofs.Resetting.{Resetting, resetting-start, resetting-step, listed-le, at-end, ends-in, reset-done}
 use native.Mathlib.Omega.{arith}
 use borrow.Author.Needs.{needs}
@@ -17,7 +16,7 @@ use Rattle.search.proofs.list.reset.Tie as tie
 abbrev Inv-loop : tie.InvT-loop
 Inv-loop work₀ lines i₀ work i =
     (i ≤ lines) × (length work ≡ length work₀) ×
-    ((m : Map) → Held work₀ lines m → (ch : Chained work₀ lines m) → Resetting m lines (ch .listing .0) i work₀ work)
+    ((m : Map) → Mirrored work₀ lines m → (ch : Chained work₀ lines m) → Resetting m lines (ch .listing .0) i work₀ work)
 
 abbrev μ-loop : tie.MeasureT-loop
 μ-loop work₀ lines i₀ work i = lines - i

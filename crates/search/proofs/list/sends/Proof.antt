@@ -3,7 +3,7 @@ use Rattle.work_area.specs.Area.{headsFrom}
 use Rattle.model.specs.Map.{greatestNodeCount}
 use Prim.Native.Nat.{_+_, _<_}
 use mathlib.Core.Path.{sym, _∙_}
-use Rattle.work_area.proofs.Holding.{few}
+use Rattle.search.proofs.Holding.{few}
 use Rattle.search.proofs.Leaving.{end-in}
 use Rattle.search.proofs.Sending.{nearer-small, sent-barred, sent-free}
 use native.Mathlib.Omega.{arith}

@@ -3,7 +3,7 @@ use Prim.Native.Nat.{ℕ}
 use mathlib.Core.Path.{_≡_, refl, sym}
 use mathlib.Core.Logic.{inl, inr}
 use borrow.Author.Tests.{not-true, not-false}
-use Rattle.work_area.proofs.Holding.{held-kept, few}
+use Rattle.search.proofs.Holding.{held-kept, few}
 use Rattle.search.proofs.Queueing.{queue-kept}
 use native.Mathlib.Omega.{arith}
 use borrow.Author.Needs.{needs}

@@ -54,8 +54,8 @@ banned-requires c κs =
     let p = c .before .before .before .before .before .before .before .before .pre in
     let held = p .1 .1 in
     let i = c .before .before .before .before .before .loop .i in
-    let l = p .0 (i - 1) (omega arith) in
-    (omega (arith, c .before .before .wide .ensures .0, l), few held, held .full, (p .1 .0 .bans, held .bans-held))
+    let k = p .0 i (c .before .before .before .before .loop-test .taken) in
+    (omega (arith, c .wide2 .ensures .0, k), few held, held .full, (p .1 .0 .bans, held .bans-held))
 
 returns : tie.Need-returns Inv-loop μ-loop
 returns c m h =
