@@ -48,6 +48,7 @@ fn cases() -> Vec<WorstCase> {
         steep_hub(),
         steep_hub_before(),
         first_and_last_lines(),
+        first_lines_before_a_long_road(),
         loops_before_a_hub(),
         loops_before_a_steep_hub(),
         loops_after_a_steep_hub(),
@@ -359,6 +360,22 @@ fn steep_hub_before() -> WorstCase {
     add_hub(&mut plan, [end, end + 1], EACH_WAY);
     let first = plan.lines.len() as u32 - 1;
     loop_case("steep road from a hub", plan, first, around)
+}
+
+/// Very many first lines of the same marks to a long road, which leads back to where they start. A
+/// loop from there has their marks too.
+fn first_lines_before_a_long_road() -> WorstCase {
+    const LINES: u32 = 480;
+    const STEPS: u32 = 500;
+    let mut plan = row_of_nodes(STEPS + 3);
+    let around = plan.add_loop(0, STEPS + 2);
+    for _ in 0..LINES {
+        plan.add_line(0, 1, 1);
+    }
+    for node in 1..=STEPS {
+        plan.add_line(node, (node + 1) % (STEPS + 1), 1);
+    }
+    loop_case("first lines before a long road", plan, around[1], around)
 }
 
 /// A road with very many first and very many last lines of the same marks. Of these pairs one

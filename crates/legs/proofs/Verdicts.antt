@@ -2,19 +2,23 @@
 use Prim.Native.Nat.{ℕ, _+_, _≤_, _<_}
 use mathlib.Core.Path.{_≡_}
 use mathlib.Core.List.{List}
+use mathlib.Core.Logic.{⊎-elim}
+use Rattle.model.specs.Field.{distance}
 use Rattle.model.specs.Map.{Map}
 use Rattle.model.specs.Lines.{lineAt, leaving}
 use Rattle.search.specs.declared.Terminus.{Terminus}
-use Rattle.search.specs.Area.{Listing, Among, listed}
+use Rattle.search.specs.Area.{Listing, Among, listed, lengthTo}
 use Rattle.ways.specs.Told.{Told}
 use Rattle.ways.specs.declared.Ways.{Ways}
 use Rattle.fields.specs.declared.leg.Leg.{Leg}
 use Rattle.fields.specs.declared.leg.Reading.{Reading}
 use Rattle.fields.specs.declared.leg.Verdict.{Verdict}
 use Rattle.fields.specs.Leg.{attributesIn, legIn}
-use Rattle.legs.specs.Verdict.{judgeOf, bothOf, Ready, Says, StandsIn, unread, several, ReadingTo, ReadingFrom, ReadingAmong}
+use Rattle.legs.specs.Verdict.{FirstOf, judgeOf, bothOf, Ready, Says, StandsIn, unread, several, ReadingTo, ReadingFrom, ReadingAmong}
 use Rattle.legs.proofs.Joining.{says-same, says-both}
-use Rattle.legs.proofs.Readings.{judged}
+use Rattle.buffers.proofs.Cases.{le-or-lt}
+use Rattle.ways.proofs.Back.{found-least, found-none}
+use Rattle.legs.proofs.Readings.{none, other-length, judged}
 use Rattle.legs.proofs.Lines.{no-place, place-more, place-other, place-apart, every-place, first-reached, not-leaving, not-here}
 use Rattle.model.specs.Reading as definitions
 use Rattle.fields.specs.declared.leg.Verdict.the-variants as verdict
@@ -24,6 +28,17 @@ module _ {m : Map} {lines : ℕ} {leg : Leg} {to : Terminus} {limit : ℕ} {w : 
       Told m lines (leg .lowest) first to limit w ways → Says m (ReadingFrom m (legIn leg) first to) (StandsIn w) (judgeOf ways first (leg .distance))
   unfolding legIn
   line-verdict from leaves ways told = judged (ready .limited) (ready .terminus) (record { from = from; leaves = leaves }) lines w ways told
+
+  -- The least length from the line does not give D.
+  pub other-distance : first < lines → lineAt m first .start ≡ leg .from → leaving m first ≡ attributesIn (leg .leaves) →
+      (distance (lengthTo w first) ≡ leg .distance → ⊥) → (ls : List ℕ) → ReadingFrom m (legIn leg) first to ls → ⊥
+  unfolding legIn
+  other-distance first< from leaves differs ls r =
+      let start : FirstOf m (legIn leg) first = record { from = from; leaves = leaves } in
+      ⊎-elim
+      (λ near. other-length (ready .limited) (ready .terminus) start near (found-least (ready .searched) first< near) differs ls r)
+      (λ far. none (ready .limited) (ready .terminus) start (found-none (ready .searched) first< far) ls r)
+      (le-or-lt (lengthTo w first) limit)
 
   pub other-line : (leaving m first ≡ attributesIn (leg .leaves) → ⊥) → (ls : List ℕ) → ReadingFrom m (legIn leg) first to ls → ⊥
   unfolding legIn

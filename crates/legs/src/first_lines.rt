@@ -5,6 +5,7 @@ use fields::leg::Leg;
 use fields::leg::Reading;
 use fields::leg::Verdict;
 use fields::leg::distance;
+use search::cells::length_to;
 use search::cells::line_at;
 use ways::Ways;
 use ways::ways_from;
@@ -74,6 +75,10 @@ pub fn from_line(work: &[u32], lines: usize, first: usize, leg: Leg, limit: u32)
     }
     let leaves = leg.leaves;
     if !leaves_as(work, lines, first, leaves) {
+        return Verdict::Unread;
+    }
+    // Where its least length is of another D, its ways need not be gone along.
+    if distance(length_to(work, first)) != leg.distance {
         return Verdict::Unread;
     }
     judge(ways_from(work, lines, first, limit), first, leg.distance)

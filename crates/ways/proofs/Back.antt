@@ -12,13 +12,13 @@ use native.Mathlib.Omega.{arith}
 use borrow.Author.Tests.{ltb-true, ltb-false}
 use lib.Dec.{ltb}
 use Rattle.model.specs.Lines.{lineAt, total, lastOf}
-use Rattle.search.specs.Ways.{line, Way, Reached, Least, OnlyWay, Two}
+use Rattle.search.specs.Ways.{line, Way, Reached, Least, OnlyWay, Two, Beyond}
 use Rattle.search.proofs.Plain.{Grown, one, more, class-last, total-more, total-one, way-more, way-of, grown-of, same-before}
 use Rattle.search.proofs.Follows.{known}
 use Rattle.buffers.proofs.Cases.{le-or-lt, picked}
 use Rattle.work_area.specs.Mirror.{mirror}
 use Rattle.ways.specs.Told.{SeveralLeast, OneLeast}
-use Rattle.ways.proofs.Mirroring.{backwards, backwards-more, total-mirrored, way-mirrored, least-back, only-back, two-back}
+use Rattle.ways.proofs.Mirroring.{backwards, backwards-more, total-mirrored, way-mirrored, beyond-back, least-back, only-back, two-back}
 use Rattle.search.proofs.Holding.{line-ok}
 use Rattle.search.proofs.Lengths.{last-known}
 
@@ -264,3 +264,12 @@ pub short-way : {m : Map} {n c first limit : ℕ} {to : Terminus} {w ls : List �
     Way m c (line first) to ls → total m ls ≤ limit → lengthTo w first ≤ total m ls
 short-way {m} {ls = ls} s first< p near =
     let e = total-mirrored m ls in omega (arith, short s first< (way-mirrored p) (omega arith))
+
+-- What the length in the area says of the ways from a line.
+pub found-least : {m : Map} {n c first limit : ℕ} {to : Terminus} {w : List ℕ} → Searched (mirror m) n c to limit w → first < n →
+    lengthTo w first ≤ limit → Least m c (line first) to (lengthTo w first)
+found-least {first = first} s first< d = least-back (near s first first< d)
+
+pub found-none : {m : Map} {n c first limit : ℕ} {to : Terminus} {w : List ℕ} → Searched (mirror m) n c to limit w → first < n →
+    limit < lengthTo w first → Beyond m c (line first) to limit
+found-none {first = first} s first< d = beyond-back (s .found first first< .far d)
