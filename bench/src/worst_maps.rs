@@ -37,8 +37,11 @@ fn cases() -> Vec<WorstCase> {
         hub_with_a_ban_each("a ban on each of 512 lines, equal lengths", &|_| 1),
         hub_with_a_ban_each("a ban on each of 512 lines", &|number| 1 + number / 2),
         hub_with_last_lines_alike(),
-        hub_with_two_banned_lines(),
-        hub_with_two_banned_next_lines(),
+        hub_with_two_banned_lines("2 lines with 256 bans each", turn_from),
+        last_lines_alike(hub_with_two_banned_lines(
+            "256 bans into each of 2 lines, all last lines alike",
+            turn_into,
+        )),
         ladder("ladder of 2 lines a step", 2),
         ladder("ladder of 16 lines a step", 16),
         long_chain(),
@@ -207,25 +210,25 @@ fn last_lines_alike(mut case: WorstCase) -> WorstCase {
     case
 }
 
-/// The hub, and two lines there have 256 banned turns each. The last line back is not among them.
-fn hub_with_two_banned_lines() -> WorstCase {
+/// The hub, and two lines there have 256 banned turns each, with lines back. The last line back is
+/// not among them.
+fn hub_with_two_banned_lines(name: &'static str, ban: fn(u32, u32) -> Ban) -> WorstCase {
     let mut plan = hub_plan(&|_| 1);
     let backs = (1..FULL_LINES as u32 - 2).step_by(2).cycle();
     let lines = [0, 2].into_iter().flat_map(|line| [line; 256]);
-    let bans = lines.zip(backs).map(|(line, next)| Ban { line, next });
-    plan.bans = bans.collect();
-    there_and_back("2 lines with 256 bans each", plan)
+    plan.bans = lines
+        .zip(backs)
+        .map(|(line, back)| ban(line, back))
+        .collect();
+    there_and_back(name, plan)
 }
 
-/// The hub, and into two lines there 256 turns each are banned. All lines arrive with the same marks.
-fn hub_with_two_banned_next_lines() -> WorstCase {
-    let mut plan = hub_plan(&|_| 1);
-    let backs = (1..FULL_LINES as u32 - 2).step_by(2).cycle();
-    let next_lines = [0, 2].into_iter().flat_map(|next| [next; 256]);
-    let bans = backs.zip(next_lines).map(|(line, next)| Ban { line, next });
-    plan.bans = bans.collect();
-    let name = "256 bans into each of 2 lines, all last lines alike";
-    last_lines_alike(there_and_back(name, plan))
+fn turn_from(line: u32, next: u32) -> Ban {
+    Ban { line, next }
+}
+
+fn turn_into(next: u32, line: u32) -> Ban {
+    Ban { line, next }
 }
 
 /// Nodes in a row, with this many lines of one length each way between neighbours.

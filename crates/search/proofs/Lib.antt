@@ -3,7 +3,6 @@ pub mod Holding
 pub mod Plain
 pub mod Follows
 pub mod Reached
-pub mod Frame
 pub mod Places
 pub mod Leaving
 pub mod Resetting
