@@ -6,9 +6,10 @@ use Prim.Native.Nat.{ℕ, _+_, _/_, _%_, _≤_, _<_}
 use mathlib.Core.Path.{_≡_, refl, sym, _∙_, ap, subst}
 use mathlib.Core.List.{List}
 use mathlib.Core.Logic.{_⊎_, inl, inr, ⊎-elim, _≢_}
-use Rattle.buffers.proofs.Kept.{kept-then, kept-within}
-use mathlib.Core.Bool.{Bool}
+use Rattle.buffers.proofs.Kept.{kept-none, kept-then, kept-within}
+use mathlib.Core.Bool.{Bool, true}
 use native.Mathlib.Omega.{arith}
+use borrow.Author.Tests.{eq-eqb}
 use lib.ListN.{length, getD}
 use Rattle.model.specs.Lines.{lineAt}
 use Rattle.buffers.specs.Kept.{Kept}
@@ -17,7 +18,8 @@ use Rattle.search.specs.Steps.{Free, FreeReached, Waits, Backed, Settled
 use Rattle.buffers.proofs.Cases.{le-or-lt, here-or}
 use Rattle.search.proofs.Holding.{held-kept, few, line-ok}
 use Rattle.search.proofs.Follows.{known, follows-free}
-use Rattle.search.proofs.Reached.{listing-same}
+use Rattle.search.proofs.Reached.{listing-same, count-le}
+use Rattle.search.proofs.Queueing.{queue-kept, waits-same, ordered-same}
 use Rattle.search.proofs.Listing.{listing-more}
 use Rattle.search.proofs.Nearness.{nearest-by, nearest-farther, nearest-lengths}
 use Rattle.search.proofs.Growing.{free-grew, backed-grew, settled-grew}
@@ -88,6 +90,25 @@ module _ {m : Map} {n limit j note x count : ℕ} {w first second : List ℕ} {s
           still = still;
           kept = kept-then (put .kept) (kept-then (kept-within (omega arith) (omega arith) (s .kept)) kept);
         }
+
+-- A search is under way, and line `j` is put and sent, or not.
+module _ {q : Task} {n c limit place count end j note x : ℕ} {w first second : List ℕ} {sent : Bool} (g : Underway q n c limit place count end w) (j< : j < n)
+    (put : Put j note x count w first) (s : Sent (q .map) limit j first second sent) where
+  pub queue-same : (i : ℕ) → i < end → queued second i ≡ queued w i
+  queue-same i i< = let n≤ = few (g .held) in queue-kept put s i (omega (arith, g .room, count-le (g .listing)))
+
+  -- A line that is not sent is free, and not the nearest free line of its node.
+  unsent : sent ≢ true → Free (q .map) j × (nearestFree second (lineAt (q .map) j .end) ≢ j + 1)
+  unsent d =
+      ⊎-elim (λ free. (free, λ e. d (s .free free .1 ∙ eq-eqb _ _ e))) (λ barred. absurd (d (s .barred barred .1))) (free-or (q .map) j)
+
+  -- So the queue stays as it is.
+  pub enter-unsent : sent ≢ true → Entered (q .map) n limit place j note x count end w second end
+  enter-unsent d =
+      enter (g .held) j< put s second end (λ k k<. refl) (λ k k≤. refl) kept-none (inr (unsent d)) (g .begun) (let b = g .room in omega arith)
+      (ordered-same w second queue-same (g .ordered))
+      (λ i p≤ i<. inr (i, p≤, i<, queue-same i i<))
+      (λ k. waits-same w second queue-same)
 
 -- All lengths that are found, and all that wait, are level with `d`, and the new length is past it.
 pub record Levelled (m : Map) (n place end j x d : ℕ) (w : List ℕ) : Type 0 where

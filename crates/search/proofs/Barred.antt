@@ -19,7 +19,9 @@ use Rattle.search.proofs.Holding.{held-kept, few, line-ok}
 use Rattle.search.proofs.Follows.{known, follows-unless}
 use Rattle.search.proofs.Keeping.{key-same, underway-same}
 use Rattle.search.proofs.Growing.{grew-then, free-grew, backed-grew, settled-grew}
-use Rattle.search.proofs.Passing.{class-of, waiting, counted-then, goes-of, sets-node, sets-bans, expanded, past}
+use Rattle.search.proofs.AtPlace.{class-of, waiting}
+use Rattle.search.proofs.Walks.{counted-then, goes-of, sets-node, sets-bans}
+use Rattle.search.proofs.Passing.{expanded, past}
 
 true-or : (b : Bool) → (b ≡ true) ⊎ (b ≡ false)
 true-or true = inl refl

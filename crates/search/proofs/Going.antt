@@ -9,10 +9,9 @@ use mathlib.Core.List.{List, [], _∷_, _++_}
 use mathlib.Core.Logic.{_⊎_, inl, inr, ⊎-elim, _≢_}
 use native.Mathlib.Omega.{arith}
 use native.Mathlib.Decide.{ℕ-discrete}
-use borrow.Author.Tests.{eq-eqb}
 use lib.ListN.{length, getD}
 use Rattle.model.specs.Lines.{lineAt, Follows}
-use Rattle.search.specs.Steps.{Waits, Backed, Counted, Queued, Task, Underway, Grew, Noted, TieNoted, Inserted, Arrived, Notable, Goes, Relaxed}
+use Rattle.search.specs.Steps.{Backed, Counted, Queued, Task, Underway, Grew, Noted, TieNoted, Inserted, Arrived, Notable, Goes, Relaxed}
 use Rattle.search.specs.declared.relax.Going.{Going}
 use Rattle.buffers.proofs.Kept.{kept-none, kept-within}
 use Rattle.buffers.proofs.Cases.{le-or-lt, here-or}
@@ -21,9 +20,9 @@ use Rattle.search.proofs.Plain.{way-more, total-more}
 use Rattle.search.proofs.Follows.{known, follows-free}
 use Rattle.search.proofs.Reached.{count-le, room-left}
 use Rattle.search.proofs.Growing.{grew-none, free-grew, backed-grew}
-use Rattle.search.proofs.Queueing.{queue-kept, queued-in, waits-more, waits-new, ordered-more}
+use Rattle.search.proofs.Queueing.{waits-same, ordered-same, queued-in, waits-more, waits-new, ordered-more}
 use Rattle.search.proofs.Keeping.{key-same, underway-same}
-use Rattle.search.proofs.Arriving.{Entered, Levelled, free-or, grew, entered, found-now, noted-now, enter}
+use Rattle.search.proofs.Arriving.{Entered, Levelled, queue-same, enter, enter-unsent, grew, entered, found-now, noted-now}
 
 -- What is noted.
 noted-cases : {x note y : ℕ} → Noted x note y → ((x ≡ 0) × (y ≡ note)) ⊎ (((x ≡ note) × (y ≡ note)) ⊎ ((y ≡ several) × (0 < x) × (x ≢ note)))
@@ -243,10 +242,8 @@ module _ {q : Task} {n c limit place count end j : ℕ} {w : List ℕ} {going : 
     end≤ : end ≤ n
     end≤ = omega (arith, g .room, count-le (g .listing))
 
-    -- Up to where the line is put into the queue nothing of the queue is changed.
-    queue-same : (i : ℕ) → i < end → queued (a .second) i ≡ queued w i
-    queue-same i i< =
-        queue-kept (a .put) (a .nears) i (let e = end≤ in let y = n≤ in omega arith)
+    same-queue : (i : ℕ) → i < end → queued (a .second) i ≡ queued w i
+    same-queue = queue-same g j< (a .put) (a .nears)
 
     levelled : Levelled m n place end j x (going .length) w
     levelled =
@@ -258,23 +255,13 @@ module _ {q : Task} {n c limit place count end j : ℕ} {w : List ℕ} {going : 
         }
 
     entered-in : Entered m n limit place j (going .note) x count end w v end′
-    entered-in = ⊎-elim into (λ e. rw (e .1) (subst (λ (u : List ℕ). Entered m n limit place j (going .note) x count end w u end) (sym (e .2)) (out (e .0)))) (a .queue)
+    entered-in =
+        ⊎-elim into
+        (λ e.
+        rw (e .1)
+        (subst (λ (u : List ℕ). Entered m n limit place j (going .note) x count end w u end) (sym (e .2)) (enter-unsent g j< (a .put) (a .nears) (e .0))))
+        (a .queue)
       where
-        waits : (k : ℕ) → Waits place end w k → Waits place end (a .second) k
-        waits k y = (y .0, y .1, y .2, ap lineOf (queue-same (y .0) (y .2)) ∙ y .3)
-
-        out : a .sent ≢ true → Entered m n limit place j (going .note) x count end w (a .second) end
-        out d =
-            enter (g .held) j< (a .put) (a .nears) (a .second) end (λ k k<. refl) (λ k k≤. refl) kept-none
-            (inr (⊎-elim
-            (λ free. (free, λ e. d (a .nears .free free .1 ∙ eq-eqb _ _ e)))
-            (λ barred. absurd (d (a .nears .barred barred .1)))
-            (free-or m j)))
-            (g .begun) (let b = g .room in omega arith)
-            (λ i k p≤ i≤ k<. omega (arith, queue-same i (omega arith), queue-same k k<, g .ordered i k p≤ i≤ k<))
-            (λ i p≤ i<. inr (i, p≤, i<, queue-same i i<))
-            waits
-
         into : (a .sent ≡ true) × (end′ ≡ end + 1) × Inserted place end (keyOf x j) (a .second) v → Entered m n limit place j (going .note) x count end w v end′
         into e =
             let s = e .2 in
@@ -287,9 +274,9 @@ module _ {q : Task} {n c limit place count end j : ℕ} {w : List ℕ} {going : 
             (kept-within (omega arith) (let room = room-left (g .listing) j< fresh in let r = g .room in omega arith) (s .kept))
             (inl (waits-new s key))
             (omega arith) (let b = g .room in omega arith)
-            (ordered-more s (λ i k p≤ i≤ k<. omega (arith, queue-same i (omega arith), queue-same k k<, g .ordered i k p≤ i≤ k<)))
-            (queued-in s (λ y. (y ≡ keyOf x j) ⊎ ((k : ℕ) × (place ≤ k) × (k < end) × (y ≡ queued w k))) (inl refl) (λ i p≤ i<. inr (i, p≤, i<, queue-same i i<)))
-            (λ k y. waits-more s (waits k y)))
+            (ordered-more s (ordered-same w (a .second) same-queue (g .ordered)))
+            (queued-in s (λ y. (y ≡ keyOf x j) ⊎ ((k : ℕ) × (place ≤ k) × (k < end) × (y ≡ queued w k))) (inl refl) (λ i p≤ i<. inr (i, p≤, i<, same-queue i i<)))
+            (λ k y. waits-more s (waits-same w (a .second) same-queue y)))
 
     grew-on : Grew m n c (going .length) w v
     grew-on = grew g j< fresh (omega (arith, class-at)) near entered-in levelled
@@ -318,8 +305,8 @@ module _ {q : Task} {n c limit place count end j : ℕ} {w : List ℕ} {going : 
                 noted = λ t u. rw (noted-now g j< fresh ok′ near entered-in levelled) (notable-some (o .notable), λ low. refl);
               };
           head = ⊎-elim
-              (λ e. let s = e .2 in s .before place (s .behind) ∙ queue-same place (o .inside))
-              (λ e. ap (λ (u : List ℕ). queued u place) (e .2) ∙ queue-same place (o .inside))
+              (λ e. let s = e .2 in s .before place (s .behind) ∙ same-queue place (o .inside))
+              (λ e. ap (λ (u : List ℕ). queued u place) (e .2) ∙ same-queue place (o .inside))
               (a .queue);
           inside = ⊎-elim (λ e. let z = o .inside in omega (arith, e .1)) (λ e. let z = o .inside in omega (arith, e .1)) (a .queue);
         }

@@ -1,6 +1,6 @@
 -- The search stays under way where lengths, the queue, the adjacency lists and the nearest free lines stay, and what notes rest on.
 use Rattle.work_area.specs.Area.{queueFrom, headsFrom, nextFrom, lastBarredFrom}
-use Rattle.search.specs.Area.{Mirrored, far, listWeight, lengthTo, predecessor, nearestFree, queued, named, lineOf}
+use Rattle.search.specs.Area.{Mirrored, far, listWeight, lengthTo, predecessor, nearestFree, queued, named}
 use Prim.Native.Nat.{ℕ, _+_, _/_, _%_, _≤_, _<_}
 use mathlib.Core.Path.{_≡_, _∙_, ap}
 use mathlib.Core.List.{List}
@@ -12,6 +12,7 @@ use Rattle.search.specs.Steps.{FreeReached, Waits, Backed, Standing, Tas
 use Rattle.search.proofs.Holding.{few, line-ok}
 use Rattle.search.proofs.Reached.{listing-same, count-le}
 use Rattle.search.proofs.Nearness.{nearest-lengths}
+use Rattle.search.proofs.Queueing.{waits-same, ordered-same}
 use Rattle.search.proofs.Growing.{free-grew, settled-grew}
 
 module _ {q : Task} {n c limit place count end d : ℕ} {w v : List ℕ} (g : Underway q n c limit place count end w) (held : Mirrored v n (q .map))
@@ -26,11 +27,8 @@ module _ {q : Task} {n c limit place count end d : ℕ} {w v : List ℕ} (g : Un
   free-back : (l : ℕ) → FreeReached (q .map) n v l → FreeReached (q .map) n w l
   free-back l f = record { line = f .line; free = f .free; reached = let z = f .reached in omega (arith, lengths l (f .line)) }
 
-  waits-same : {l : ℕ} → Waits place end w l → Waits place end v l
-  waits-same y = (y .0, y .1, y .2, ap lineOf (key-same (y .0) (y .2)) ∙ y .3)
-
   deferred : (l : ℕ) → l < n → Waits place end w (named (nearestFree w (lineAt (q .map) l .end))) → Waits place end v (named (nearestFree v (lineAt (q .map) l .end)))
-  deferred l l< y = rw (node-same (lineAt (q .map) l .end) (line-ok held l< .end)) (waits-same y)
+  deferred l l< y = rw (node-same (lineAt (q .map) l .end) (line-ok held l< .end)) (waits-same w v key-same y)
 
   back : (l : ℕ) → l < n → lengthTo v l < far → lengthTo w l < far
   back l l< z = omega (arith, lengths l l<)
@@ -39,7 +37,7 @@ module _ {q : Task} {n c limit place count end d : ℕ} {w v : List ℕ} (g : Un
   standing l l< z =
       ⊎-elim
       (λ s. inl (settled-grew grew (g .small) (g .held .line-count) l< z s))
-      (λ s. inr (⊎-elim (λ y. inl (waits-same y)) (λ y. inr (y .0, deferred l l< (y .1))) s))
+      (λ s. inr (⊎-elim (λ y. inl (waits-same w v key-same y)) (λ y. inr (y .0, deferred l l< (y .1))) s))
       (g .standing l l< z)
 
   pub underway-same : ((j : ℕ) → j < n → lengthTo w j < far → Backed (q .map) v j (predecessor v j)) → Underway q n c limit place count end v
@@ -60,7 +58,7 @@ module _ {q : Task} {n c limit place count end d : ℕ} {w v : List ℕ} (g : Un
         small = g .small;
         begun = g .begun;
         room = g .room;
-        ordered = λ i k p≤ i≤ k<. omega (arith, key-same i (omega arith), key-same k k<, g .ordered i k p≤ i≤ k<);
+        ordered = ordered-same w v key-same (g .ordered);
         queue = λ i p≤ i<.
             let k = g .queue i p≤ i< in
             rw (key-same i i<) (record { line = k .line; found = lengths _ (k .line) ∙ k .found; reached = k .reached });

@@ -17,6 +17,8 @@ pub mod Queueing
 pub mod Keeping
 pub mod Arriving
 pub mod Going
+pub mod AtPlace
+pub mod Walks
 pub mod Passing
 pub mod Barred
 pub mod Seeding

@@ -1,4 +1,4 @@
--- What stands in the queue once a line is put into it.
+-- What stands in the queue where it is the same, and once a line is put into it.
 use Rattle.search.specs.Area.{queued, lineOf}
 use Prim.Native.Nat.{ℕ, _+_, _-_, _≤_, _<_}
 use mathlib.Core.Path.{_≡_, refl, sym, _∙_, ap, subst}
@@ -19,6 +19,14 @@ use Rattle.buffers.proofs.Cases.{le-or-lt}
 pub queue-kept : {m : Map} {limit j note x count : ℕ} {sent : Bool} {w u v : List ℕ} → Put j note x count w u → Sent m limit j u v sent → (i : ℕ) →
     i < greatestLineCount → queued v i ≡ queued w i
 queue-kept p s i i< = s .kept .below (queueFrom + i) (omega arith) ∙ p .rest (queueFrom + i) (omega arith) (omega arith)
+
+-- Where the queue is the same, so is what waits in it, and so is its order.
+module _ {place end : ℕ} (w v : List ℕ) (same : (i : ℕ) → i < end → queued v i ≡ queued w i) where
+  pub waits-same : {l : ℕ} → Waits place end w l → Waits place end v l
+  waits-same y = (y .0, y .1, y .2, ap lineOf (same (y .0) (y .2)) ∙ y .3)
+
+  pub ordered-same : ((i k : ℕ) → place ≤ i → i ≤ k → k < end → queued w i ≤ queued w k) → (i k : ℕ) → place ≤ i → i ≤ k → k < end → queued v i ≤ queued v k
+  ordered-same o i k p≤ i≤ k< = omega (arith, same i (omega arith), same k k<, o i k p≤ i≤ k<)
 
 three : (i k : ℕ) → (i < k) ⊎ ((i ≡ k) ⊎ (k < i))
 three i k = ⊎-elim (λ z. inr (⊎-elim (λ e. inl (sym e)) (λ l. inr l) (eq-or-lt-of-le {n = k} {m = i} z))) (λ z. inl z) (le-or-lt k i)

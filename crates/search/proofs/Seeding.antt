@@ -9,7 +9,6 @@ use mathlib.Core.Bool.{Bool, true}
 use mathlib.Core.List.{List, [], _∷_}
 use mathlib.Core.Logic.{inl, inr, ⊎-elim, _≢_}
 use native.Mathlib.Omega.{arith}
-use borrow.Author.Tests.{eq-eqb}
 use lib.ListN.{length, getD}
 use Rattle.model.specs.Lines.{lineAt}
 use Rattle.search.specs.declared.Terminus.{Terminus}
@@ -21,9 +20,9 @@ use Rattle.buffers.proofs.Cases.{le-or-lt, here-or}
 use Rattle.search.proofs.Holding.{held-kept, few, line-ok}
 use Rattle.search.proofs.Plain.{way-one, total-one}
 use Rattle.search.proofs.Reached.{count-le, room-left}
-use Rattle.search.proofs.Queueing.{queue-kept}
+use Rattle.search.proofs.Queueing.{ordered-same}
 use Rattle.search.proofs.Leaving.{latest-le, latest-hit, latest-all}
-use Rattle.search.proofs.Arriving.{Entered, Levelled, entered, found-now, lengths-now, enter, free-or}
+use Rattle.search.proofs.Arriving.{Entered, Levelled, entered, found-now, lengths-now, enter, queue-same, enter-unsent}
 
 -- No line is reached.
 module _ {m : Map} {from : Terminus} {n limit : ℕ} {w v : List ℕ} (h : Mirrored w n m) (small : limit ≤ greatestLegLength) (k : Reset m n w v) where
@@ -83,8 +82,8 @@ module _ {q : Task} {n c limit count end j : ℕ} {w : List ℕ} (s : Seeding q 
     end≤ : end ≤ n
     end≤ = omega (arith, s .underway .room, count-le (s .underway .listing))
 
-    queue-same : (i : ℕ) → i < end → queued second i ≡ queued w i
-    queue-same i i< = queue-kept put sent i (let e = end≤ in let y = n≤ in omega arith)
+    same : (i : ℕ) → i < end → queued second i ≡ queued w i
+    same = queue-same (s .underway) j< put sent
 
     levelled : Levelled (q .map) n 0 end j x 0 w
     levelled =
@@ -116,16 +115,7 @@ module _ {q : Task} {n c limit count end j : ℕ} {w : List ℕ} (s : Seeding q 
         }
 
     pub seeded-off : r ≢ true → Seeded q n c limit j w second (count + 1) end
-    seeded-off d =
-        let g = s .underway in
-        seeded-by
-        (enter (g .held) j< put sent second end (λ k k<. refl) (λ k k≤. refl) kept-none
-        (inr
-        (⊎-elim (λ free. (free, λ e. d (sent .free free .1 ∙ eq-eqb _ _ e))) (λ barred. absurd (d (sent .barred barred .1))) (free-or (q .map) j)))
-        (g .begun) (let e = g .room in omega arith)
-        (λ i k p≤ i≤ k<. omega (arith, queue-same i (omega arith), queue-same k k<, g .ordered i k p≤ i≤ k<))
-        (λ i p≤ i<. inr (i, p≤, i<, queue-same i i<))
-        (λ k y. (y .0, y .1, y .2, ap lineOf (queue-same (y .0) (y .2)) ∙ y .3)))
+    seeded-off d = seeded-by (enter-unsent (s .underway) j< put sent d)
 
     pub seeded-on : {v : List ℕ} → InsertedSeed end (keyOf x j) second v → Seeded q n c limit j w v (count + 1) (end + 1)
     seeded-on {v} t =
@@ -141,11 +131,11 @@ module _ {q : Task} {n c limit count end j : ℕ} {w : List ℕ} (s : Seeding q 
         (kept-within (omega arith) (omega arith) (t .kept))
         (inl (o .0, omega arith, o .1, ap lineOf (o .2) ∙ key))
         (omega arith) (omega arith)
-        (λ i k p≤. t .ordered (λ i k i≤ k<. omega (arith, queue-same i (omega arith), queue-same k k<, g .ordered i k (omega arith) i≤ k<)) i k)
-        (λ i p≤ i<. ⊎-elim (λ a. inl a) (λ a. inr (a .0, omega arith, a .1, a .2 ∙ queue-same (a .0) (a .1))) (t .queue i i<))
+        (λ i k p≤. t .ordered (λ i k i≤ k<. ordered-same w second same (g .ordered) i k (omega arith) i≤ k<) i k)
+        (λ i p≤ i<. ⊎-elim (λ a. inl a) (λ a. inr (a .0, omega arith, a .1, a .2 ∙ same (a .0) (a .1))) (t .queue i i<))
         (λ k a.
         let f = t .still (a .0) (a .2) in
-        (f .0, omega arith, f .1, ap lineOf (f .2 ∙ queue-same (a .0) (a .2)) ∙ a .3)))
+        (f .0, omega arith, f .1, ap lineOf (f .2 ∙ same (a .0) (a .2)) ∙ a .3)))
 
 -- ---- one line
 

@@ -3,7 +3,7 @@ use mathlib.Core.Path.{sym, _∙_, ap}
 use Rattle.search.specs.Area.{lengthTo}
 use Rattle.search.proofs.Holding.{few}
 use Rattle.search.proofs.Reached.{count-le}
-use Rattle.search.proofs.Passing.{goes-on}
+use Rattle.search.proofs.AtPlace.{goes-on}
 use native.Mathlib.Omega.{arith}
 use borrow.Author.Needs.{needs}
 use Rattle.search.proofs.expand.going_at.Statement.{statement}

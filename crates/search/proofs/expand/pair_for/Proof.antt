@@ -3,7 +3,7 @@ use mathlib.Core.Path.{_∙_}
 use Rattle.buffers.proofs.Kept.{kept-none}
 use Rattle.search.proofs.Holding.{few}
 use Rattle.search.proofs.Reached.{count-le}
-use Rattle.search.proofs.Passing.{waiting}
+use Rattle.search.proofs.AtPlace.{waiting}
 use native.Mathlib.Omega.{arith}
 use borrow.Author.Needs.{needs}
 use Rattle.search.proofs.expand.pair_for.Statement.{statement}

@@ -3,7 +3,7 @@ use lib.ListN.{length}
 use Prim.Native.Nat.{ℕ}
 use mathlib.Core.Path.{_≡_, refl, _∙_}
 use Rattle.search.specs.Steps.{Task, Underway, Sets}
-use Rattle.search.proofs.Passing.{Walking, sets-line, walking-start, walking-went, walking-within, walking-few, walking-goes, walking-line, walking-meets, walking-less, walking-step, walking-end}
+use Rattle.search.proofs.Walks.{Walking, sets-line, walking-start, walking-went, walking-within, walking-few, walking-goes, walking-line, walking-meets, walking-less, walking-step, walking-end}
 use borrow.Author.Needs.{needs}
 use Rattle.search.proofs.expand.walk.Statement.{statement}
 use Rattle.search.proofs.expand.walk.Tie as tie
