@@ -27,7 +27,7 @@ breakpoints = [gdb.Breakpoint(name) for name in names]
 for breakpoint in breakpoints:
     if breakpoint.pending:
         raise gdb.GdbError(f"there is no function {breakpoint.location}")
-for row in range(24):
+for row in range(27):
     for breakpoint in breakpoints:
         breakpoint.hit_count = 0
         breakpoint.ignore_count = 1_000_000_000

@@ -9,8 +9,8 @@ use std::time::{Duration, Instant};
 
 use plain::depot_map::{DepotMap, Direction};
 use plain::maps::{
-    chain, grid, hub, random_graph, random_walk, reference_with_legs, steep, Bans, Lengths,
-    MapPlan, Turns, Xorshift,
+    chain, grid, hub, random_graph, random_roads, random_walk, reference_with_legs, steep, Bans,
+    Lengths, MapPlan, Turns, Xorshift,
 };
 use plain::outcome::WORK_AREA;
 use plain::reader::read;
@@ -119,6 +119,7 @@ fn samples() -> Vec<Sample> {
         sample("grid, equal lengths", grid_equal()),
         sample("grid", grid()),
         sample("random", random()),
+        sample("random roads", random_roads(3).shuffled(5)),
         sample("chain", chain()),
         sample("grid, 512 bans", spread(grid())),
         sample("grid, 512 bans at one junction", at_one(grid())),

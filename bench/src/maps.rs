@@ -234,15 +234,13 @@ fn add_opposite_lines(rng: &mut Xorshift, plan: &mut MapPlan) {
     let count = plan.lines.len() as u32;
     while plan.lines.len() < FULL_LINES {
         let line = plan.lines[rng.below(count) as usize];
-        let opposite = line_between(
-            plan,
-            (line.end, line.start),
-            line.length,
-            line.frc,
-            line.fow,
-        );
-        plan.lines.push(opposite);
+        plan.lines.push(opposite(plan, line));
     }
+}
+
+fn opposite(plan: &MapPlan, line: Line) -> Line {
+    let ends = (line.end, line.start);
+    line_between(plan, ends, line.length, line.frc, line.fow)
 }
 
 /// Nodes anywhere in a square whose sides fit the differences, two lines out of each.
@@ -260,6 +258,19 @@ pub fn random_graph(seed: u64) -> MapPlan {
         plan.lines
             .push(line_between(&plan, (start, end), length, frc, fow));
     }
+    plan
+}
+
+/// The same nodes, and half as many roads, each with a line each way.
+pub fn random_roads(seed: u64) -> MapPlan {
+    let mut plan = random_graph(seed);
+    plan.lines.truncate(FULL_LINES / 2);
+    let opposites: Vec<Line> = plan
+        .lines
+        .iter()
+        .map(|&line| opposite(&plan, line))
+        .collect();
+    plan.lines.extend(opposites);
     plan
 }
 
