@@ -10,3 +10,4 @@ pub mod Opening
 pub mod Sifting
 pub mod OwnColumns
 pub mod Walking
+pub mod LeavingLists

@@ -5,6 +5,7 @@ use buffers::wide;
 use columns::POSITIONS;
 use columns::test_candidate;
 use columns::test_own_column;
+use leaving::list_leaving;
 use search::Terminus;
 use search::adjacency::first_leaving;
 use search::adjacency::next_leaving;
@@ -21,10 +22,12 @@ ghost use Rattle.buffers.specs.Kept.{Kept};
 ghost use Rattle.search.specs.Area.{Set};
 ghost use Rattle.stretches.specs.Stretch.{Known};
 ghost use Rattle.leg_tests.specs.LegTests.{Noted, ColumnTested, AllTested};
+ghost use Rattle.leg_tests.specs.Leaving.{Leaving};
 
 mod alone;
 mod cells;
 mod columns;
+mod leaving;
 mod leg;
 mod leg_search;
 
@@ -34,9 +37,10 @@ const FIRST_REACH: usize = 10_000;
 // Notes at number 65 * i of the table, which is no leg's, whether the line at position `i` is alone.
 fn note_alone(work: &[u32], lines: usize, stretch: &[u32], table: &mut [u8])
     requires { ⌜ Known lines (now stretch) × (length (now stretch) ≤ 64) × (65 * length (now stretch) ≤ length (now table)) ⌝ }
-    requires { ⌜ ((m : Map) × Held (now work) lines m) ⌝ }
+    requires { ⌜ ((m : Map) × Held (now work) lines m × Leaving m lines (now work)) ⌝ }
     ensures { λ _. ⌜ Kept 0 (65 * length (now (stretch .entry))) (now (table .entry)) (now (table .exit)) ⌝ }
-    ensures { λ _. ⌜ ((m : Map) → Held (now (work .entry)) lines m → Noted m lines (now (stretch .entry)) (now (table .exit))) ⌝ }
+    ensures { λ _. ⌜ ((m : Map) → Held (now (work .entry)) lines m → Leaving m lines (now (work .entry))
+        → Noted m lines (now (stretch .entry)) (now (table .exit))) ⌝ }
 {
     let mut i: usize = 0;
     while i < stretch.len() {
@@ -105,6 +109,7 @@ pub fn test_legs(work: &mut [u32], lines: usize, stretch: &[u32], table: &mut [u
     ensures { λ _. ⌜ ((m : Map) → Set m lines (now (work .entry)) → Connected m (now (stretch .entry))
         → AllTested m lines (now (stretch .entry)) (now (table .entry)) (now (table .exit)) (now (work .entry)) (now (work .exit))) ⌝ }
 {
+    list_leaving(work, lines);
     note_alone(work, lines, stretch, table);
     let mut reach = FIRST_REACH;
     let mut j: usize = 0;

@@ -22,10 +22,11 @@ use Rattle.search.proofs.Reached.{listing-none}
 use Rattle.buffers.proofs.Cases.{picked}
 use Rattle.search.proofs.Holding.{held-kept, line-ok, few}
 
-latest-same : (m : Map) (v i : ℕ) → lineAt m i .start ≡ v → latest m v (i + 1) ≡ i + 1
+-- With one line more.
+pub latest-same : (m : Map) (v i : ℕ) → lineAt m i .start ≡ v → latest m v (i + 1) ≡ i + 1
 latest-same m v i e = rw (add-one i) (ap (λ t. cond t (suc i) (latest m v i)) (eq-eqb _ v e))
 
-latest-other : (m : Map) (v i : ℕ) → (lineAt m i .start ≡ v → ⊥) → latest m v (i + 1) ≡ latest m v i
+pub latest-other : (m : Map) (v i : ℕ) → (lineAt m i .start ≡ v → ⊥) → latest m v (i + 1) ≡ latest m v i
 latest-other m v i d = rw (add-one i) (ap (λ t. cond t (suc i) (latest m v i)) (ne-eqb _ v d))
 
 if-equal : (P : ℕ → Type 0) (m n a b : ℕ) → (m ≡ n → P a) → ((m ≡ n → ⊥) → P b) → P (cond (eqb m n) a b)

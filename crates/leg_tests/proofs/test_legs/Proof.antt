@@ -28,10 +28,16 @@ Inv-loop work₀ lines stretch table₀ reach₀ j₀ work table reach j =
 abbrev μ-loop : tie.MeasureT-loop
 μ-loop work₀ lines stretch table₀ reach₀ j₀ work table reach j = length stretch - j
 
+list-leaving-requires : tie.Need-list-leaving-requires Inv-loop μ-loop
+list-leaving-requires c κs = let q = c .before .before .before .before .pre .1 in (q .0, q .1)
+
 note-alone-requires : tie.Need-note-alone-requires Inv-loop μ-loop
 note-alone-requires c κs =
-    let start = c .before .before .before .before .before in
-    let p = start .pre in ((all-known (p .1 .1) (p .1 .2), p .0 .0, p .0 .1), (p .1 .0, p .1 .1 .held))
+    let at-list-leaving = c .before .before .before .before in
+    let p = at-list-leaving .before .before .before .before .before .pre in
+    let q = p .1 in
+    let listed = at-list-leaving .list-leaving .ensures (q .0) (q .1) in
+    ((all-known (q .1) (q .2), p .0 .0, p .0 .1), (q .0, listed .worked .set .held, listed .leaving))
 
 loop-holds : tie.Need-loop-holds Inv-loop μ-loop
 loop-holds c = (
@@ -48,12 +54,15 @@ test-to-requires : tie.Need-test-to-requires Inv-loop μ-loop
 test-to-requires c κs =
     let at-loop = c .before .before .before in
     let at-note-alone = at-loop .before .before .before in
-    let start = at-note-alone .before .before .before .before .before .before in
+    let at-list-leaving = at-note-alone .before .before .before .before .before in
+    let start = at-list-leaving .before .before .before .before .before in
     let p = start .pre in
     let q = p .1 in
     let test = c .before .before .loop-test .taken in
     let l = at-loop .loop in
-    let k = l .inv .3 (q .0) (q .1) (q .2) (at-note-alone .note-alone .ensures .1 (q .0) (q .1 .held)) in
+    let listed = at-list-leaving .list-leaving .ensures (q .0) (q .1) in
+    let set = listed .worked .set in
+    let k = l .inv .3 (q .0) set (q .2) (at-note-alone .note-alone .ensures .1 (q .0) (set .held) (listed .leaving)) in
     ((omega arith, omega (arith, test), p .0 .0, omega (arith, p .0 .1, l .inv .2, at-note-alone .note-alone .kept .1 .1 .1 .0)), (q .0, k .0 .set, q .2, k .2))
 
 loop-less : tie.Need-loop-less Inv-loop μ-loop
@@ -64,7 +73,7 @@ loop-again c =
     let at-test-to = c .before .before .before .before in
     let at-loop-test = at-test-to .before .before .before in
     let at-loop = at-loop-test .before in
-    let start = at-loop .before .before .before .before .before .before .before .before .before in (
+    let start = at-loop .before .before .before .before .before .before .before .before .before .before .before .before .before in (
       omega (arith, at-loop-test .loop-test .taken),
       at-test-to .test-to .kept .0 ∙ at-loop .loop .inv .1,
       at-test-to .test-to .kept .1 .1 .1 .1 .1 .0 ∙ at-loop .loop .inv .2,
@@ -80,17 +89,21 @@ loop-again c =
     )
 
 same-length : tie.Need-same-length Inv-loop μ-loop
-same-length c = c .before .loop .inv .1
+same-length c = c .before .loop .inv .1 ∙ c .before .before .before .before .before .before .before .before .before .list-leaving .kept .0
 
 same-length-2 : tie.Need-same-length-2 Inv-loop μ-loop
 same-length-2 c = c .before .loop .inv .2 ∙ c .before .before .before .before .note-alone .kept .1 .1 .1 .0
 
 returns : tie.Need-returns Inv-loop μ-loop
-returns c m set joint = let k = c .before .loop .inv .3 m set joint (c .before .before .before .before .note-alone .ensures .1 m (set .held)) in
+returns c m set joint =
+    let at-note-alone = c .before .before .before .before in
+    let listed = at-note-alone .before .before .before .before .before .list-leaving .ensures m set in
+    let noted = at-note-alone .note-alone .ensures in
+    let k = c .before .loop .inv .3 m (listed .worked .set) joint (noted .1 m (listed .worked .set .held) (listed .leaving)) in
     record {
       tested = λ i j h l. k .3 i j h (omega (arith, c .loop-test .left));
-      kept = kept-then (c .before .before .before .before .note-alone .ensures .0) (k .1);
-      worked = k .0;
+      kept = kept-then (noted .0) (k .1);
+      worked = worked-then (listed .worked) (k .0);
     }
 
 pub test-legs-spec : {M : Type 1} → statement M
@@ -99,6 +112,7 @@ test-legs-spec =
     (tie.spec
     Inv-loop
     μ-loop
+    list-leaving-requires
     note-alone-requires
     loop-holds
     add-j

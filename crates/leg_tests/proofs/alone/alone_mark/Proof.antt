@@ -1,33 +1,27 @@
--- `alone_mark` meets its contract: no other line below `l` is as the one at position `i`.
+-- `alone_mark` meets its contract: the walk along the list of the node meets no other line that leaves as the one at position `i`.
+use Rattle.leg_tests.specs.Leaving.{Leaving}
+use Rattle.leg_tests.proofs.LeavingLists.{Along, along-start, along-on}
 use Rattle.stretches.specs.Attributes.{attributesBy}
+use Rattle.search.proofs.Leaving.{latest-le}
 use Rattle.fields.specs.Leg.{attributesIn}
 use Rattle.work_area.specs.Area.{Held}
 use Rattle.model.specs.Lines.{lineAt, leaving}
 use Rattle.model.specs.Map.{Map}
 use lib.ListN.{getD}
-use native.Mathlib.Decide.{decLt}
 use mathlib.Core.Logic.{⊎-elim}
-use mathlib.Core.Path.{_≡_, sym, subst, _∙_}
-use Prim.Native.Nat.{ℕ, _+_, _-_, _≤_, _<_}
+use mathlib.Core.Path.{_≡_, sym, _∙_}
+use Prim.Native.Nat.{_-_}
 use native.Mathlib.Omega.{arith}
 use borrow.Author.Needs.{needs}
 use Rattle.leg_tests.proofs.alone.alone_mark.Statement.{statement}
 use Rattle.leg_tests.proofs.alone.alone_mark.Tie as tie
 
 abbrev Inv-loop : tie.InvT-loop
-Inv-loop work lines stretch i own v leaves l₀ l = (l ≤ lines) ×
-    ((m : Map) → Held work lines m → (k : ℕ) → k < l → (lineAt m k .start ≡ v) × (leaving m k ≡ attributesIn leaves) → k ≡ own)
+Inv-loop work lines stretch i own v leaves at₀ at =
+    (m : Map) → Held work lines m → Leaving m lines work → Along m lines v own (λ l. leaving m l ≡ attributesIn leaves) at
 
 abbrev μ-loop : tie.MeasureT-loop
-μ-loop work lines stretch i own v leaves l₀ l = lines - l
-
--- One line more is not as that one, or it is that one.
-alone-more : (P : ℕ → Type 0) (own l : ℕ) → ((k : ℕ) → k < l → P k → k ≡ own) → (P l → l ≡ own) → (k : ℕ) → k < l + 1 → P k → k ≡ own
-alone-more P own l before here k h p = go (decLt k l)
-  where
-    go : Dec (k < l) → k ≡ own
-    go (yes less) = before k less p
-    go (no last) = let e : k ≡ l = omega arith in e ∙ here (subst P e p)
+μ-loop work lines stretch i own v leaves at₀ at = at
 
 -- The node and the attributes of the line at position `i`.
 alike : (c : tie.After-attributes-of Inv-loop μ-loop) →
@@ -48,45 +42,67 @@ wide-requires : tie.Need-wide-requires Inv-loop μ-loop
 wide-requires c κs = search needs
 
 node-of-requires : tie.Need-node-of-requires Inv-loop μ-loop
-node-of-requires c κs = let p = c .before .before .before .before .pre in ((p .0 .0, p .0 .1, omega arith), p .1)
+node-of-requires c κs = let p = c .before .before .before .before .pre in ((p .0 .0, p .0 .1, omega arith), (p .1 .0, p .1 .1))
 
 attributes-of-requires : tie.Need-attributes-of-requires Inv-loop μ-loop
-attributes-of-requires c κs = let p = c .before .before .before .before .before .pre in ((p .0 .0, p .0 .1, omega arith), p .1)
+attributes-of-requires c κs = let p = c .before .before .before .before .before .pre in ((p .0 .0, p .0 .1, omega arith), (p .1 .0, p .1 .1))
+
+first-from-requires : tie.Need-first-from-requires Inv-loop μ-loop
+first-from-requires c κs =
+    let q = c .before .before .before .before .before .before .pre .1 in (q .0, q .1, q .2, c .before .node-of .ensures (q .0) (q .1) .1)
 
 loop-holds : tie.Need-loop-holds Inv-loop μ-loop
-loop-holds c = (omega arith, λ m held k h. absurd (omega arith))
+loop-holds c m held lists = along-start (c .first-from .ensures m lists (c .before .before .node-of .ensures m held .1))
 
-starts-as-requires : tie.Need-starts-as-requires Inv-loop μ-loop
-starts-as-requires c κs = (c .before .loop-test .taken, c .before .before .before .before .before .before .before .before .before .pre .1)
+sub-if1 : tie.Need-sub-if1 Inv-loop μ-loop
+sub-if1 c = search needs
+
+sub-leaves-as : tie.Need-sub-leaves-as Inv-loop μ-loop
+sub-leaves-as c = search needs
+
+leaves-as-requires : tie.Need-leaves-as-requires Inv-loop μ-loop
+leaves-as-requires c κs =
+    let at-loop-test = c .before in
+    let q = c .before .before .before .before .before .before .before .before .before .before .pre .1 in
+    (omega (arith, at-loop-test .loop-test .taken, at-loop-test .before .loop .inv (q .0) (q .1) (q .2) .inside), (q .0, q .1))
 
 returns : tie.Need-returns Inv-loop μ-loop
-returns c m held alone =
+returns c m held lists alone =
     let at-loop-test = c .before .before .before in
-    let at-attributes-of = at-loop-test .before .before in
+    let at-attributes-of = at-loop-test .before .before .before in
     let at-wide = at-attributes-of .before .before in
     let own = alike at-attributes-of m held in
-    let both = rw (c .if2 .taken) at (c .before .starts-as .ensures m held) in
+    let some = at-loop-test .loop-test .taken in
+    let here = at-loop-test .before .loop .inv m held lists in
+    let leaves = rw (c .if2 .taken) at (c .before .leaves-as .ensures m held) in
     c .before .before .if1 .taken
-    (alone _ (at-loop-test .loop-test .taken) (both .0 ∙ own .0) (both .1 ∙ own .1) ∙ sym (at-wide .wide .ensures .0))
+    (alone _ (omega (arith, some, here .inside)) (here .there some ∙ own .0) (leaves ∙ own .1) ∙ sym (at-wide .wide .ensures .0))
 
-add-l : tie.Need-add-l Inv-loop μ-loop
-add-l c = search needs
+next-from-requires : tie.Need-next-from-requires Inv-loop μ-loop
+next-from-requires c κs =
+    let q = c .before .before .before .before .before .before .before .before .before .before .pre .1 in
+    let l = c .before .before .loop in
+    ((c .before .loop-test .taken, l .inv (q .0) (q .1) (q .2) .inside), (q .0, q .1, q .2))
 
 loop-less : tie.Need-loop-less Inv-loop μ-loop
-loop-less c = search needs
+loop-less c =
+    let q = c .before .before .before .before .before .before .before .before .before .before .before .pre .1 in
+    let l = c .before .before .before .loop in
+    omega (arith, c .before .before .loop-test .taken, c .next-from .ensures (q .0) (q .2), latest-le (q .0) (lineAt (q .0) (l .at - 1) .start) (l .at - 1))
 
 loop-again : tie.Need-loop-again Inv-loop μ-loop
-loop-again c = (
-  omega (arith, c .before .loop-test .taken),
-  λ m held. alone-more _ _ _ (c .before .before .loop .inv .1 m held)
-      (λ both. ⊎-elim (λ h. absurd ((rw (h .2 .left) at (h .1 .ensures m held)) both)) (λ e. e .left) (c .if1 .came)),
-)
+loop-again c m held lists =
+    along-on (c .before .before .before .loop .inv m held lists) (c .before .before .loop-test .taken)
+    (λ same. ⊎-elim (λ h. absurd ((rw (h .2 .left) at (h .1 .ensures m held)) same)) (λ e. e .left) (c .before .if1 .came))
+    (c .next-from .ensures m lists)
 
 returns-2 : tie.Need-returns-2 Inv-loop μ-loop
-returns-2 c m held l inside from leaves =
-    let at-wide = c .before .before .before .before in
-    let own = alike (c .before .before) m held in
-    c .before .loop .inv .1 m held l (omega (arith, c .loop-test .left)) (from ∙ sym (own .0), leaves ∙ sym (own .1)) ∙ at-wide .wide .ensures .0
+returns-2 c m held lists l inside from leaves =
+    let at-attributes-of = c .before .before .before in
+    let at-wide = at-attributes-of .before .before in
+    let own = alike at-attributes-of m held in
+    c .before .loop .inv m held lists .passed l (omega (arith, c .loop-test .left)) inside (from ∙ sym (own .0)) (leaves ∙ sym (own .1))
+    ∙ at-wide .wide .ensures .0
 
 pub alone-mark-spec : {M : Type 1} → statement M
 alone-mark-spec =
@@ -99,10 +115,13 @@ alone-mark-spec =
     wide-requires
     node-of-requires
     attributes-of-requires
+    first-from-requires
     loop-holds
-    starts-as-requires
+    sub-if1
+    sub-leaves-as
+    leaves-as-requires
     returns
-    add-l
+    next-from-requires
     loop-less
     loop-again
     returns-2)
