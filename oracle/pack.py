@@ -9,13 +9,13 @@ from dataclasses import replace
 from pathlib import Path
 
 from cases import leg_cases, map_cases, random_source, read_cases, stretch_leg, write_cases
-from depot_map import map_numbers, map_to_bytes
+from depot_map import MOST_BANS, map_numbers, map_to_bytes
 from legs import LegSearch, list_length
 from outcome import Refused, outcome_text
 from read_recipes import changed_in_a_byte, composed_from, read_outcome
 from reader import LEAST_WORK_LENGTH, read
 from recipes import until_found
-from sample_maps import full_size_sample
+from sample_maps import full_sample, full_size_sample, joining_pairs
 from write_recipes import many_on_full_size, write_outcome
 
 CRATES = Path(__file__).parent.parent / "crates"
@@ -42,21 +42,31 @@ def number_sum(numbers):
 def map_row(outcome):
     if isinstance(outcome, Refused):
         return outcome_text(outcome)
-    nodes, lines, bans = len(outcome.nodes), len(outcome.lines), len(outcome.bans)
+    nodes, lines, bans = len(outcome.nodes), len(outcome.lines), bans_by_second_line(outcome.bans)
     numbers = map_numbers(replace(outcome, bans=()))
     del numbers[-1], numbers[1 + 2 * nodes], numbers[0]
-    numbers += [number for ban in bans_by_second_line(outcome.bans) for number in ban]
-    return f"nodes {nodes} lines {lines} bans {bans} sum {number_sum(numbers)}"
+    numbers += [number for ban in bans for number in ban]
+    return f"nodes {nodes} lines {lines} bans {len(bans)} sum {number_sum(numbers)}"
 
 
 def bans_by_second_line(bans):
-    """In the order of their second lines; of one second line, those listed last come first."""
-    return sorted(reversed(bans), key=lambda ban: ban[1])
+    """Each once, in the order of their second lines; of one second line, those whose first listing is last come first."""
+    first_listings = dict.fromkeys(bans)
+    return sorted(reversed(first_listings), key=lambda ban: ban[1])
+
+
+def map_of_different_bans():
+    """A map as large as can be, with the most banned turns that there can be, each listed once."""
+    rng = random_source("different bans", 1, 0)
+    depot_map = full_sample(rng).depot_map
+    return replace(depot_map, bans=tuple(rng.sample(joining_pairs(depot_map.lines), MOST_BANS)))
 
 
 def test_maps():
-    cases = map_cases(seed=1, count=640)
-    return packed(case.map_bytes for case in cases), [map_row(case.expected) for case in cases]
+    cases = [(case.map_bytes, case.expected) for case in map_cases(seed=1, count=640)]
+    full = map_of_different_bans()
+    cases.append((map_to_bytes(full), full))
+    return packed(map_bytes for map_bytes, _ in cases), [map_row(expected) for _, expected in cases]
 
 
 def words(numbers):

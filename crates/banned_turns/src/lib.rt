@@ -1,5 +1,5 @@
 // The banned turns in the work area: those from one line are a chain, the last one first. They are turns of the mirrored map: the turn that is banned
-// from line `l` into line `k` of the map stands there as one from line `k` into line `l`.
+// from line `l` into line `k` of the map stands there as one from line `k` into line `l`, once, however often the map lists it.
 use buffers::wide;
 use work_area::BAN_EARLIER;
 use work_area::BAN_HEADS;

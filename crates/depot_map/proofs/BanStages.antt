@@ -1,29 +1,27 @@
 -- The last stages of reading a map, each from the one after it: the banned turns, and the end of the bytes. `S` is what the stage is defined to be.
 use Prim.Native.Nat.{ℕ, suc, _+_, _-_, _≤_, _<_}
 use mathlib.Core.Path.{_≡_, refl, sym, ap₂, subst, _∙_}
-use mathlib.Core.Bool.{Bool, true, false, _&&_}
-use mathlib.Core.List.{List, [], _∷_, _++_, map-append}
+use mathlib.Core.Bool.{Bool, true, false}
+use mathlib.Core.List.{List, [], _∷_, _++_}
 use native.Mathlib.Omega.{arith}
-use lib.ListN.{length, drop, length-append, length-map}
+use lib.ListN.{length, drop}
 use Rattle.model.specs.declared.Refusal.{Refusal}
-use Rattle.model.specs.Map.{Node, Line, Turn, MapAnswer, whole, ended, readBan, decodeBans, clash, allFitting, greatestNodeCount, greatestLineCount, greatestBanCount}
+use Rattle.model.specs.Map.{Node, Line, Turn, MapAnswer, whole, ended, readBan, decodeBans, clash, allFitting, greatestNodeCount, greatestLineCount}
 use Rattle.model.specs.Work.{workLength}
-use Rattle.model.proofs.Tests.{both}
 use Rattle.buffers.specs.Kept.{Kept, Filled}
 use Rattle.buffers.proofs.Kept.{kept-none, kept-then, kept-within}
-use Rattle.work_area.specs.Area.{codesFrom, codesTo, bansFrom, BansHeld}
-use Rattle.work_area.specs.Mirror.{mirrorTurn, mirrorTurns}
-use Rattle.work_area.specs.Held.{heldLine, heldNodes, heldLines}
-use Rattle.work_area.proofs.Held.{listed-length, nodes-same, lines-same}
+use Rattle.work_area.specs.Area.{codesFrom, codesTo, bansFrom}
+use Rattle.work_area.specs.Mirror.{mirrorBehind}
+use Rattle.work_area.specs.Held.{heldNodes, heldLines}
+use Rattle.work_area.proofs.Held.{nodes-same, lines-same}
 use Rattle.work_area.proofs.Holding.{bans-kept}
-use Rattle.banned_turns.specs.Put.{BanPut}
-use Rattle.banned_turns.proofs.Chains.{bans-more, bans-none}
-use Rattle.banned_turns.proofs.Fitting.{fits-second, fitting-more}
-use Rattle.depot_map.specs.Stage.{BansTaken, Answered, Stage}
+use Rattle.banned_turns.proofs.Chains.{bans-none}
+use Rattle.depot_map.specs.Stage.{Answered, Stage}
 use Rattle.model.specs.Refusal.{refusalOf}
 use Rattle.depot_map.specs.declared.field.Fault.{Fault}
 use Rattle.depot_map.specs.Step.{faultOf}
-use Rattle.depot_map.specs.Bans.{BanGot, BanRefused}
+use Rattle.depot_map.specs.Bans.{BansTaken, BansCounted, BanGot, BanRefused}
+use Rattle.depot_map.specs.declared.ban.Taken.{Taken}
 use Rattle.depot_map.specs.declared.MapRead.{MapRead}
 use Rattle.depot_map.proofs.Ended.{none-over}
 use Rattle.depot_map.proofs.Stages.{stage-faulty, stage-then}
@@ -54,26 +52,27 @@ all-taken {w} {lines} {bans} e taken = subst (λ (b : Bool). BansTaken w lines b
 -- ---- the banned turns
 
 -- The first `i` turns are read, and where all of them fit their lines they are in the work area, which was `w` and is `v`.
-pub record BansRead (S : MapAnswer) (bytes : List ℕ) (at nodes lines count i : ℕ) (fits : Bool) (w v : List ℕ) : Type 0 where
+pub record BansRead (S : MapAnswer) (bytes : List ℕ) (at nodes lines count i : ℕ) (s : Taken) (w v : List ℕ) : Type 0 where
   pub within : i ≤ count
+  pub few : s .count ≤ i
   pub kept : Kept bansFrom workLength w v
   pub bans : List Turn
-  pub size : length bans ≡ i
   pub left : S ≡ decodeBans (count - i) (drop at bytes) (heldNodes w nodes) (heldLines w lines) bans
-  pub taken : BansTaken v lines bans fits
+  pub counted : BansCounted v lines bans s
 
 pub bans-start : {bytes : List ℕ} {at nodes lines count : ℕ} {w v : List ℕ} → lines ≤ greatestLineCount → Filled bansFrom greatestLineCount 0 w v →
-    BansRead (decodeBans count (drop at bytes) (heldNodes v nodes) (heldLines v lines) []) bytes at nodes lines count 0 true v v
-unfolding allFitting
+    BansRead (decodeBans count (drop at bytes) (heldNodes v nodes) (heldLines v lines) []) bytes at nodes lines count 0
+    (record { count = 0; fitting = true }) v v
+unfolding allFitting mirrorBehind
 bans-start {count = count} few none =
     let all : count - 0 ≡ count = omega arith in
     record {
       within = omega arith;
+      few = omega arith;
       kept = kept-none;
       bans = [];
-      size = refl;
       left = rw all;
-      taken = record { tested = refl; held = λ e. bans-none few none };
+      counted = record { taken = record { tested = refl; held = λ e. bans-none few none }; counted = λ e. refl };
     }
 
 -- The stage goes on after the heads of the chains are made empty.
@@ -86,12 +85,8 @@ after-none bytes at count {nodes} {lines} none few-nodes few-lines s =
     (sym (lines-same (none .kept) lines (omega arith))))
     (kept-within (omega arith) (omega arith) (none .kept)) (omega arith) s
 
-module _ {S : MapAnswer} {bytes : List ℕ} {at nodes lines count i : ℕ} {fits : Bool} {w v : List ℕ} (so-far : BansRead S bytes at nodes lines count i fits w v)
-    (few-lines : lines ≤ greatestLineCount) where
-  lines-here : heldLines v lines ≡ heldLines w lines
-  lines-here = lines-same (so-far .kept) lines (omega arith)
-
-  module _ (more : i < count) (few : count ≤ greatestBanCount) where
+module _ {S : MapAnswer} {bytes : List ℕ} {at nodes lines count i : ℕ} {s : Taken} {w v : List ℕ} (so-far : BansRead S bytes at nodes lines count i s w v) where
+  module _ (more : i < count) where
     -- Whatever the turn, its numbers are read and the rest is left.
     ban-left : (next : ℕ) (t : Turn) → ((rest : Turn → List ℕ → MapAnswer) → readBan (drop at bytes) rest ≡ rest t (drop next bytes)) →
         S ≡ decodeBans (count - (i + 1)) (drop next bytes) (heldNodes w nodes) (heldLines w lines) (so-far .bans ++ t ∷ [])
@@ -100,35 +95,16 @@ module _ {S : MapAnswer} {bytes : List ℕ} {at nodes lines count i : ℕ} {fits
         let one : count - i ≡ suc (count - (i + 1)) = omega arith in
         rw one at (so-far .left) ∙ goes _
 
-    bigger : (t : Turn) → length (so-far .bans ++ t ∷ []) ≡ i + 1
-    bigger t = length-append (so-far .bans) (t ∷ []) ∙ (omega (arith, so-far .size))
-
-    all-fit : {u : List ℕ} {next : ℕ} {here : Bool} (b : BanGot (readBan (drop at bytes)) bytes i lines next here v u) → (fits && here) ≡ true →
-        BansHeld u lines (mirrorTurns (so-far .bans ++ b .turn ∷ []))
-    all-fit {u} b e =
-        let both-fit = both fits _ e in
-        let known = fits-second (heldLines v lines) (b .turn) (sym (b .sorted .tested) ∙ both-fit .1) in
-        let size : length (mirrorTurns (so-far .bans)) ≡ i = length-map (so-far .bans) mirrorTurn ∙ so-far .size in
-        rw (map-append mirrorTurn (so-far .bans) (b .turn ∷ []))
-        (bans-more (mirrorTurns (so-far .bans)) (mirrorTurn (b .turn)) (so-far .taken .held (both-fit .0))
-        (subst (λ (n : ℕ). BanPut n (mirrorTurn (b .turn)) v u) (sym size) (b .sorted .put (both-fit .1)))
-        (omega (arith, size)) (omega (arith, known, listed-length (heldLine v) lines)) few-lines)
-
-    pub bans-on : {u : List ℕ} {next : ℕ} {here : Bool} → BanGot (readBan (drop at bytes)) bytes i lines next here v u →
-        BansRead S bytes next nodes lines count (i + 1) (fits && here) w u
+    pub bans-on : {u : List ℕ} {next : ℕ} {r : Taken} → BanGot (readBan (drop at bytes)) bytes lines next s r v u →
+        BansRead S bytes next nodes lines count (i + 1) r w u
     bans-on {u} {next} b =
-        let same = lines-same (b .sorted .kept) lines (omega arith) in
         record {
           within = omega arith;
+          few = omega (arith, b .sorted .one, so-far .few);
           kept = kept-then (so-far .kept) (b .sorted .kept);
           bans = so-far .bans ++ b .turn ∷ [];
-          size = bigger (b .turn);
           left = ban-left next (b .turn) (b .goes);
-          taken = record {
-            tested =
-                rw same (ap₂ _&&_ (so-far .taken .tested) (b .sorted .tested) ∙ sym (fitting-more (so-far .bans) (b .turn) (heldLines v lines)));
-            held = all-fit b;
-          };
+          counted = b .sorted .sorts (so-far .bans) (so-far .counted);
         }
 
     pub ban-off : {u : List ℕ} {why : Fault} {told : Refusal} → refusalOf told ≡ faultOf why → BanRefused (readBan (drop at bytes)) why v u →
@@ -139,14 +115,15 @@ module _ {S : MapAnswer} {bytes : List ℕ} {at nodes lines count i : ℕ} {fits
         let kept : Kept bansFrom workLength w u = kept-then (so-far .kept) (b .kept) in
         stage-faulty same (rw one at (so-far .left) ∙ b .stops _) (kept-within (omega arith) (omega arith) kept)
 
-  pub bans-end : {u : List ℕ} {r : MapRead} → count ≤ i → nodes ≤ greatestNodeCount →
-      ((bans : List Turn) → BansTaken v lines bans fits → Stage (ended (drop at bytes) (heldNodes v nodes) (heldLines v lines) bans) codesFrom v u r) →
+  pub bans-end : {u : List ℕ} {r : MapRead} → count ≤ i → nodes ≤ greatestNodeCount → lines ≤ greatestLineCount →
+      ((bans : List Turn) → BansTaken v lines bans (s .fitting) → Stage (ended (drop at bytes) (heldNodes v nodes) (heldLines v lines) bans) codesFrom v u r) →
       Stage S codesFrom w u r
   unfolding decodeBans
-  bans-end h few-nodes s =
+  bans-end h few-nodes few-lines ends =
       let none : count - i ≡ 0 = omega (arith, so-far .within) in
       let same = nodes-same (so-far .kept) nodes (omega arith) in
+      let same-lines = lines-same (so-far .kept) lines (omega arith) in
       stage-then
       (rw none at (so-far .left)
-      ∙ ap₂ (λ (n : List Node) (l : List Line). ended (drop at bytes) n l (so-far .bans)) (sym same) (sym lines-here))
-      (kept-within (omega arith) (omega arith) (so-far .kept)) (omega arith) (s (so-far .bans) (so-far .taken))
+      ∙ ap₂ (λ (n : List Node) (l : List Line). ended (drop at bytes) n l (so-far .bans)) (sym same) (sym same-lines))
+      (kept-within (omega arith) (omega arith) (so-far .kept)) (omega arith) (ends (so-far .bans) (so-far .counted .taken))

@@ -1,10 +1,9 @@
 -- What a stage of reading has to do: from some of the map's bytes on, all that follows.
 use Prim.Native.Nat.{ℕ}
 use mathlib.Core.Path.{_≡_}
-use mathlib.Core.Bool.{Bool, true}
 use mathlib.Core.List.{List}
 use Rattle.model.specs.Refusal.{refusalOf}
-use Rattle.model.specs.Map.{Turn, MapAnswer, whole, refused, allFitting}
+use Rattle.model.specs.Map.{Turn, MapAnswer, whole, refused}
 use Rattle.model.specs.Work.{workLength}
 use Rattle.buffers.specs.Kept.{Kept}
 use Rattle.work_area.specs.Area.{BansHeld}
@@ -12,11 +11,6 @@ use Rattle.work_area.specs.Mirror.{mirrorTurns}
 use Rattle.work_area.specs.Held.{heldNodes, heldLines}
 use Rattle.depot_map.specs.declared.MapRead.{MapRead}
 use Rattle.depot_map.specs.declared.MapRead.the-variants.{Whole, Refused}
-
--- These banned turns were read: whether all fit their lines, and if so they are in the work area, mirrored.
-pub record BansTaken (w : List ℕ) (lines : ℕ) (bans : List Turn) (fits : Bool) : Type 0 where
-  pub tested : fits ≡ allFitting (heldLines w lines) bans
-  pub held : fits ≡ true → BansHeld w lines (mirrorTurns bans)
 
 -- The stage comes to a map: its nodes, lines and mirrored banned turns are in the work area.
 pub record ComesTo (w : List ℕ) (nodes lines : ℕ) (stage : MapAnswer) : Type 0 where

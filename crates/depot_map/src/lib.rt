@@ -1,6 +1,7 @@
 // The depot map, read from its bytes into the lent work area. The stages are those of `decode` in crates/model/specs/Map.antt,
 // each called by the one before it.
 use ban::BanRead;
+use ban::Taken;
 use ban::read_ban;
 use buffers::fill;
 use equal_codes::equal_codes;
@@ -16,8 +17,6 @@ use model::limits::GREATEST_NODE_COUNT;
 use node::read_node;
 use work_area::BAN_HEADS;
 use work_area::MAP_LINES;
-ghost use mathlib.Core.Path.{_≡_};
-ghost use mathlib.Core.Bool.{_&&_};
 ghost use Prim.Native.Nat.{_≤_};
 ghost use mathlib.Core.List.{List, []};
 ghost use lib.ListN.{length, drop};
@@ -25,7 +24,8 @@ ghost use Rattle.model.specs.Map.{Turn, decodeNodes, decodeLines, decodeBans, e
 ghost use Rattle.model.specs.Work.{workLength};
 ghost use Rattle.work_area.specs.Held.{heldNodes, heldLines};
 ghost use Rattle.work_area.specs.Area.{linesFrom, codesFrom};
-ghost use Rattle.depot_map.specs.Stage.{BansTaken, Stage};
+ghost use Rattle.depot_map.specs.Bans.{BansTaken};
+ghost use Rattle.depot_map.specs.Stage.{Stage};
 ghost use Rattle.depot_map.specs.Answer.{MapIsRead};
 
 mod ban;
@@ -58,16 +58,6 @@ fn finish(map: &[u8], at: usize, work: &mut [u32], nodes: u32, lines: u32, fitti
     MapRead::Refused(Refusal::MapBan)
 }
 
-// Whether both are so.
-fn both(a: bool, b: bool) -> bool
-    ensures { λ r. ⌜ r ≡ (a && b) ⌝ }
-{
-    if a {
-        return b;
-    }
-    false
-}
-
 // `count` banned turns, and what follows them.
 fn read_bans(
     map: &[u8],
@@ -84,19 +74,22 @@ fn read_bans(
     fill(work, BAN_HEADS, MAP_LINES, 0);
     let n = count as usize;
     let mut at = from;
-    let mut fitting = true;
+    let mut taken = Taken {
+        count: 0,
+        fitting: true,
+    };
     let mut i: usize = 0;
     while i < n {
-        match read_ban(map, at, work, i, lines) {
-            BanRead::Got(next, fits) => {
+        match read_ban(map, at, work, taken, lines) {
+            BanRead::Got(next, more) => {
                 at = next;
-                fitting = both(fitting, fits);
+                taken = more;
             }
             BanRead::Refused(why) => return MapRead::Refused(refusal_of(why)),
         }
         i += 1;
     }
-    finish(map, at, work, nodes, lines, fitting)
+    finish(map, at, work, nodes, lines, taken.fitting)
 }
 
 // The count of banned turns, after the lines, and what follows it.

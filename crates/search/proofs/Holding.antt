@@ -1,13 +1,13 @@
 -- A work area that holds the map whose mirror a search goes along: it still does after a change in the cells of searches.
 use Rattle.work_area.specs.Area.{linePlace, searchFrom, bansFrom, lineNumbers, Held}
-use Rattle.work_area.specs.Mirror.{mirrorLine, mirrorTurn, mirrorTurns, mirror}
+use Rattle.work_area.specs.Mirror.{mirrorLine, mirrorTurn, withTurn, mirrorBehind, mirrorTurns, mirror}
 use Rattle.model.specs.Map.{Line, noLine, Turn, Map, greatestLineCount, fitting, allFitting}
-use Rattle.model.specs.Lines.{lineAt, nodeAt}
+use Rattle.model.specs.Lines.{lineAt, nodeAt, turnAmong}
 use Rattle.model.specs.WellFormed.{LineOk, WellFormed}
 use Prim.Native.Nat.{ℕ, _+_, _≤_, _<_}
 use mathlib.Core.Path.{_≡_, refl, sym, ap, ap₂, _∙_}
-use mathlib.Core.Bool.{Bool, _&&_, and-comm, and-assoc}
-use mathlib.Core.List.{List, [], _∷_, map}
+use mathlib.Core.Bool.{Bool, true, false, cond, _&&_, and-comm, and-assoc}
+use mathlib.Core.List.{List, [], _∷_, _++_, map}
 use native.Mathlib.Omega.{arith}
 use lib.ListN.{length, getD, length-map, List·getD-map}
 use lib.Dec.{ltb, eqb}
@@ -15,7 +15,9 @@ use Rattle.buffers.specs.Kept.{Kept}
 use Rattle.work_area.proofs.Holding.{bans-kept}
 use native.Mathlib.Decide.{ℕ-discrete}
 use borrow.Author.Tests.{eq-eqb, ne-eqb}
-use Rattle.work_area.proofs.Mirrored.{line-mirrored, lines-mirrored}
+use Rattle.model.proofs.Tests.{both}
+use Rattle.work_area.proofs.Mirrored.{line-mirrored, lines-mirrored, turns-length}
+use Rattle.banned_turns.proofs.Fitting.{fitting-more}
 use Rattle.search.specs.Area.{Mirrored}
 use Rattle.search.specs.Steps.{Stands}
 use Rattle.search.specs.declared.Terminus.{Terminus}
@@ -62,10 +64,26 @@ fitting-mirrored lines t =
     ∙ ap (λ (x : Bool). ltb (t .first) (length lines) && (ltb (t .second) (length lines) && x))
     (eqb-sym (getD lines (t .second) noLine .start) (getD lines (t .first) noLine .end)))
 
-all-fitting-mirrored : (lines : List Line) (ts : List Turn) → allFitting (map mirrorLine lines) (mirrorTurns ts) ≡ allFitting lines ts
+with-fitting : (lines : List Line) (ts : List Turn) (t : Turn) → allFitting lines ts ≡ true → fitting lines t ≡ true → allFitting lines (withTurn ts t) ≡ true
+unfolding withTurn
+with-fitting lines ts t all fits = go (turnAmong ts (t .first) (t .second))
+  where
+    go : (b : Bool) → allFitting lines (cond b ts (ts ++ t ∷ [])) ≡ true
+    go true = all
+    go false = fitting-more ts t lines ∙ ap₂ _&&_ all fits
+
+behind-fitting : (lines : List Line) (done ts : List Turn) → allFitting (map mirrorLine lines) done ≡ true → allFitting lines ts ≡ true →
+    allFitting (map mirrorLine lines) (mirrorBehind done ts) ≡ true
+unfolding allFitting mirrorBehind
+behind-fitting lines done [] so-far all = so-far
+behind-fitting lines done (t ∷ ts) so-far all =
+    let each = both (fitting lines t) _ all in
+    behind-fitting lines (withTurn done (mirrorTurn t)) ts
+    (with-fitting (map mirrorLine lines) done (mirrorTurn t) so-far (fitting-mirrored lines t ∙ each .0)) (each .1)
+
+all-fitting-mirrored : (lines : List Line) (ts : List Turn) → allFitting lines ts ≡ true → allFitting (map mirrorLine lines) (mirrorTurns ts) ≡ true
 unfolding allFitting
-all-fitting-mirrored lines [] = refl
-all-fitting-mirrored lines (t ∷ ts) = ap₂ _&&_ (fitting-mirrored lines t) (all-fitting-mirrored lines ts)
+all-fitting-mirrored lines ts all = behind-fitting lines [] ts refl all
 
 well-formed-mirrored : {m : Map} → WellFormed m → WellFormed (mirror m)
 unfolding nodeAt
@@ -91,8 +109,8 @@ well-formed-mirrored {m} f =
       one-line = omega (arith, lines-mirrored m, f .one-line);
       few-lines = omega (arith, lines-mirrored m, f .few-lines);
       distinct = f .distinct;
-      few-bans = omega (arith, length-map (m .bans) mirrorTurn, f .few-bans);
-      bans-fit = all-fitting-mirrored (m .lines) (m .bans) ∙ f .bans-fit;
+      few-bans = omega (arith, turns-length (m .bans), f .few-bans);
+      bans-fit = all-fitting-mirrored (m .lines) (m .bans) (f .bans-fit);
     }
 
 -- A work area that holds a map holds that of which the mirrored map is the mirror.

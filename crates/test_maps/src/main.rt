@@ -1,5 +1,5 @@
-// Reads the maps of cases.bin and prints a row for each: the counts of its nodes, lines and banned turns and a sum over the numbers that the work area
-// holds, or the refusal. What it prints is held to what the unrelated implementation says (oracle/pack.py).
+// Reads the maps of cases.bin and prints a row for each: the counts of its nodes, lines and different banned turns and a sum over the numbers that the
+// work area holds, or the refusal. What it prints is held to what the unrelated implementation says (oracle/pack.py).
 use buffers::wide;
 use cases::Part;
 use cases::sum_of;
@@ -21,8 +21,8 @@ ghost use Rattle.model.specs.Work.{workLength};
 ghost use Prim.Native.Nat.{_≤_, _<_};
 ghost use lib.ListN.{length};
 
-// Puts the banned turns into line `l` behind the first `from` numbers of `turns`, two numbers each, the last listed first: how many there are then.
-// They stand mirrored in the work area, in the chain of line `l`.
+// Puts the banned turns into line `l` behind the first `from` numbers of `turns`, two numbers each, each turn once, the one whose first listing is last
+// first: how many there are then. They stand mirrored in the work area, in the chain of line `l`.
 fn put_chain(work: &[u32], l: usize, turns: &mut [u32], from: usize) -> usize
     requires { ⌜ (l < greatestLineCount) × (from ≤ length (now turns)) × (workLength ≤ length (now work)) ⌝ }
     ensures { λ r. ⌜ r ≤ length (now (turns .entry)) ⌝ }

@@ -1,14 +1,16 @@
--- The mirrored map: its lines, its turns and its connected lists are those of the map, the other way round.
+-- The mirrored map: its lines, its turns, each listed once, and its connected lists are those of the map, the other way round.
 use Rattle.model.specs.Map.{Line, noLine, Turn, Map}
 use Rattle.model.specs.Lines.{lineAt, turnAmong, banned, Follows}
-use Prim.Native.Nat.{ℕ, _<_}
+use Prim.Native.Nat.{ℕ, suc, _+_, _≤_, _<_}
 use mathlib.Core.Path.{_≡_, refl, sym, ap, ap₂, _∙_}
-use mathlib.Core.Bool.{_||_, and-comm}
-use mathlib.Core.List.{List, [], _∷_}
+use mathlib.Core.Bool.{Bool, true, false, cond, _&&_, _||_, and-comm, or-false, or-assoc}
+use mathlib.Core.List.{List, [], _∷_, _++_}
+use native.Mathlib.Decide.{ℕ-discrete}
 use native.Mathlib.Omega.{arith}
-use lib.ListN.{length, length-map, List·getD-map}
+use lib.ListN.{length, length-append, length-map, List·getD-map}
 use lib.Dec.{eqb}
-use Rattle.work_area.specs.Mirror.{mirrorLine, mirrorTurns, mirror}
+use borrow.Author.Tests.{eq-eqb, ne-eqb}
+use Rattle.work_area.specs.Mirror.{mirrorLine, mirrorTurn, withTurn, mirrorBehind, mirrorTurns, mirror}
 
 pub line-mirrored : (m : Map) (l : ℕ) → lineAt (mirror m) l ≡ mirrorLine (lineAt m l)
 unfolding lineAt
@@ -17,10 +19,82 @@ line-mirrored m l = List·getD-map mirrorLine (m .lines) l noLine
 pub lines-mirrored : (m : Map) → length (mirror m .lines) ≡ length (m .lines)
 lines-mirrored m = length-map (m .lines) mirrorLine
 
+-- ---- one turn more, unless it is among them
+
+abbrev is : Turn → ℕ → ℕ → Bool
+is t l k = eqb (t .first) l && eqb (t .second) k
+
+among-behind : (ts : List Turn) (t : Turn) (l k : ℕ) → turnAmong (ts ++ t ∷ []) l k ≡ (turnAmong ts l k || is t l k)
+unfolding turnAmong
+among-behind [] t l k = or-false (is t l k)
+among-behind (x ∷ ts) t l k =
+    ap (λ (b : Bool). is x l k || b) (among-behind ts t l k) ∙ sym (or-assoc (is x l k) (turnAmong ts l k) (is t l k))
+
+-- A turn that is among them adds none.
+among-already : (ts : List Turn) (t : Turn) (l k : ℕ) → turnAmong ts (t .first) (t .second) ≡ true → turnAmong ts l k ≡ (turnAmong ts l k || is t l k)
+among-already ts t l k there = go (ℕ-discrete (t .first) l) (ℕ-discrete (t .second) k)
+  where
+    go : Dec (t .first ≡ l) → Dec (t .second ≡ k) → turnAmong ts l k ≡ (turnAmong ts l k || is t l k)
+    go (yes e) (yes f) = let here : turnAmong ts l k ≡ true = ap₂ (turnAmong ts) (sym e) (sym f) ∙ there in rw here
+    go (yes e) (no d) = rw (eq-eqb _ _ e, ne-eqb _ _ d) (sym (or-false (turnAmong ts l k)))
+    go (no d) f = rw (ne-eqb _ _ d) (sym (or-false (turnAmong ts l k)))
+
+among-with : (ts : List Turn) (t : Turn) (l k : ℕ) → turnAmong (withTurn ts t) l k ≡ (turnAmong ts l k || is t l k)
+unfolding withTurn
+among-with ts t l k = go (turnAmong ts (t .first) (t .second)) refl
+  where
+    go : (b : Bool) → turnAmong ts (t .first) (t .second) ≡ b → turnAmong (cond b ts (ts ++ t ∷ [])) l k ≡ (turnAmong ts l k || is t l k)
+    go true there = among-already ts t l k there
+    go false there = among-behind ts t l k
+
+-- It is one longer at most.
+with-length : (ts : List Turn) (t : Turn) → length (withTurn ts t) ≤ suc (length ts)
+unfolding withTurn
+with-length ts t = go (turnAmong ts (t .first) (t .second))
+  where
+    go : (b : Bool) → length (cond b ts (ts ++ t ∷ [])) ≤ suc (length ts)
+    go true = omega arith
+    go false = omega (arith, length-append ts (t ∷ []))
+
+-- What it is, once it is known whether the turn is among them.
+module _ (ts : List Turn) (t : Turn) where
+  pub with-old : turnAmong ts (t .first) (t .second) ≡ true → withTurn ts t ≡ ts
+  unfolding withTurn
+  with-old e = rw e
+
+  pub with-new : turnAmong ts (t .first) (t .second) ≡ false → withTurn ts t ≡ (ts ++ t ∷ [])
+  unfolding withTurn
+  with-new e = rw e
+
+-- ---- the turns, each listed once
+
+behind-more : (done ts : List Turn) (t : Turn) → mirrorBehind done (ts ++ t ∷ []) ≡ withTurn (mirrorBehind done ts) (mirrorTurn t)
+unfolding mirrorBehind
+behind-more done [] t = refl
+behind-more done (x ∷ ts) t = behind-more (withTurn done (mirrorTurn x)) ts t
+
+pub turns-more : (ts : List Turn) (t : Turn) → mirrorTurns (ts ++ t ∷ []) ≡ withTurn (mirrorTurns ts) (mirrorTurn t)
+turns-more ts t = behind-more [] ts t
+
+behind-length : (done ts : List Turn) → length (mirrorBehind done ts) ≤ length done + length ts
+unfolding mirrorBehind
+behind-length done [] = omega arith
+behind-length done (t ∷ ts) = omega (arith, behind-length (withTurn done (mirrorTurn t)) ts, with-length done (mirrorTurn t))
+
+pub turns-length : (ts : List Turn) → length (mirrorTurns ts) ≤ length ts
+turns-length ts = omega (arith, behind-length [] ts)
+
+behind-among : (done ts : List Turn) (l k : ℕ) → turnAmong (mirrorBehind done ts) k l ≡ (turnAmong done k l || turnAmong ts l k)
+unfolding turnAmong mirrorBehind
+behind-among done [] l k = sym (or-false (turnAmong done k l))
+behind-among done (t ∷ ts) l k =
+    behind-among (withTurn done (mirrorTurn t)) ts l k
+    ∙ ap (λ (b : Bool). b || turnAmong ts l k) (among-with done (mirrorTurn t) k l ∙ ap (λ (b : Bool). turnAmong done k l || b) (and-comm (eqb (t .second) k) (eqb (t .first) l)))
+    ∙ or-assoc (turnAmong done k l) (is t l k) (turnAmong ts l k)
+
 pub turn-mirrored : (ts : List Turn) (l k : ℕ) → turnAmong (mirrorTurns ts) k l ≡ turnAmong ts l k
 unfolding turnAmong
-turn-mirrored [] l k = refl
-turn-mirrored (t ∷ ts) l k = ap₂ _||_ (and-comm (eqb (t .second) k) (eqb (t .first) l)) (turn-mirrored ts l k)
+turn-mirrored ts l k = behind-among [] ts l k
 
 -- ---- connected lists
 

@@ -81,8 +81,8 @@ searchTo = lastBarredFrom + greatestNodeCount
 
 -- ---- behind the search: the banned turns (W1)
 
--- They stand there mirrored, as turns of the mirrored map. For each line 1 + the last banned turn from it, or 0. For each banned turn its second line,
--- and 1 + the one before it from the same first line, or 0. So the turns from one line are a chain.
+-- They stand there mirrored, as turns of the mirrored map: each once, however often the map lists it. For each line 1 + the last banned turn from it,
+-- or 0. For each banned turn its second line, and 1 + the one before it from the same first line, or 0. So the turns from one line are a chain.
 abbrev pub bansFrom : ℕ
 bansFrom = searchTo
 

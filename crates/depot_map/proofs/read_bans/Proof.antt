@@ -12,11 +12,11 @@ use Rattle.depot_map.proofs.read_bans.Statement.{statement}
 use Rattle.depot_map.proofs.read_bans.Tie as tie
 
 abbrev Inv-loop : tie.InvT-loop
-Inv-loop map from work₀ nodes lines count n at₀ fitting₀ i₀ work at fitting i =
-    BansRead (decodeBans count (drop from map) (heldNodes work₀ nodes) (heldLines work₀ lines) []) map at nodes lines count i fitting work₀ work
+Inv-loop map from work₀ nodes lines count n at₀ taken₀ i₀ work at taken i =
+    BansRead (decodeBans count (drop from map) (heldNodes work₀ nodes) (heldLines work₀ lines) []) map at nodes lines count i taken work₀ work
 
 abbrev μ-loop : tie.MeasureT-loop
-μ-loop map from work₀ nodes lines count n at₀ fitting₀ i₀ work at fitting i = count - i
+μ-loop map from work₀ nodes lines count n at₀ taken₀ i₀ work at taken i = count - i
 
 fill-requires : tie.Need-fill-requires Inv-loop μ-loop
 fill-requires c κs = search needs
@@ -25,13 +25,12 @@ loop-holds : tie.Need-loop-holds Inv-loop μ-loop
 loop-holds c = bans-start (c .before .before .before .before .before .before .pre .2) (c .before .before .fill .ensures)
 
 read-ban-requires : tie.Need-read-ban-requires Inv-loop μ-loop
-read-ban-requires c κs = omega (arith, c .before .before .loop .inv .kept .same, c .before .before .before .before .before .fill .ensures .kept .same)
+read-ban-requires c κs =
+    let inv = c .before .before .loop .inv in
+    ((omega (arith, inv .kept .same, c .before .before .before .before .before .fill .ensures .kept .same), omega (arith, inv .few), omega arith), (inv .bans, inv .counted))
 
 enum-known-next : tie.Need-enum-known-next Inv-loop μ-loop
 enum-known-next c = search needs
-
-both-requires : tie.Need-both-requires Inv-loop μ-loop
-both-requires c κs = search needs
 
 enum-known-why : tie.Need-enum-known-why Inv-loop μ-loop
 enum-known-why c = search needs
@@ -48,7 +47,7 @@ returns c =
     let start = c .before .before .before .before .before .before .before .before .before .before .before .before .before .before .before .before in
     let pre = start .pre in
     after-none (start .args .map .now) (start .args .from) (start .args .count) (c .before .before .before .before .before .before .before .before .before .before .before .before .fill .ensures) (pre .1) (pre .2)
-    (ban-off (c .before .before .before .before .before .before .before .before .before .loop .inv) (pre .2) (omega arith) (omega arith) (c .refusal-of .ensures) (ban-refused _ _ _ _ _ _ (one .read-ban .ensures) (c .before .before .why .given .1)))
+    (ban-off (c .before .before .before .before .before .before .before .before .before .loop .inv) (omega arith) (c .refusal-of .ensures) (ban-refused _ _ _ _ _ _ (one .read-ban .ensures) (c .before .before .why .given .1)))
 
 add-i : tie.Need-add-i Inv-loop μ-loop
 add-i c = search needs
@@ -57,10 +56,7 @@ loop-less : tie.Need-loop-less Inv-loop μ-loop
 loop-less c = omega arith
 
 loop-again : tie.Need-loop-again Inv-loop μ-loop
-loop-again c =
-    let pre = c .before .before .before .before .before .before .before .before .before .before .before .before .before .before .before .before .pre in
-    rw (c .both .ensures)
-    (bans-on (c .before .before .before .before .before .before .before .before .before .loop .inv) (pre .2) (omega arith) (omega arith) (ban-got _ _ _ _ _ _ (c .before .before .before .before .before .before .read-ban .ensures) (c .before .before .next .given .1)))
+loop-again c = bans-on (c .before .before .before .before .before .before .before .before .loop .inv) (omega arith) (ban-got _ _ _ _ _ _ (c .before .before .before .before .before .read-ban .ensures) (c .before .next .given .1))
 
 finish-requires : tie.Need-finish-requires Inv-loop μ-loop
 finish-requires c κs = omega (arith, c .before .before .loop .inv .kept .same, c .before .before .before .before .before .fill .ensures .kept .same)
@@ -73,7 +69,7 @@ returns-2 c =
     let start = c .before .before .before .before .before .before .before .before .before .before .before .before in
     let pre = start .pre in
     after-none (start .args .map .now) (start .args .from) (start .args .count) (c .before .before .before .before .before .before .before .before .fill .ensures) (pre .1) (pre .2)
-    (bans-end (c .before .before .before .before .before .loop .inv) (pre .2) (omega arith) (pre .1) (c .before .before .finish .ensures))
+    (bans-end (c .before .before .before .before .before .loop .inv) (omega arith) (pre .1) (pre .2) (c .before .before .finish .ensures))
 
 pub read-bans-spec : {M : Type 1} → statement M
 read-bans-spec =
@@ -85,7 +81,6 @@ read-bans-spec =
     loop-holds
     read-ban-requires
     enum-known-next
-    both-requires
     enum-known-why
     refusal-of-requires
     same-length

@@ -1,37 +1,51 @@
--- `put_fitting` meets its contract: a turn that fits is put.
-use Rattle.work_area.specs.Held.{heldLine}
-use Rattle.work_area.proofs.Held.{listed-length}
-use Rattle.depot_map.proofs.Bans.{put-sorted, not-sorted}
-use Rattle.banned_turns.proofs.Fitting.{fits-second}
+-- `put_fitting` meets its contract: a turn is put if it and all before it fit.
 use mathlib.Core.Path.{sym, _∙_}
+use borrow.Author.Tests.{not-true, not-false}
+use Rattle.work_area.specs.Held.{heldLine}
+use Rattle.work_area.specs.Mirror.{mirrorTurns}
+use Rattle.work_area.proofs.Held.{listed-length}
+use Rattle.banned_turns.proofs.Fitting.{fits-second}
+use Rattle.depot_map.proofs.Adding.{sort-off, sort-unfit, sort-fit}
 use native.Mathlib.Omega.{arith}
 use borrow.Author.Needs.{needs}
 use Rattle.depot_map.proofs.ban.put_fitting.Statement.{statement}
 use Rattle.depot_map.proofs.ban.put_fitting.Tie as tie
 
+returns : tie.Need-returns
+returns c = sort-off (not-true _ (c .if1 .taken))
+
 fits-requires : tie.Need-fits-requires
 fits-requires c κs = search needs
 
-put-ban-requires : tie.Need-put-ban-requires
-put-ban-requires c κs =
-    let start = c .before .before .before .before .before in
-    let fit = fits-second _ _ (sym (c .before .before .fits2 .ensures) ∙ c .before .if1 .taken) in
-    omega (arith, fit, listed-length (heldLine (start .args .work .now)) (start .args .lines))
+put-once-requires : tie.Need-put-once-requires
+put-once-requires c κs =
+    let start = c .before .before .before .before .before .before .before in
+    let pre = start .pre .0 in
+    let so-far = start .pre .1 in
+    let fit = fits-second _ _ (sym (c .before .before .fits2 .ensures) ∙ c .before .if2 .taken) in
+    ((pre .0, pre .1, pre .2, omega (arith, fit, listed-length (heldLine (start .args .work .now)) (start .args .lines))), (mirrorTurns (so-far .0), so-far .1 .taken .held (not-false _ (c .before .before .before .before .if1 .left))))
 
 same-length : tie.Need-same-length
 same-length c = search needs
 
-returns : tie.Need-returns
-returns c =
-    let pre = c .before .before .before .before .before .before .before .before .pre in
-    put-sorted (c .before .before .before .before .before .fits2 .ensures) (c .before .before .before .before .if1 .taken) (pre .1) (pre .2) (c .before .before .put-ban .ensures)
+returns-2 : tie.Need-returns-2
+returns-2 c =
+    sort-fit (not-false _ (c .before .before .before .before .before .before .before .if1 .left)) (c .before .before .before .before .before .fits2 .ensures) (c .before .before .before .before .if2 .taken) (c .before .before .before .before .before .before .before .before .before .before .pre .0 .2) (c .before .before .put-once .ensures)
 
 same-length-2 : tie.Need-same-length-2
 same-length-2 c = search needs
 
-returns-2 : tie.Need-returns-2
-returns-2 c = not-sorted (c .before .fits2 .ensures) (c .if1 .left)
+returns-3 : tie.Need-returns-3
+returns-3 c = sort-unfit (not-false _ (c .before .before .before .if1 .left)) (c .before .fits2 .ensures) (c .if2 .left)
 
 pub put-fitting-spec : {M : Type 1} → statement M
 put-fitting-spec =
-    tie.close (tie.spec fits-requires put-ban-requires same-length returns same-length-2 returns-2)
+    tie.close
+    (tie.spec
+    returns
+    fits-requires
+    put-once-requires
+    same-length
+    returns-2
+    same-length-2
+    returns-3)
