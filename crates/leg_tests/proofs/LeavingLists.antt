@@ -22,7 +22,7 @@ use Rattle.leg_tests.proofs.Sifting.{worked-then}
 
 -- ---- the cells of the lists are free
 
--- A range of cells of which a search that is not under way needs nothing: those of the queue, or those for each node.
+-- A range of cells that a search needs nothing of before it begins: those of the queue, or those that it keeps for each node.
 abbrev Free : ℕ → ℕ → Type 0
 Free low high = ((queueFrom ≤ low) × (high ≤ headsFrom)) ⊎ ((lastBarredFrom ≤ low) × (high ≤ searchTo))
 
@@ -76,12 +76,12 @@ list-none f s =
       worked = still-set (inr (omega arith, omega arith)) (f .kept) s;
     }
 
--- The same, with that area as the first.
+-- The same of a change that begins with that area.
 pub listed-again : {m : Map} {lines i : ℕ} {w v : List ℕ} → Listed m lines i w v → Listed m lines i v v
 listed-again k = record { leaving = k .leaving; worked = record { set = k .worked .set; kept = kept-none } }
 
 module _ {m : Map} {lines i : ℕ} {u w : List ℕ} (k : Listed m lines i u w) (i< : i < lines) where
-  pub start-at : getD w (linePlace i + startNode) 0 ≡ lineAt m i .start
+  start-at : getD w (linePlace i + startNode) 0 ≡ lineAt m i .start
   start-at = k .worked .set .held .line-held i 0 i< (omega arith)
 
   pub start-small : getD w (linePlace i + startNode) 0 < greatestNodeCount
@@ -119,7 +119,7 @@ module _ {m : Map} {lines i : ℕ} {u w : List ℕ} (k : Listed m lines i u w) (
 
 -- ---- a walk along a list
 
--- The walk along the list of node `v` is at line `at - 1`. None of the lines behind it but `own` leaves the node and has the property `P`.
+-- The walk along the list of node `v` is at line `at - 1`. Of the lines from `at` on none but `own` leaves the node and has the property `P`.
 pub record Along (m : Map) (lines v own : ℕ) (P : ℕ → Type 0) (at : ℕ) : Type 0 where
   pub inside : at ≤ lines
   pub there : 0 < at → lineAt m (at - 1) .start ≡ v

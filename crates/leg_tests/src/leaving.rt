@@ -1,6 +1,5 @@
-// Lists of the lines that leave each node, by which the lines that are alone are found. They are made before the first search, in cells that no search
-// has begun to use: one a node and one a line. Once a search begins they are gone. The adjacency lists, which searches need, are of the mirrored map,
-// so by the end nodes; they are left as they are.
+// Lists of the lines that leave each node, to find which lines are alone. They are made before the first search, in cells that searches use only while
+// they are under way: so those are free, and the lists are gone once a search begins. The adjacency lists do not serve: they have the lines that arrive.
 use buffers::fill;
 use buffers::wide;
 use work_area::LAST_BARRED;
@@ -17,7 +16,7 @@ ghost use Rattle.work_area.specs.Area.{Held};
 ghost use Rattle.search.specs.Area.{Set, latest};
 ghost use Rattle.leg_tests.specs.Leaving.{Leaving, Listed};
 
-// The cells: 1 + the first line of a node's list, 1 + the line after each line, or 0.
+// The cells: for each node 1 + the first line of its list, and for each line 1 + the next, or 0.
 const FIRSTS: usize = LAST_BARRED;
 
 const NEXTS: usize = QUEUE;
