@@ -13,7 +13,9 @@ use lib.Seq.{getD-set-other}
 use Rattle.buffers.specs.Kept.{Kept, Filled}
 use Rattle.buffers.proofs.Cases.{le-or-lt, here-or}
 use Rattle.buffers.proofs.Kept.{kept-none, kept-within, at-set, kept-set}
-use Rattle.search.specs.Area.{Set, latest, lengthTo, listWeight, noteWeight}
+use Rattle.search.specs.Area.{Set, latest, lengthTo, listWeight, markWeight, noteWeight}
+use Rattle.search.proofs.Marking.{marked-same}
+use Rattle.work_area.specs.Mirror.{mirror}
 use Rattle.search.proofs.Leaving.{latest-same, latest-other, latest-le, latest-hit, latest-all}
 use Rattle.search.proofs.Reached.{listing-same}
 use Rattle.leg_tests.specs.LegTests.{Worked}
@@ -56,10 +58,11 @@ module _ {m : Map} {lines low high : ℕ} {w v : List ℕ} (free : Free low high
           chained = record {
             heads = λ b b<. ap (λ (x : ℕ). x % listWeight) (head-same b b<) ∙ c .heads b b<;
             nexts = λ l l<. ap (λ (x : ℕ). x % listWeight) (next-same l l<) ∙ c .nexts l l<;
-            listing = (c .listing .0, listing-same length-same (λ l l<. ap (λ (x : ℕ). x / listWeight) (next-same l l<)) (c .listing .1));
+            listing = (c .listing .0, listing-same length-same (λ l l<. ap (λ (x : ℕ). x / listWeight % listWeight) (next-same l l<)) (c .listing .1));
             bare = λ b b< p.
                 let e = c .bare b b< (rw (ap (λ (x : ℕ). x / listWeight) (head-same b b<)) at p) in
                 (e .0, e .1, omega (arith, length-same (e .0) (e .1), e .2), e .3);
+            marks = marked-same (mirror m) w v (λ l l<. ap (λ (x : ℕ). x / markWeight) (next-same l l<)) (c .marks);
           };
         };
         kept = kept-within (omega arith) (omega arith) k;

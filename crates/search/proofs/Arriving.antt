@@ -1,7 +1,7 @@
 -- A line is reached: what that does to the list, to the queue, to the nearest free lines and to what is known of all lines.
 use Rattle.work_area.specs.Area.{headsFrom, searchFrom, lengthsFrom, nextFrom, lastBarredFrom, banChain, queueFrom}
 use Rattle.model.specs.Map.{greatestLineCount, Map}
-use Rattle.search.specs.Area.{Mirrored, far, noteWeight, listWeight, keyWeight, Listing, lengthTo, predecessor, firstLeaving, nearestFree, queued, reached, named, Nearest, NearerBy, farther, nearest, alike, lineOf, keyOf}
+use Rattle.search.specs.Area.{Mirrored, far, noteWeight, listWeight, markWeight, keyWeight, marked, Listing, lengthTo, predecessor, firstLeaving, nearestFree, queued, reached, named, Nearest, NearerBy, farther, nearest, alike, lineOf, keyOf}
 use Prim.Native.Nat.{ℕ, _+_, _/_, _%_, _≤_, _<_}
 use mathlib.Core.Path.{_≡_, refl, sym, _∙_, ap, subst}
 use mathlib.Core.List.{List}
@@ -21,6 +21,7 @@ use Rattle.search.proofs.Follows.{known, follows-free}
 use Rattle.search.proofs.Reached.{listing-same, count-le}
 use Rattle.search.proofs.Queueing.{queue-kept, waits-same, ordered-same}
 use Rattle.search.proofs.Listing.{listing-more}
+use Rattle.search.proofs.Marking.{marked-same}
 use Rattle.search.proofs.Nearness.{nearest-by, nearest-farther, nearest-lengths}
 use Rattle.search.proofs.Growing.{free-grew, backed-grew, settled-grew}
 
@@ -138,6 +139,9 @@ module _ {q : Task} {n c limit place count end j note x d end′ : ℕ} {w v : L
       let e = a .put .others k (omega arith) o in
       (ap (λ (y : ℕ). y / noteWeight) (a .lengths k k<) ∙ e .0, ap (λ (y : ℕ). y % noteWeight) (a .lengths k k<) ∙ e .1)
 
+  pub marks-now : (k : ℕ) → k < n → marked v k ≡ marked w k
+  marks-now k k< = let n≤ = few-lines in ap (λ (y : ℕ). y / markWeight) (a .cells k k<) ∙ a .put .nexts k (omega arith) .1
+
   stays : (k : ℕ) → k < n → lengthTo w k < far → lengthTo v k ≡ lengthTo w k
   stays k k< z = same k k< (other k k< z) .0
 
@@ -158,7 +162,7 @@ module _ {q : Task} {n c limit place count end j note x d end′ : ℕ} {w v : L
   listing : Listing v n (count + 1)
   listing =
       let s = listing-more few-lines j< fresh (let z = g .small in omega arith) (a .put) (g .listing) in
-      listing-same (λ k k<. ap (λ (y : ℕ). y / noteWeight) (a .lengths k k<)) (λ i i<. ap (λ (y : ℕ). y / listWeight) (a .cells i i<)) s
+      listing-same (λ k k<. ap (λ (y : ℕ). y / noteWeight) (a .lengths k k<)) (λ i i<. ap (λ (y : ℕ). y / listWeight % listWeight) (a .cells i i<)) s
 
   queued-by : (P : ℕ → Type 0) → P (keyOf x j) → ((i : ℕ) → place ≤ i → i < end → P (queued w i)) → (i : ℕ) → place ≤ i → i < end′ → P (queued v i)
   queued-by P new old i p≤ i< = ⊎-elim (λ e. rw e new) (λ t. rw (t .3) (old (t .0) (t .1) (t .2))) (a .queue i p≤ i<)
@@ -333,9 +337,10 @@ module _ {q : Task} {n c limit place count end j note x d end′ : ℕ} {w v : L
         held = held-kept (omega arith) (a .kept) (g .held);
         chained = record {
           heads = λ b b<. a .heads b b< ∙ g .chained .heads b b<;
-          nexts = λ k k<. ap (λ (y : ℕ). y % listWeight) (a .cells k k<) ∙ a .put .nexts k (omega arith) ∙ g .chained .nexts k k<;
+          nexts = λ k k<. ap (λ (y : ℕ). y % listWeight) (a .cells k k<) ∙ a .put .nexts k (omega arith) .0 ∙ g .chained .nexts k k<;
           listing = (count + 1, listing);
           bare = λ b b< p. let z = nearest-all b b< in let k = z .holds p in (_, k .line, k .reached, z .ends p);
+          marks = marked-same (q .map) w v marks-now (g .chained .marks);
         };
         listing = listing;
         small = g .small;

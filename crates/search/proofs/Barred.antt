@@ -1,36 +1,31 @@
 -- How the search goes on from a line with banned turns: where two others have gone on before it from the same node, the turns banned from these are left.
-use Rattle.work_area.specs.Area.{searchTo, lengthsFrom, lastBarredFrom}
+use Rattle.work_area.specs.Area.{lengthsFrom, nextFrom}
 use Rattle.search.specs.Area.{Mirrored, far, noteWeight, keyWeight, lengthTo, predecessor, nearestFree, queued, Tie, lineOf}
 use Prim.Native.Nat.{ℕ, _+_, _-_, _/_, _%_, _≤_, _<_}
 use mathlib.Core.Path.{_≡_, refl, sym, _∙_, ap, subst}
-use mathlib.Core.Bool.{Bool, true, false}
+use mathlib.Core.Bool.{false}
 use mathlib.Core.List.{List}
-use mathlib.Core.Logic.{_⊎_, inl, inr, ⊎-elim, _≢_}
+use mathlib.Core.Logic.{inl, inr, ⊎-elim, _≢_}
 use native.Mathlib.Omega.{arith}
 use lib.ListN.{length, getD}
 use Rattle.model.specs.Lines.{lineAt, turnAmong, Follows}
-use Rattle.buffers.specs.Kept.{Kept}
-use Rattle.search.specs.Steps.{Free, FreeReached, Counted, Settled, Task, Underway, Grew, GoesOn, GoneBefore, PairFor, WentAlong, WentAlongBans, Sets, Walked, Expanded}
+use Rattle.search.specs.Steps.{Free, FreeReached, Counted, Settled, Task, Underway, Grew, GoesOn, GoneBefore, PairFor, Aside, Told, WentAlong, WentAlongBans, Sets, Walked, Expanded}
 use Rattle.search.specs.declared.relax.Going.{Going}
 use Rattle.search.specs.declared.expand.Pair.{Pair}
 use Rattle.buffers.proofs.Kept.{kept-then, kept-within}
 use Rattle.buffers.proofs.Cases.{le-or-lt}
 use Rattle.search.proofs.Holding.{held-kept, few, line-ok}
-use Rattle.search.proofs.Follows.{known, follows-unless}
+use Rattle.search.proofs.Follows.{known, follows-unless, true-or}
 use Rattle.search.proofs.Keeping.{key-same, underway-same}
 use Rattle.search.proofs.Growing.{grew-then, free-grew, backed-grew, settled-grew}
 use Rattle.search.proofs.AtPlace.{class-of, waiting}
 use Rattle.search.proofs.Walks.{counted-then, goes-of, sets-node, sets-bans}
 use Rattle.search.proofs.Passing.{expanded, past}
 
-true-or : (b : Bool) → (b ≡ true) ⊎ (b ≡ false)
-true-or true = inl refl
-true-or false = inr refl
-
--- The cells of the last lines with banned turns are changed alone.
-module _ {q : Task} {n c limit place count end : ℕ} {w v : List ℕ} (g : Underway q n c limit place count end w) (k : Kept lastBarredFrom searchTo w v) where
-  same : (a : ℕ) → a < lastBarredFrom → getD v a 0 ≡ getD w a 0
-  same = k .below
+-- Marks and the cells of the last lines with banned turns are changed alone.
+module _ {q : Task} {n c limit place count end : ℕ} {w v : List ℕ} (g : Underway q n c limit place count end w) (k : Aside (q .map) n w v) where
+  same : (a : ℕ) → a < nextFrom → getD v a 0 ≡ getD w a 0
+  same = k .kept .below
 
   length-same : (l : ℕ) → l < n → lengthTo v l ≡ lengthTo w l
   length-same l l< = let n≤ = few (g .held) in ap (λ (x : ℕ). x / noteWeight) (same (lengthsFrom + l) (omega arith))
@@ -47,17 +42,17 @@ module _ {q : Task} {n c limit place count end : ℕ} {w v : List ℕ} (g : Unde
       }
 
   held-now : Mirrored v n (q .map)
-  held-now = held-kept (omega arith) k (g .held)
+  held-now = held-kept (omega arith) (k .kept) (g .held)
 
   head-same : place < end → queued v place ≡ queued w place
-  head-same inside = key-same g held-now length-same (λ a a≤ a<. same a a<) grew-kept place inside
+  head-same inside = key-same g held-now length-same (λ a a≤ a<. same a a<) (k .nexts) (k .marks) grew-kept place inside
 
   free-back : {l : ℕ} → FreeReached (q .map) n v l → FreeReached (q .map) n w l
   free-back f = record { line = f .line; free = f .free; reached = let z = f .reached in omega (arith, length-same _ (f .line)) }
 
   pub underway-kept : Underway q n c limit place count end v
   underway-kept =
-      underway-same g held-now length-same (λ a a≤ a<. same a a<) grew-kept
+      underway-same g held-now length-same (λ a a≤ a<. same a a<) (k .nexts) (k .marks) grew-kept
       (λ j j< z. rw (note-same j j<) (backed-grew grew-kept (g .held .line-count) j< z (g .backed j j< z)))
 
   module _ {going : Going} (inside : place < end) (o : GoesOn (q .map) n place w going) where
@@ -214,13 +209,13 @@ module _ {q : Task} {n c limit place count end count₁ end₁ count₂ end₂ a
       }
 
 -- What was changed of those cells before is changed too.
-pub expanded-kept : {q : Task} {n c limit place count end count′ end′ : ℕ} {u w v : List ℕ} → Underway q n c limit place count end u → Kept lastBarredFrom searchTo u w →
+pub expanded-kept : {q : Task} {n c limit place count end count′ end′ : ℕ} {u w v : List ℕ} → Underway q n c limit place count end u → Aside (q .map) n u w →
     Expanded q n c limit place w v count′ end′ → Expanded q n c limit place u v count′ end′
 expanded-kept g k e =
     record {
       underway = e .underway;
       same = λ l l< z. let y = length-same g k l l< in e .same l l< (omega arith) ∙ y;
-      kept = kept-then (kept-within (omega arith) (omega arith) k) (e .kept);
+      kept = kept-then (kept-within (omega arith) (omega arith) (k .kept)) (e .kept);
     }
 
 -- A line is ready for its walks: with a pair of lines that have gone on before it, or without.
@@ -228,6 +223,7 @@ pub record Ready (q : Task) (n c limit place : ℕ) (going : Going) (pair : Pair
   pub underway : Underway q n c limit place count end u
   pub inside : place < end
   pub on : GoesOn (q .map) n place u going
+  pub told : 0 < going .note → Told (q .map) n u going
   pub some : 0 < pair .one → 0 < going .note
   pub barred : 0 < pair .one → Free (q .map) (going .line) → ⊥
   pub one : 0 < pair .one → GoneBefore (q .map) n (going .line) (queued u place) u (pair .one)
@@ -238,13 +234,14 @@ pub ready : {q : Task} {n c limit place count end : ℕ} {going : Going} {pair :
     GoesOn (q .map) n place w going → PairFor (q .map) n place going w u pair → Ready q n c limit place going pair u count end
 ready g inside o p =
     record {
-      underway = underway-kept g (p .kept);
+      underway = underway-kept g (p .aside);
       inside = inside;
-      on = goes-on-kept g (p .kept) inside o;
+      on = goes-on-kept g (p .aside) inside o;
+      told = p .told;
       some = p .some;
       barred = p .barred;
-      one = λ z. gone-kept g (p .kept) inside o (p .pair .one z);
-      other = λ z. gone-kept g (p .kept) inside o (p .pair .other z);
+      one = λ z. gone-kept g (p .aside) inside o (p .pair .one z);
+      other = λ z. gone-kept g (p .aside) inside o (p .pair .other z);
       differ = p .pair .differ;
     }
 
@@ -294,8 +291,8 @@ module _ {q : Task} {n c limit place lines last : ℕ} {going : Going} {pair : P
     first-sets e =
         let z = along .0 e in
         ⊎-elim
-        (λ y. let none : o ≡ 0 = omega arith in rw none (sets-node (r .inside) (r .on)))
-        (λ y. let b = r .one y in rw z (sets-bans (b .some) (goes-of (r .inside) (r .some y) (r .on)) (b .ends)))
+        (λ y. let none : o ≡ 0 = omega arith in rw none (sets-node (r .inside) (r .told) (r .on)))
+        (λ y. let b = r .one y in rw z (sets-bans (b .some) (goes-of (r .inside) (r .some y) (r .told (r .some y)) (r .on)) (b .ends)))
         (le-or-lt (pair .one) 0)
 
     later-sets : (p : 0 < i) → Sets (q .map) n place end going o w

@@ -1,28 +1,30 @@
 -- How the search goes on from a line: at one line that can follow it, along the adjacency list of all, and past it.
-use Rattle.work_area.specs.Area.{linePlace, lineLength, lineFrc, lengthsFrom, queueFrom}
+use Rattle.work_area.specs.Area.{linePlace, lineLength, lineFrc, lengthsFrom, queueFrom, nextFrom}
 use Rattle.model.specs.Map.{greatestLineCount, Map}
-use Rattle.search.specs.Area.{far, several, noteWeight, lengthTo, predecessor, queued, Tie, lineOf, keyOf}
+use Rattle.search.specs.Area.{far, several, noteWeight, listWeight, markWeight, nextLeaving, listed, marked, lengthTo, predecessor, queued, Tie, lineOf, keyOf}
 use Prim.Native.Nat.{ℕ, _+_, _-_, _/_, _%_, _≤_, _<_}
 use mathlib.Core.Path.{_≡_, refl, sym, _∙_, ap, subst}
-use mathlib.Core.Bool.{true}
+use mathlib.Core.Bool.{true, false}
 use mathlib.Core.List.{List, [], _∷_, _++_}
 use mathlib.Core.Logic.{_⊎_, inl, inr, ⊎-elim, _≢_}
 use native.Mathlib.Omega.{arith}
 use native.Mathlib.Decide.{ℕ-discrete}
 use lib.ListN.{length, getD}
-use Rattle.model.specs.Lines.{lineAt, Follows}
+use Rattle.model.specs.Lines.{lineAt, turnAmong, Follows}
 use Rattle.search.specs.Steps.{Backed, Counted, Queued, Task, Underway, Grew, Noted, TieNoted, Inserted, Arrived, Notable, Goes, Relaxed}
 use Rattle.search.specs.declared.relax.Going.{Going}
 use Rattle.buffers.proofs.Kept.{kept-none, kept-within}
 use Rattle.buffers.proofs.Cases.{le-or-lt, here-or}
 use Rattle.search.proofs.Holding.{held-kept, few, line-ok}
 use Rattle.search.proofs.Plain.{way-more, total-more}
-use Rattle.search.proofs.Follows.{known, follows-free}
+use Rattle.search.proofs.Follows.{true-or, known, meets, barred, follows-free}
+use Rattle.banned_turns.proofs.Chains.{walk-start, walk-end}
 use Rattle.search.proofs.Reached.{count-le, room-left}
 use Rattle.search.proofs.Growing.{grew-none, free-grew, backed-grew}
 use Rattle.search.proofs.Queueing.{waits-same, ordered-same, queued-in, waits-more, waits-new, ordered-more}
 use Rattle.search.proofs.Keeping.{key-same, underway-same}
-use Rattle.search.proofs.Arriving.{Entered, Levelled, queue-same, enter, enter-unsent, grew, entered, found-now, noted-now}
+use Rattle.search.proofs.Arriving.{Entered, Levelled, queue-same, enter, enter-unsent, grew, entered, found-now, noted-now, marks-now}
+use Rattle.search.proofs.Marking.{marked-same}
 
 -- What is noted.
 noted-cases : {x note y : ℕ} → Noted x note y → ((x ≡ 0) × (y ≡ note)) ⊎ (((x ≡ note) × (y ≡ note)) ⊎ ((y ≡ several) × (0 < x) × (x ≢ note)))
@@ -95,9 +97,27 @@ module _ {q : Task} {n c limit place count end j : ℕ} {w : List ℕ} {going : 
   pub key-behind : {x : ℕ} → x ≡ going .length + getD w (linePlace j + lineLength) 0 → queued w place ≤ keyOf x j
   key-behind e = let some = line-ok (g .held) j< .some in omega (arith, length-at, o .found)
 
+  -- Line `j` is marked by line `l`, which has banned turns: so it cannot follow.
+  pub marked-apart : (0 < going .chain) × (marked w j ≡ l) → Follows m l j → ⊥
+  marked-apart is f =
+      ⊎-elim
+      (λ own.
+      let e : l ≡ j = sym (is .1) ∙ own in
+      line-ok (g .held) j< .differ (meets f ∙ ap (λ (k : ℕ). lineAt m k .end) e))
+      (λ banned. barred (rw (is .1) at banned) f)
+      (g .chained .marks j j<)
+
+  -- It is not: so the turn is not banned.
+  pub unmarked : ((0 < going .chain) × (marked w j ≡ l) → ⊥) → turnAmong (m .bans) l j ≡ false
+  unmarked d =
+      ⊎-elim
+      (λ none. walk-end (g .held .bans-held) l j (going .chain) none (walk-start (g .held .bans-held) l j (going .chain) (o .chain)))
+      (λ some. ⊎-elim (λ banned. absurd (d (some, o .told some j j< banned))) (λ free. free) (true-or (turnAmong (m .bans) l j)))
+      (le-or-lt (going .chain) 0)
+
   relaxed-none : (Follows m l j → Counted m c limit (going .note) l j w) → Relaxed q n c limit place going j w w count end
   relaxed-none counted =
-      record { underway = g; grew = grew-none; kept = kept-none; here = counted; head = refl; inside = o .inside }
+      record { underway = g; grew = grew-none; kept = kept-none; here = counted; head = refl; marks = λ k k<. refl; inside = o .inside }
 
   pub apart : (Follows m l j → ⊥) → Relaxed q n c limit place going j w w count end
   apart d = relaxed-none (λ f. absurd (d f))
@@ -164,6 +184,12 @@ module _ {q : Task} {n c limit place count end j : ℕ} {w : List ℕ} {going : 
     above : (b : ℕ) → queueFrom ≤ b → getD v b 0 ≡ getD w b 0
     above b b≤ = let n≤ = few (g .held) in t .kept .above b (omega arith)
 
+    nexts-tie : (k : ℕ) → k < n → (nextLeaving v k ≡ nextLeaving w k) × (listed v k ≡ listed w k)
+    nexts-tie k k< = let e = above (nextFrom + k) (omega arith) in (ap (λ (x : ℕ). x % listWeight) e, ap (λ (x : ℕ). x / listWeight % listWeight) e)
+
+    marks-tie : (k : ℕ) → k < n → marked v k ≡ marked w k
+    marks-tie k k< = ap (λ (x : ℕ). x / markWeight) (above (nextFrom + k) (omega arith))
+
     tie-length : lengthTo v j ≡ lengthTo v l + lineAt m j .length
     tie-length = omega (arith, same j j<, same l l<, equal, here, length-at)
 
@@ -211,7 +237,7 @@ module _ {q : Task} {n c limit place count end j : ℕ} {w : List ℕ} {going : 
         let h = held-kept (omega arith) (t .kept) (g .held) in
         let n≤ = few h in
         record {
-          underway = underway-same g h same (λ a a≤ a<. above a a≤) grew-tie
+          underway = underway-same g h same (λ a a≤ a<. above a a≤) nexts-tie (marked-same m w v marks-tie) grew-tie
               (here-or (λ k. k < n → lengthTo w k < far → Backed m v k (predecessor v k)) j
               (λ k< y. backed-tie)
               (λ k o k< y. rw (note-of k k< o) (backed-grew grew-tie (h .line-count) k< y (g .backed k k< y))));
@@ -228,7 +254,8 @@ module _ {q : Task} {n c limit place count end j : ℕ} {w : List ℕ} {going : 
                     (⊎-elim (λ a. (omega (arith, a .1), λ low. a .1)) (λ a. (omega (arith, a .0), λ low. absurd (omega (arith, a .0)))))
                     (noted-cases (t .noted)));
               };
-          head = key-same g h same (λ a a≤ a<. above a a≤) grew-tie place (o .inside);
+          head = key-same g h same (λ a a≤ a<. above a a≤) nexts-tie (marked-same m w v marks-tie) grew-tie place (o .inside);
+          marks = marks-tie;
           inside = o .inside;
         }
 
@@ -308,5 +335,6 @@ module _ {q : Task} {n c limit place count end j : ℕ} {w : List ℕ} {going : 
               (λ e. let s = e .2 in s .before place (s .behind) ∙ same-queue place (o .inside))
               (λ e. ap (λ (u : List ℕ). queued u place) (e .2) ∙ same-queue place (o .inside))
               (a .queue);
+          marks = marks-now g j< fresh ok′ near entered-in levelled;
           inside = ⊎-elim (λ e. let z = o .inside in omega (arith, e .1)) (λ e. let z = o .inside in omega (arith, e .1)) (a .queue);
         }

@@ -1,6 +1,6 @@
--- The search stays under way where lengths, the queue, the adjacency lists and the nearest free lines stay, and what notes rest on.
-use Rattle.work_area.specs.Area.{queueFrom, headsFrom, nextFrom, lastBarredFrom}
-use Rattle.search.specs.Area.{Mirrored, far, listWeight, lengthTo, predecessor, nearestFree, queued, named}
+-- The search stays under way where lengths, the queue, the adjacency lists and the nearest free lines stay, what notes rest on, and what marks say.
+use Rattle.work_area.specs.Area.{queueFrom, headsFrom, nextFrom}
+use Rattle.search.specs.Area.{Mirrored, far, listWeight, nextLeaving, listed, Marked, lengthTo, predecessor, nearestFree, queued, named}
 use Prim.Native.Nat.{ℕ, _+_, _/_, _%_, _≤_, _<_}
 use mathlib.Core.Path.{_≡_, _∙_, ap}
 use mathlib.Core.List.{List}
@@ -16,7 +16,8 @@ use Rattle.search.proofs.Queueing.{waits-same, ordered-same}
 use Rattle.search.proofs.Growing.{free-grew, settled-grew}
 
 module _ {q : Task} {n c limit place count end d : ℕ} {w v : List ℕ} (g : Underway q n c limit place count end w) (held : Mirrored v n (q .map))
-    (lengths : (l : ℕ) → l < n → lengthTo v l ≡ lengthTo w l) (cells : (a : ℕ) → queueFrom ≤ a → a < lastBarredFrom → getD v a 0 ≡ getD w a 0)
+    (lengths : (l : ℕ) → l < n → lengthTo v l ≡ lengthTo w l) (cells : (a : ℕ) → queueFrom ≤ a → a < nextFrom → getD v a 0 ≡ getD w a 0)
+    (nexts : (k : ℕ) → k < n → (nextLeaving v k ≡ nextLeaving w k) × (listed v k ≡ listed w k)) (marks : Marked (q .map) n w → Marked (q .map) n v)
     (grew : Grew (q .map) n c d w v) where
   pub key-same : (i : ℕ) → i < end → queued v i ≡ queued w i
   key-same i i< = let n≤ = few held in let b = g .room in cells (queueFrom + i) (omega arith) (omega (arith, count-le (g .listing)))
@@ -44,15 +45,16 @@ module _ {q : Task} {n c limit place count end d : ℕ} {w v : List ℕ} (g : Un
   underway-same backed =
       let n≤ = few held in
       let f = held .formed in
-      let list = listing-same lengths (λ i i<. ap (λ (x : ℕ). x / listWeight) (cells (nextFrom + i) (omega arith) (omega arith))) (g .listing) in
+      let list = listing-same lengths (λ i i<. nexts i i< .1) (g .listing) in
       record {
         held = held;
         chained = record {
           heads = λ b b<. ap (λ (x : ℕ). x % listWeight) (cells (headsFrom + b) (omega arith) (omega arith)) ∙ g .chained .heads b b<;
-          nexts = λ k k<. ap (λ (x : ℕ). x % listWeight) (cells (nextFrom + k) (omega arith) (omega arith)) ∙ g .chained .nexts k k<;
+          nexts = λ k k<. nexts k k< .0 ∙ g .chained .nexts k k<;
           listing = (count, list);
           bare = λ b b< p.
               let e = g .chained .bare b b< (rw (node-same b b<) at p) in (e .0, e .1, omega (arith, lengths (e .0) (e .1), e .2), e .3);
+          marks = marks (g .chained .marks);
         };
         listing = list;
         small = g .small;

@@ -1,12 +1,12 @@
 -- The adjacency lists: how they are made, and that a walk along one meets every such line.
 use Rattle.work_area.specs.Area.{linePlace, endNode, startNode, searchFrom, lengthsFrom, headsFrom, nextFrom, lastBarredFrom}
 use Rattle.model.specs.Map.{greatestNodeCount, greatestLineCount, Map}
-use Rattle.search.specs.Area.{Mirrored, far, noteWeight, listWeight, latest, lengthTo, nextLeaving, listed}
+use Rattle.search.specs.Area.{Mirrored, far, noteWeight, listWeight, latest, lengthTo, nextLeaving, listed, marked, markWeight}
 use Prim.Native.Nat.{ℕ, zero, suc, _+_, _-_, _*_, _/_, _%_, _≤_, _<_}
 use mathlib.Core.Path.{_≡_, sym, _∙_, ap, subst}
 use mathlib.Core.Bool.{cond}
 use mathlib.Core.List.{List}
-use mathlib.Core.Logic.{⊎-elim}
+use mathlib.Core.Logic.{inl, ⊎-elim}
 use native.Mathlib.Nat.{eq-or-lt-of-le}
 use native.Mathlib.Omega.{arith}
 use native.Mathlib.Numerals.{add-one}
@@ -61,7 +61,7 @@ latest-all m v (suc i) j j< e =
 -- The adjacency lists of the lines below `i` are made, and no such line is reached.
 pub record Linking (w : List ℕ) (i : ℕ) (m : Map) (v : List ℕ) : Type 0 where
   pub heads : (a : ℕ) → a < length (m .nodes) → getD v (headsFrom + a) 0 ≡ latest m a i
-  pub nexts : (l : ℕ) → l < i → (nextLeaving v l ≡ latest m (lineAt m l .start) l) × (listed v l ≡ 0)
+  pub nexts : (l : ℕ) → l < i → (nextLeaving v l ≡ latest m (lineAt m l .start) l) × (listed v l ≡ 0) × (marked v l ≡ l)
   pub all : (l : ℕ) → l < i → far ≤ lengthTo v l
   pub kept : Kept searchFrom lastBarredFrom w v
 
@@ -83,6 +83,7 @@ linked {n = n} {m = m} few k =
         nexts = λ l l<. k .nexts l l< .0;
         listing = (0, listing-none (k .all) (λ i i<. k .nexts i i< .1));
         bare = λ a a< p. absurd (omega (arith, k .heads a a<, latest-le m a n));
+        marks = λ j j<. inl (k .nexts j j< .2);
       };
       kept = k .kept;
     }
@@ -94,17 +95,23 @@ module _ {u w : List ℕ} {n i : ℕ} {m : Map} (h : Mirrored u n m) (i< : i < n
   pub start-small : getD w (linePlace i + endNode) 0 < greatestNodeCount
   start-small = let f = h .formed in omega (arith, start-at, line-ok h i< .start)
 
+  pub head-small : {v : ℕ} → v ≡ getD w (linePlace i + endNode) 0 → getD w (headsFrom + v) 0 ≤ i
+  head-small {v} at =
+      let from : v ≡ lineAt m i .start = at ∙ start-at in
+      rw from (omega (arith, k .heads _ (line-ok h i< .start), latest-le m (lineAt m i .start) i))
+
   pub link-step : {v : ℕ} → v ≡ getD w (linePlace i + endNode) 0 →
-      Linking u (i + 1) m (set (set (set w (nextFrom + i) (getD w (headsFrom + v) 0)) (headsFrom + v) (i + 1)) (lengthsFrom + i) (far * noteWeight))
+      Linking u (i + 1) m (set (set (set w (nextFrom + i) (getD w (headsFrom + v) 0 + markWeight * i)) (headsFrom + v) (i + 1)) (lengthsFrom + i) (far * noteWeight))
   link-step {v} at =
-      let x = getD w (headsFrom + v) 0 in
+      let head = getD w (headsFrom + v) 0 in
+      let x = head + markWeight * i in
       let w₁ = set w (nextFrom + i) x in
       let w₂ = set w₁ (headsFrom + v) (i + 1) in
       let z = start-small in
       let n≤ = few h in
       let s = k .kept .same in
       let from : v ≡ lineAt m i .start = at ∙ start-at in
-      let e : x ≡ latest m (lineAt m i .start) i = rw from (k .heads _ (line-ok h i< .start)) in
+      let e : head ≡ latest m (lineAt m i .start) i = rw from (k .heads _ (line-ok h i< .start)) in
       record {
         heads = λ a a<. getD-set-other w₂ (lengthsFrom + i) (headsFrom + a) (far * noteWeight) 0 (omega arith)
             ∙ at-set (λ a y. a < length (m .nodes) → y ≡ latest m a (i + 1)) w₁ headsFrom v (i + 1)
@@ -114,8 +121,8 @@ module _ {u w : List ℕ} {n i : ℕ} {m : Map} (h : Mirrored u n m) (i< : i < n
             ∙ sym (latest-other m a i (λ y. d (sym (from ∙ y))))) a a<;
         nexts = λ l l<.
             rw (getD-set-other w₂ (lengthsFrom + i) (nextFrom + l) (far * noteWeight) 0 (omega arith), getD-set-other w₁ (headsFrom + v) (nextFrom + l) (i + 1) 0 (omega arith))
-            (at-set (λ a y. a < i + 1 → (y % listWeight ≡ latest m (lineAt m a .start) a) × (y / listWeight ≡ 0)) w nextFrom i x (omega arith)
-            (λ a<. let b = latest-le m (lineAt m i .start) i in (omega arith, omega arith))
+            (at-set (λ a y. a < i + 1 → (y % listWeight ≡ latest m (lineAt m a .start) a) × (y / listWeight % listWeight ≡ 0) × (y / markWeight ≡ a)) w nextFrom i x (omega arith)
+            (λ a<. let b = latest-le m (lineAt m i .start) i in (omega arith, omega arith, omega arith))
             (λ a d a<. k .nexts a (omega arith)) l l<);
         all = at-set (λ a y. a < i + 1 → far ≤ y / noteWeight) w₂ lengthsFrom i (far * noteWeight) (simp length-set (omega arith)) (λ a<. omega arith)
             (λ a d a<.

@@ -10,6 +10,8 @@ pub mod Putting
 pub mod Inserting
 pub mod Sending
 pub mod Noting
+pub mod Turns
+pub mod Marking
 pub mod Listing
 pub mod Nearness
 pub mod Growing

@@ -2,7 +2,7 @@
 use Rattle.work_area.specs.Area.{lengthsFrom, queueFrom, nextFrom}
 use Rattle.model.specs.Map.{greatestLineCount}
 use Rattle.model.specs.Work.{workLength}
-use Rattle.search.specs.Area.{several, noteWeight, listWeight, nextLeaving}
+use Rattle.search.specs.Area.{several, noteWeight, listWeight, markWeight, nextLeaving, marked}
 use Prim.Native.Nat.{ℕ, _+_, _*_, _/_, _%_, _≤_, _<_}
 use mathlib.Core.Path.{_≡_, _∙_, ap}
 use mathlib.Core.List.{List}
@@ -17,7 +17,7 @@ module _ (w : List ℕ) (j note x count : ℕ) (j< : j < greatestLineCount) (sma
   abbrev w₁ : List ℕ
   w₁ = set w (lengthsFrom + j) (x * noteWeight + note)
 
-  pub put-stores : (y : ℕ) → y ≡ getD w₁ (nextFrom + count) 0 % listWeight + listWeight * (j + 1) → Put j note x count w (set w₁ (nextFrom + count) y)
+  pub put-stores : (y : ℕ) → y ≡ getD w₁ (nextFrom + count) 0 / markWeight * markWeight + getD w₁ (nextFrom + count) 0 % listWeight + listWeight * (j + 1) → Put j note x count w (set w₁ (nextFrom + count) y)
   put-stores y e =
       let fits : nextFrom + count < length w₁ = simp length-set (omega arith) in
       let cell : getD (set w₁ (nextFrom + count) y) (lengthsFrom + j) 0 ≡ x * noteWeight + note =
@@ -31,10 +31,11 @@ module _ (w : List ℕ) (j note x count : ℕ) (j< : j < greatestLineCount) (sma
             let same = getD-set-other w₁ (nextFrom + count) (lengthsFrom + k) y 0 (omega arith)
             ∙ getD-set-other w (lengthsFrom + j) (lengthsFrom + k) (x * noteWeight + note) 0 (λ e. o (omega arith)) in
             (ap (λ (b : ℕ). b / noteWeight) same, ap (λ (b : ℕ). b % noteWeight) same);
-        nexts = at-set (λ k b. k < greatestLineCount → b % listWeight ≡ nextLeaving w k) w₁ nextFrom count y fits
-            (λ k<. omega (arith, rest (nextFrom + count) (omega arith)))
-            (λ k o k<. ap (λ (b : ℕ). b % listWeight) (rest (nextFrom + k) (omega arith)));
-        list = λ i i< o. ap (λ (b : ℕ). b / listWeight)
+        nexts = at-set (λ k b. k < greatestLineCount → (b % listWeight ≡ nextLeaving w k) × (b / markWeight ≡ marked w k)) w₁ nextFrom count y fits
+            (λ k<. let r = rest (nextFrom + count) (omega arith) in (omega arith, omega arith))
+            (λ k o k<.
+            let r = rest (nextFrom + k) (omega arith) in (ap (λ (b : ℕ). b % listWeight) r, ap (λ (b : ℕ). b / markWeight) r));
+        list = λ i i< o. ap (λ (b : ℕ). b / listWeight % listWeight)
             (getD-set-other w₁ (nextFrom + count) (nextFrom + i) y 0 (λ z. o (omega arith)) ∙ rest (nextFrom + i) (omega arith));
         last = omega (arith, getD-set-same w₁ (nextFrom + count) y 0 fits);
         rest = λ a a≤ a<. getD-set-other w₁ (nextFrom + count) a y 0 (omega arith) ∙ rest a a≤;

@@ -1,7 +1,7 @@
 -- How the list is gone through to reset what a search found.
 use Rattle.work_area.specs.Area.{linePlace, startNode, searchFrom, lengthsFrom, headsFrom, nextFrom, lastBarredFrom}
 use Rattle.model.specs.Map.{greatestNodeCount, Map}
-use Rattle.search.specs.Area.{Mirrored, far, noteWeight, listWeight, Chained, Listing, lengthTo, firstLeaving, nextLeaving, listed, nearestFree}
+use Rattle.search.specs.Area.{Mirrored, far, noteWeight, listWeight, markWeight, marked, Chained, Listing, lengthTo, firstLeaving, nextLeaving, listed, nearestFree}
 use Rattle.model.specs.Lines.{lineAt}
 use Prim.Native.Nat.{ℕ, _+_, _-_, _*_, _/_, _%_, _≤_, _<_}
 use mathlib.Core.Path.{_≡_, refl, sym, _∙_, ap, subst}
@@ -15,6 +15,7 @@ use Rattle.buffers.specs.Kept.{Kept}
 use Rattle.search.specs.Steps.{Reset}
 use Rattle.buffers.proofs.Kept.{kept-none, kept-then, at-set, kept-set}
 use Rattle.search.proofs.Reached.{listing-none}
+use Rattle.search.proofs.Marking.{unlisted-next, unlisted-mark, unlisted-none, marked-same}
 use Rattle.search.proofs.Places.{place-le, past}
 use Rattle.buffers.proofs.Cases.{le-or-lt}
 use Rattle.search.proofs.Holding.{held-kept, few}
@@ -23,7 +24,7 @@ use Rattle.search.proofs.Leaving.{end-is, end-in}
 -- The first `i` places are gone through. A line that is still reached is at one of the others.
 pub record Resetting (m : Map) (n count i : ℕ) (u w : List ℕ) : Type 0 where
   pub heads : (a : ℕ) → a < greatestNodeCount → firstLeaving w a ≡ firstLeaving u a
-  pub nexts : (k : ℕ) → k < n → nextLeaving w k ≡ nextLeaving u k
+  pub nexts : (k : ℕ) → k < n → (nextLeaving w k ≡ nextLeaving u k) × (marked w k ≡ marked u k)
   pub gone : (k : ℕ) → k < i → listed w k ≡ 0
   pub left : (k : ℕ) → i ≤ k → k < n → listed w k ≡ listed u k
   pub every : (l : ℕ) → l < n → lengthTo w l < far → (k : ℕ) × (i ≤ k) × (k < count) × (listed u k ≡ l + 1)
@@ -35,7 +36,7 @@ resetting-start {m} {u = u} ch =
     let s = ch .listing .1 in
     record {
       heads = λ a a<. refl;
-      nexts = λ k k<. refl;
+      nexts = λ k k<. (refl, refl);
       gone = λ k k<. absurd (omega arith);
       left = λ k i k<. refl;
       every = λ l l< d. let a = s .every l l< d in (a .0, omega arith, a .1, a .2);
@@ -68,7 +69,8 @@ module _ {n count i : ℕ} {u w : List ℕ} {m : Map} (h : Mirrored u n m) (s : 
 
     -- The three stores.
     module _ (x y : ℕ) (cleared : x ≡ getD w (headsFrom + a) 0 % listWeight)
-        (left : y ≡ getD (set (set w (headsFrom + a) x) (lengthsFrom + l) (far * noteWeight)) (nextFrom + i) 0 % listWeight) where
+        (left : y ≡ getD (set (set w (headsFrom + a) x) (lengthsFrom + l) (far * noteWeight)) (nextFrom + i) 0 / markWeight * markWeight
+        + getD (set (set w (headsFrom + a) x) (lengthsFrom + l) (far * noteWeight)) (nextFrom + i) 0 % listWeight) where
       abbrev w₁ : List ℕ
       w₁ = set w (headsFrom + a) x
 
@@ -137,12 +139,14 @@ module _ {n count i : ℕ} {u w : List ℕ} {m : Map} (h : Mirrored u n m) (s : 
           record {
             heads = λ b b<. ap (λ (q : ℕ). q % listWeight) (head-at b b<)
                 ∙ at-set (λ b q. q % listWeight ≡ firstLeaving w b) w headsFrom a x (omega arith) (omega arith) (λ b o. refl) b ∙ k .heads b b<;
-            nexts = at-set (λ b q. b < n → q % listWeight ≡ nextLeaving u b) w₂ nextFrom i y (simp length-set (omega arith))
-                (λ b<. omega (arith, left, next-at i i<, k .nexts i i<))
+            nexts = at-set (λ b q. b < n → (q % listWeight ≡ nextLeaving u b) × (q / markWeight ≡ marked u b)) w₂ nextFrom i y (simp length-set (omega arith))
+                (λ b<.
+                let e = k .nexts i i< in
+                (rw left (unlisted-next _) ∙ ap (λ (q : ℕ). q % listWeight) (next-at i i<) ∙ e .0, rw left (unlisted-mark _) ∙ ap (λ (q : ℕ). q / markWeight) (next-at i i<) ∙ e .1))
                 (λ b d b<. rw (next-at b b<) (k .nexts b b<));
-            gone = at-set (λ b q. b < i + 1 → q / listWeight ≡ 0) w₂ nextFrom i y (simp length-set (omega arith)) (λ b<. omega arith)
+            gone = at-set (λ b q. b < i + 1 → q / listWeight % listWeight ≡ 0) w₂ nextFrom i y (simp length-set (omega arith)) (λ b<. rw left (unlisted-none _))
                 (λ b d b<. rw (next-at b (omega arith)) (k .gone b (omega arith)));
-            left = λ b b≤ b<. ap (λ (q : ℕ). q / listWeight) (getD-set-other w₂ (nextFrom + i) (nextFrom + b) y 0 (omega arith) ∙ next-at b b<)
+            left = λ b b≤ b<. ap (λ (q : ℕ). q / listWeight % listWeight) (getD-set-other w₂ (nextFrom + i) (nextFrom + b) y 0 (omega arith) ∙ next-at b b<)
                 ∙ k .left b (omega arith) b<;
             every = λ b b< d. every b b< (rw (getD-set-other w₂ (nextFrom + i) (lengthsFrom + b) y 0 (omega arith)) at d);
             bare = λ b b< p. let g = h .formed in bare b b< (rw (head-at b (omega arith)) at p);
@@ -166,9 +170,10 @@ reset-done {n} {i} {u} {w} {m} h ch c k =
     record {
       chained = record {
         heads = λ a a<. k .heads a (omega arith) ∙ ch .heads a a<;
-        nexts = λ l l<. k .nexts l l< ∙ ch .nexts l l<;
+        nexts = λ l l<. k .nexts l l< .0 ∙ ch .nexts l l<;
         listing = (0, listing-none all none);
         bare = λ a a< p. absurd (omega (arith, bare a a<));
+        marks = marked-same m u w (λ l l<. k .nexts l l< .1) (ch .marks);
       };
       empty = listing-none all none;
       all = all;

@@ -1,20 +1,16 @@
 -- The search goes on from a line along a list: along all lines that leave its end, or along the turns that are banned from another line.
-use Rattle.work_area.specs.Area.{banChain, banAt, banSecond, banEarlier}
+use Rattle.work_area.specs.Area.{banChain, banSecond, banEarlier}
 use Rattle.banned_turns.proofs.Chains.{WalkAt, walk-start, walk-on, walk-less, walk-end}
-use Rattle.model.proofs.Tests.{both}
-use borrow.Author.Tests.{eqb-true}
-use Rattle.banned_turns.proofs.Fitting.{fits-first, fits-second, fits-meeting}
-use lib.ListN.{length, getD}
-use mathlib.Core.Bool.{true}
-use Rattle.model.specs.Map.{greatestLineCount, greatestBanCount, Line, Turn, Map, fitting, allFitting}
-use Rattle.search.specs.Area.{far, keyWeight, latest, lengthTo, lineOf}
-use Prim.Native.Nat.{ℕ, zero, suc, _-_, _/_, _≤_, _<_}
+use lib.ListN.{getD}
+use Rattle.model.specs.Map.{greatestLineCount, greatestBanCount, Map}
+use Rattle.search.specs.Area.{Mirrored, far, keyWeight, latest, lengthTo, lineOf}
+use Prim.Native.Nat.{ℕ, _-_, _/_, _≤_, _<_}
 use mathlib.Core.Path.{_≡_, refl, sym, _∙_, ap, subst}
-use mathlib.Core.List.{List, [], _∷_}
+use mathlib.Core.List.{List}
 use mathlib.Core.Logic.{⊎-elim, _≢_}
 use native.Mathlib.Omega.{arith}
 use Rattle.model.specs.Lines.{lineAt, Follows}
-use Rattle.search.specs.Steps.{Counted, Task, Underway, Goes, GoesOn, Relaxed, Went, WentAlong, WentAlongBans, Starts, WalkLine, WalkNext, Sets, Walked}
+use Rattle.search.specs.Steps.{Counted, Task, Underway, Goes, GoesOn, Relaxed, Went, WentAlong, WentAlongBans, Starts, WalkLine, WalkNext, Sets, Told, Walked}
 use Rattle.search.specs.declared.relax.Going.{Going}
 use Rattle.buffers.proofs.Kept.{kept-none, kept-then}
 use Rattle.buffers.proofs.Cases.{le-or-lt}
@@ -25,19 +21,20 @@ use Rattle.search.proofs.Growing.{grew-none, grew-then, counted-grew}
 use Rattle.search.proofs.Arriving.{equal-or}
 use Rattle.search.proofs.Going.{notable-grew}
 use Rattle.search.proofs.AtPlace.{waiting}
+use Rattle.search.proofs.Turns.{ban-in, second-in, second-starts}
 
 -- The line goes on to one line after another.
 module _ {q : Task} {n c limit place : ℕ} {going : Going} where
   pub went-none : {count end : ℕ} {w : List ℕ} → Underway q n c limit place count end w → place < end → Went q n c limit place going w w count end
-  went-none g inside = record { underway = g; grew = grew-none; kept = kept-none; inside = inside; head = refl }
+  went-none g inside = record { underway = g; grew = grew-none; kept = kept-none; inside = inside; head = refl; marks = λ k k<. refl }
 
   pub went-then : {count end count′ end′ : ℕ} {u w v : List ℕ} → Went q n c limit place going u w count end → Went q n c limit place going w v count′ end′ →
       Went q n c limit place going u v count′ end′
   went-then k p =
-      record { underway = p .underway; grew = grew-then (k .grew) (p .grew); kept = kept-then (k .kept) (p .kept); inside = p .inside; head = p .head ∙ k .head }
+      record { underway = p .underway; grew = grew-then (k .grew) (p .grew); kept = kept-then (k .kept) (p .kept); inside = p .inside; head = p .head ∙ k .head; marks = λ l l<. p .marks l l< ∙ k .marks l l< }
 
   pub went-to : {j count end : ℕ} {w v : List ℕ} → Relaxed q n c limit place going j w v count end → Went q n c limit place going w v count end
-  went-to p = record { underway = p .underway; grew = p .grew; kept = p .kept; inside = p .inside; head = p .head }
+  went-to p = record { underway = p .underway; grew = p .grew; kept = p .kept; inside = p .inside; head = p .head; marks = p .marks }
 
   module _ {count end count′ end′ : ℕ} {w v : List ℕ} (g : Underway q n c limit place count end w) (goes : Goes (q .map) n place end w going)
       (p : Went q n c limit place going w v count′ end′) where
@@ -52,6 +49,7 @@ module _ {q : Task} {n c limit place : ℕ} {going : Going} where
           found = ap (λ (x : ℕ). x / keyWeight) (p .head) ∙ goes .found;
           chain = goes .chain;
           notable = notable-grew (p .grew) (head-line .0) (head-line .1) (goes .notable);
+          told = λ some j j< banned. p .marks j j< ∙ goes .told some j j< banned;
         }
 
     -- What is taken into account stays so.
@@ -68,8 +66,8 @@ module _ {q : Task} {n c limit place : ℕ} {going : Going} where
         (equal-or j i)
 
 -- Where it has something to do.
-pub goes-of : {m : Map} {n place end : ℕ} {w : List ℕ} {going : Going} → place < end → 0 < going .note → GoesOn m n place w going → Goes m n place end w going
-goes-of inside p o = record { inside = inside; at = o .at; found = o .found; chain = o .chain; notable = o .notable p }
+pub goes-of : {m : Map} {n place end : ℕ} {w : List ℕ} {going : Going} → place < end → 0 < going .note → Told m n w going → GoesOn m n place w going → Goes m n place end w going
+goes-of inside p told o = record { inside = inside; at = o .at; found = o .found; chain = o .chain; notable = o .notable p; told = told }
 
 -- The walk along the adjacency list of the node where the line ends: it is taken into account at those from `at` on.
 pub record Along (q : Task) (n c limit place : ℕ) (going : Going) (u w : List ℕ) (at count end : ℕ) : Type 0 where
@@ -81,12 +79,12 @@ pub record Along (q : Task) (n c limit place : ℕ) (going : Going) (u w : List 
   pub joined : 0 < at → lineAt (q .map) (at - 1) .start ≡ lineAt (q .map) (going .line) .end
 
 module _ {q : Task} {n c limit place : ℕ} {going : Going} {u : List ℕ} where
-  along-start : {at count end : ℕ} → Underway q n c limit place count end u → place < end → GoesOn (q .map) n place u going →
+  along-start : {at count end : ℕ} → Underway q n c limit place count end u → place < end → (0 < going .note → Told (q .map) n u going) → GoesOn (q .map) n place u going →
       (0 < going .note → at ≡ latest (q .map) (lineAt (q .map) (going .line) .end) n) → (going .note ≡ 0 → at ≡ 0) → Along q n c limit place going u u at count end
-  along-start {at} g inside o start still =
+  along-start {at} g inside told o start still =
       record {
         went = went-none g inside;
-        goes = λ p. goes-of inside p o;
+        goes = λ p. goes-of inside p (told p) o;
         counted = λ p j at≤ f.
             let to = known f in
             let h = g .held in
@@ -137,19 +135,6 @@ pub record AlongBans (q : Task) (n c limit place : ℕ) (going : Going) (other :
   pub walk : WalkAt (q .map .bans) other greatestLineCount x
   pub counted : (j : ℕ) → (WalkAt (q .map .bans) other j x → ⊥) → Follows (q .map) (going .line) j → Counted (q .map) c limit (going .note) (going .line) j w
 
-fits-at : (lines : List Line) (bans : List Turn) (i : ℕ) → i < length bans → allFitting lines bans ≡ true → fitting lines (banAt bans i) ≡ true
-unfolding allFitting
-fits-at lines [] i i< e = absurd (omega arith)
-fits-at lines (t ∷ ts) zero i< e = both (fitting lines t) _ e .0
-fits-at lines (t ∷ ts) (suc i) i< e = fits-at lines ts i (omega arith) (both (fitting lines t) _ e .1)
-
-meets-second : (m : Map) (i : ℕ) → i < length (m .bans) → allFitting (m .lines) (m .bans) ≡ true →
-    lineAt m (banAt (m .bans) i .second) .start ≡ lineAt m (banAt (m .bans) i .first) .end
-unfolding lineAt
-meets-second m i i< e =
-    let f = fits-at (m .lines) (m .bans) i i< e in
-    sym (eqb-true _ _ (sym (fits-meeting (m .lines) (banAt (m .bans) i) (fits-first (m .lines) _ f) (fits-second (m .lines) _ f)) ∙ f))
-
 module _ {q : Task} {n c limit place other : ℕ} {going : Going} {u : List ℕ} where
   bans-start : {x count end : ℕ} → Underway q n c limit place count end u → Goes (q .map) n place end u going → x ≡ banChain (q .map .bans) other →
       AlongBans q n c limit place going other u u x count end
@@ -162,29 +147,12 @@ module _ {q : Task} {n c limit place other : ℕ} {going : Going} {u : List ℕ}
       }
 
   module _ {w : List ℕ} {x count end : ℕ} (k : AlongBans q n c limit place going other u w x count end) (pos : 0 < x) where
-    ban-in : x ≤ greatestBanCount
-    ban-in = omega (arith, k .walk .within, k .went .underway .held .bans-held .few)
-
-    second : getD w (banSecond (x - 1)) 0 < n
-    second =
-        let h = k .went .underway .held in
-        let b = k .walk .within in
-        omega (arith, h .bans-held .seconds (x - 1) (omega arith), fits-second (q .map .lines) _ (fits-at (q .map .lines) (q .map .bans) (x - 1) (omega arith) (h .formed .bans-fit)), h .line-count)
-
-    second-in : {j : ℕ} → j ≡ getD w (banSecond (x - 1)) 0 → j < n
-    second-in e = omega (arith, second)
-
-    second-starts : {j : ℕ} → j ≡ getD w (banSecond (x - 1)) 0 → lineAt (q .map) j .start ≡ lineAt (q .map) other .end
-    second-starts {j} e =
-        let h = k .went .underway .held in
-        let b = k .walk .within in
-        let at : j ≡ banAt (q .map .bans) (x - 1) .second = e ∙ h .bans-held .seconds (x - 1) (omega arith) in
-        rw at
-        (meets-second (q .map) (x - 1) (omega arith) (h .formed .bans-fit) ∙ ap (λ (l : ℕ). lineAt (q .map) l .end) (k .walk .from (x - 1) (omega arith)))
+    held : Mirrored w n (q .map)
+    held = k .went .underway .held
 
     earlier-kept : {v : List ℕ} {j count′ end′ : ℕ} → Relaxed q n c limit place going j w v count′ end′ → getD v (banEarlier (x - 1)) 0 < x
     earlier-kept p =
-        let b = ban-in in
+        let b = ban-in held (k .walk) pos in
         omega (arith, p .kept .above (banEarlier (x - 1)) (omega arith), walk-less (k .went .underway .held .bans-held) other greatestLineCount x pos (k .walk))
 
     bans-step : {v : List ℕ} {j next count′ end′ : ℕ} → j ≡ getD w (banSecond (x - 1)) 0 → next ≡ getD v (banEarlier (x - 1)) 0 →
@@ -192,13 +160,13 @@ module _ {q : Task} {n c limit place other : ℕ} {going : Going} {u : List ℕ}
     bans-step {v} {j} {next} here e p =
         let h = k .went .underway .held in
         let bans = h .bans-held in
-        let b = ban-in in
+        let b = ban-in held (k .walk) pos in
         let same : getD v (banEarlier (x - 1)) 0 ≡ getD w (banEarlier (x - 1)) 0 = p .kept .above (banEarlier (x - 1)) (omega arith) in
         let z : next ≡ getD w (banEarlier (x - 1)) 0 = e ∙ same in
         record {
           went = went-then (k .went) (went-to p);
           goes = goes-then (k .went .underway) (k .goes) (went-to p);
-          walk = rw z (walk-on bans other greatestLineCount x pos (k .walk) (λ y. omega (arith, second, few h)));
+          walk = rw z (walk-on bans other greatestLineCount x pos (k .walk) (λ y. omega (arith, second-in held (k .walk) pos, few h)));
           counted = λ i d f.
               counted-more (k .went .underway) (k .goes) (went-to p) (p .here)
               (λ o. k .counted i (λ y. d (rw z (walk-on bans other i x pos y (λ t. o (sym t ∙ sym here))))) f) f;
@@ -215,12 +183,13 @@ module _ {q : Task} {n c limit place other : ℕ} {going : Going} {u : List ℕ}
       }
 
 -- What a walk of each kind needs.
-pub sets-node : {m : Map} {n place end : ℕ} {going : Going} {w : List ℕ} → place < end → GoesOn m n place w going → Sets m n place end going 0 w
-sets-node inside o = record { inside = inside; on = λ e. o; goes = λ p. absurd (omega arith); ends = λ p. absurd (omega arith) }
+pub sets-node : {m : Map} {n place end : ℕ} {going : Going} {w : List ℕ} → place < end → (0 < going .note → Told m n w going) → GoesOn m n place w going →
+    Sets m n place end going 0 w
+sets-node inside told o = record { inside = inside; on = λ e. o; goes = λ p. absurd (omega arith); told = told; ends = λ p. absurd (omega arith) }
 
 pub sets-bans : {m : Map} {n place end other : ℕ} {going : Going} {w : List ℕ} → 0 < other → Goes m n place end w going →
     lineAt m (other - 1) .end ≡ lineAt m (going .line) .end → Sets m n place end going other w
-sets-bans pos o ends = record { inside = o .inside; on = λ e. absurd (omega arith); goes = λ p. o; ends = λ p. ends }
+sets-bans pos o ends = record { inside = o .inside; on = λ e. absurd (omega arith); goes = λ p. o; told = λ p. o .told; ends = λ p. ends }
 
 -- The line that goes on is one.
 pub sets-line : {q : Task} {n c limit place count end other : ℕ} {w : List ℕ} {going : Going} → Underway q n c limit place count end w →
@@ -241,7 +210,7 @@ module _ {q : Task} {n c limit place other : ℕ} {going : Going} {u : List ℕ}
       Starts (q .map) n (going .line) (going .note) other at → Walking q n c limit place going other u u at count end
   walking-start g s a =
       record {
-        node = λ e. along-start g (s .inside) (s .on e) (a .goes e) (a .still e);
+        node = λ e. along-start g (s .inside) (s .told) (s .on e) (a .goes e) (a .still e);
         bans = λ p. bans-start g (s .goes p) (a .bans p);
       }
 
@@ -262,18 +231,18 @@ module _ {q : Task} {n c limit place other : ℕ} {going : Going} {u : List ℕ}
 
     module _ (pos : 0 < at) where
       pub walking-few : 0 < other → at ≤ greatestBanCount
-      walking-few p = ban-in (k .bans p) pos
+      walking-few p = let a = k .bans p in ban-in (a .went .underway .held) (a .walk) pos
 
       pub walking-goes : Goes (q .map) n place end w going
       walking-goes = either (λ e a. along-goes a pos) (λ p a. a .goes)
 
       module _ {j : ℕ} (here : WalkLine w other at j) where
         pub walking-line : j < n
-        walking-line = either (λ e a. let i = a .within in omega (arith, here .node e)) (λ p a. second-in a pos (here .bans p))
+        walking-line = either (λ e a. let i = a .within in omega (arith, here .node e)) (λ p a. rw (here .bans p) (second-in (a .went .underway .held) (a .walk) pos))
 
         pub walking-meets : (0 < other → lineAt (q .map) (other - 1) .end ≡ lineAt (q .map) (going .line) .end) →
             lineAt (q .map) j .start ≡ lineAt (q .map) (going .line) .end
-        walking-meets ends = either (λ e a. rw (here .node e) (a .joined pos)) (λ p a. second-starts a pos (here .bans p) ∙ ends p)
+        walking-meets ends = either (λ e a. rw (here .node e) (a .joined pos)) (λ p a. rw (here .bans p) (second-starts (a .went .underway .held) (a .walk) pos) ∙ ends p)
 
         module _ {v : List ℕ} {next count′ end′ : ℕ} (p : Relaxed q n c limit place going j w v count′ end′) (then : WalkNext (q .map) v other at next) where
           pub walking-less : next < at

@@ -9,12 +9,12 @@ use Rattle.model.specs.Map.{Map}
 use Rattle.model.specs.Reading.{greatestLegLength}
 use Prim.Native.Nat.{ℕ, zero, suc, _+_, _-_, _*_, _/_, _%_, _≤_, _<_}
 use mathlib.Core.Path.{_≡_}
-use mathlib.Core.Bool.{cond}
+use mathlib.Core.Bool.{cond, true}
 use mathlib.Core.List.{List, [], _∷_}
 use mathlib.Core.Logic.{_⊎_}
 use lib.ListN.{length, getD}
 use lib.Dec.{eqb}
-use Rattle.model.specs.Lines.{lineAt, Follows}
+use Rattle.model.specs.Lines.{lineAt, turnAmong, Follows}
 use Rattle.search.specs.Ways.{line, Distance}
 
 -- Searches go along the mirrored map. The work area holds the map whose mirror is `m`: each line's numbers are those of the mirrored line.
@@ -52,7 +52,18 @@ nextLeaving w l = getD w (nextFrom + l) 0 % listWeight
 
 -- In the cells of the next lines stands the list of the lines that a search has reached, times `listWeight`: 1 + the line at place `i`, or 0.
 abbrev pub listed : List ℕ → ℕ → ℕ
-listed w i = getD w (nextFrom + i) 0 / listWeight
+listed w i = getD w (nextFrom + i) 0 / listWeight % listWeight
+
+-- And above that, for line `j`, a line that marks it: the turn from that one into line `j` is banned. No line follows itself, so a line that marks itself
+-- says nothing.
+abbrev pub markWeight : ℕ
+markWeight = 4_194_304
+
+abbrev pub marked : List ℕ → ℕ → ℕ
+marked w j = getD w (nextFrom + j) 0 / markWeight
+
+abbrev pub Marked : Map → ℕ → List ℕ → Type 0
+Marked m lines w = (j : ℕ) → j < lines → (marked w j ≡ j) ⊎ (turnAmong (m .bans) (marked w j) j ≡ true)
 
 -- In the cells of the first lines stands, in the same way, the nearest of the free lines that end at the node, while a search is under way.
 abbrev pub nearestFree : List ℕ → ℕ → ℕ
@@ -111,12 +122,13 @@ pub record Among (w : List ℕ) (lines i l : ℕ) : Type 0 where
 
 -- The adjacency lists: of each node its last line, and from each line to the one below it from the same node.
 -- Beside them stands the list of the lines that the last search reached, so that the next can begin without a look at every line. Only where one of
--- these ends has a node a nearest free line.
+-- these ends has a node a nearest free line. What is marked is so whatever the search.
 pub record Chained (w : List ℕ) (lines : ℕ) (m : Map) : Type 0 where
   pub heads : (v : ℕ) → v < length (m .nodes) → firstLeaving w v ≡ latest m v lines
   pub nexts : (l : ℕ) → l < lines → nextLeaving w l ≡ latest m (lineAt m l .start) l
   pub listing : (count : ℕ) × Listing w lines count
   pub bare : (v : ℕ) → v < length (m .nodes) → 0 < nearestFree w v → (l : ℕ) × (l < lines) × (lengthTo w l < far) × (lineAt m l .end ≡ v)
+  pub marks : Marked m lines w
 
 -- Line `l` stands before line `j` on a way that is as long as the length found to `j`.
 pub record Tie (m : Map) (w : List ℕ) (l j : ℕ) : Type 0 where

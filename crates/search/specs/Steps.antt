@@ -2,7 +2,7 @@
 use Rattle.work_area.specs.Area.{searchFrom, searchTo, lengthsFrom, queueFrom, headsFrom, nextFrom, lastBarredFrom, banChain, banSecond, banEarlier}
 use Rattle.model.specs.Map.{greatestLineCount, greatestNodeCount, Map}
 use Rattle.model.specs.Reading.{greatestLegLength}
-use Rattle.search.specs.Area.{Mirrored, far, several, keyWeight, Chained, Listing, latest, lengthTo, predecessor, firstLeaving, nextLeaving, listed, nearestFree, queued, named, Tie, Nearest, NearerBy, lineOf, keyOf}
+use Rattle.search.specs.Area.{Mirrored, far, several, keyWeight, Chained, Listing, latest, lengthTo, predecessor, firstLeaving, nextLeaving, listed, marked, Marked, nearestFree, queued, named, Tie, Nearest, NearerBy, lineOf, keyOf}
 use Prim.Native.Nat.{ℕ, _+_, _-_, _/_, _≤_, _<_}
 use mathlib.Core.Path.{_≡_}
 use mathlib.Core.Bool.{Bool, true}
@@ -163,7 +163,7 @@ pub record Put (j note x count : ℕ) (w v : List ℕ) : Type 0 where
   pub found : lengthTo v j ≡ x
   pub before : predecessor v j ≡ note
   pub others : (k : ℕ) → k < greatestLineCount → k ≢ j → (lengthTo v k ≡ lengthTo w k) × (predecessor v k ≡ predecessor w k)
-  pub nexts : (k : ℕ) → k < greatestLineCount → nextLeaving v k ≡ nextLeaving w k
+  pub nexts : (k : ℕ) → k < greatestLineCount → (nextLeaving v k ≡ nextLeaving w k) × (marked v k ≡ marked w k)
   pub list : (i : ℕ) → i < greatestLineCount → i ≢ count → listed v i ≡ listed w i
   pub last : listed v count ≡ j + 1
   pub rest : (a : ℕ) → queueFrom ≤ a → a < nextFrom → getD v a 0 ≡ getD w a 0
@@ -227,6 +227,10 @@ pub record NoteFor (m : Map) (l chain : ℕ) (w : List ℕ) (r : ℕ) : Type 0 w
       (0 < chain) ⊎ (nearestFree w (lineAt m l .end) < several) → r ≡ l + 1
   pub many : several ≤ nearestFree w (lineAt m l .end) → lengthTo w l ≤ lengthTo w (named (nearestFree w (lineAt m l .end))) → chain ≡ 0 → r ≡ several
 
+-- The lines into which a turn from the line that goes on is banned are marked by it.
+abbrev pub Told : Map → ℕ → List ℕ → Going → Type 0
+Told m lines w g = 0 < g .chain → (j : ℕ) → j < lines → turnAmong (m .bans) (g .line) j ≡ true → marked w j ≡ g .line
+
 -- The line at place `place` of the queue goes on, with what is noted for it.
 pub record Goes (m : Map) (lines place end : ℕ) (w : List ℕ) (g : Going) : Type 0 where
   pub inside : place < end
@@ -234,6 +238,7 @@ pub record Goes (m : Map) (lines place end : ℕ) (w : List ℕ) (g : Going) : T
   pub found : queued w place / keyWeight ≡ g .length
   pub chain : g .chain ≡ banChain (m .bans) (g .line)
   pub notable : Notable m lines w (g .line) (g .note)
+  pub told : Told m lines w g
 
 -- Or it has nothing to do: a nearer free line that ends at the same node is reached.
 pub record Over (m : Map) (lines : ℕ) (w : List ℕ) (l : ℕ) : Type 0 where
@@ -259,6 +264,7 @@ pub record Relaxed (q : Task) (lines class limit place : ℕ) (g : Going) (j : �
   pub kept : Kept searchFrom lastBarredFrom w v
   pub here : Follows (q .map) (g .line) j → Counted (q .map) class limit (g .note) (g .line) j v
   pub head : queued v place ≡ queued w place
+  pub marks : (k : ℕ) → k < lines → marked v k ≡ marked w k
   pub inside : place < end
 
 -- The line goes on, from `w` to `v`: the search is under way, and the line is still at its place.
@@ -268,6 +274,7 @@ pub record Went (q : Task) (lines class limit place : ℕ) (g : Going) (w v : Li
   pub kept : Kept searchFrom lastBarredFrom w v
   pub inside : place < end
   pub head : queued v place ≡ queued w place
+  pub marks : (k : ℕ) → k < lines → marked v k ≡ marked w k
 
 -- And then it is taken into account at each line that can follow it, where it has something to do.
 pub record WentAlong (q : Task) (lines class limit place : ℕ) (g : Going) (w v : List ℕ) (count end : ℕ) : Type 0 where
@@ -295,12 +302,24 @@ pub record PairBefore (m : Map) (lines l key : ℕ) (w : List ℕ) (p : Pair) : 
   pub other : 0 < p .one → GoneBefore m lines l key w (p .other)
   pub differ : 0 < p .one → p .one ≢ p .other
 
--- The same for a line that goes on, and then only the cells of the last lines with banned turns are changed.
+-- Only marks and the cells of the last lines with banned turns are changed, and what is marked is so.
+pub record Aside (m : Map) (lines : ℕ) (w v : List ℕ) : Type 0 where
+  pub nexts : (k : ℕ) → k < lines → (nextLeaving v k ≡ nextLeaving w k) × (listed v k ≡ listed w k)
+  pub marks : Marked m lines w → Marked m lines v
+  pub kept : Kept nextFrom searchTo w v
+
+-- Line `l` marks the lines into which a turn from it is banned.
+pub record Marks (m : Map) (lines l : ℕ) (w v : List ℕ) : Type 0 where
+  pub aside : Aside m lines w v
+  pub told : (j : ℕ) → j < lines → turnAmong (m .bans) l j ≡ true → marked v j ≡ l
+
+-- Such a pair for a line that goes on, which then marks its lines.
 pub record PairFor (m : Map) (lines place : ℕ) (g : Going) (w v : List ℕ) (p : Pair) : Type 0 where
   pub pair : PairBefore m lines (g .line) (queued w place) w p
   pub barred : 0 < p .one → Free m (g .line) → ⊥
   pub some : 0 < p .one → 0 < g .note
-  pub kept : Kept lastBarredFrom searchTo w v
+  pub told : 0 < g .note → Told m lines v g
+  pub aside : Aside m lines w v
 
 -- A walk along the lines that leave a node, or, where `other` is not 0, along the turns that are banned from line `other - 1`: where it starts, what
 -- line is at `at`, and where it goes on.
@@ -322,6 +341,7 @@ pub record Sets (m : Map) (lines place end : ℕ) (g : Going) (other : ℕ) (w :
   pub inside : place < end
   pub on : other ≡ 0 → GoesOn m lines place w g
   pub goes : 0 < other → Goes m lines place end w g
+  pub told : 0 < g .note → Told m lines w g
   pub ends : 0 < other → lineAt m (other - 1) .end ≡ lineAt m (g .line) .end
 
 -- What it does.

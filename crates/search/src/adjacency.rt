@@ -1,6 +1,7 @@
 // The adjacency lists: the lines that leave each node on the mirrored map. On the map itself they arrive there.
 use crate::cells::FAR;
 use crate::cells::LIST_WEIGHT;
+use crate::cells::MARK_WEIGHT;
 use crate::cells::MIRROR_START;
 use crate::cells::NOTE_WEIGHT;
 use buffers::fill;
@@ -18,7 +19,7 @@ ghost use Rattle.model.specs.Lines.{lineAt};
 ghost use Rattle.search.specs.Area.{Mirrored, Chained, latest};
 ghost use Rattle.search.specs.Promises.{Linked};
 
-// Makes the adjacency lists, and has no line reached. Called once a map.
+// Makes the adjacency lists, and has no line reached or marked by another. Called once a map.
 pub fn link(work: &mut [u32], lines: usize)
     requires { ⌜ ((m : Map) × Mirrored (now work) lines m) ⌝ }
     ensures { λ _. ⌜ ((m : Map) → Mirrored (now (work .entry)) lines m → Linked (now (work .entry)) lines m (now (work .exit))) ⌝ }
@@ -27,7 +28,7 @@ pub fn link(work: &mut [u32], lines: usize)
     let mut i = 0;
     while i < lines {
         let v = wide(field(work, i, MIRROR_START));
-        work[NEXT + i] = work[HEADS + v];
+        work[NEXT + i] = work[HEADS + v] + MARK_WEIGHT * i as u32;
         work[HEADS + v] = (i + 1) as u32;
         work[LENGTHS + i] = FAR * NOTE_WEIGHT;
         i += 1;

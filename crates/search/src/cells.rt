@@ -24,6 +24,10 @@ pub const NOTE_WEIGHT: u32 = 2_048;
 // or 0. A cell of `HEADS` has the first line of an adjacency list and, times this, the nearest free line that ends at the node.
 pub const LIST_WEIGHT: u32 = 2_048;
 
+// A cell of `NEXT` has, times this, a line that marks the line of the cell: the turn from it is banned. No line follows itself, so one that marks itself says
+// nothing.
+pub const MARK_WEIGHT: u32 = 4_194_304;
+
 // A cell of `QUEUE` has the length to a line times this, and the line, from the last one down.
 pub const KEY_WEIGHT: u32 = 1_024;
 
@@ -38,7 +42,7 @@ pub fn line_at(work: &[u32], i: usize) -> usize
     requires { ⌜ (i < greatestLineCount) × (workLength ≤ length (now work)) ⌝ }
     ensures { λ r. ⌜ r ≡ listed (now (work .entry)) i ⌝ }
 {
-    wide(work[NEXT + i] / LIST_WEIGHT)
+    wide(work[NEXT + i] / LIST_WEIGHT % LIST_WEIGHT)
 }
 
 // The length found to line `l`.

@@ -4,6 +4,7 @@ use crate::adjacency::first_leaving;
 use crate::adjacency::next_leaving;
 use crate::cells::KEY_WEIGHT;
 use crate::cells::LIST_WEIGHT;
+use crate::cells::MARK_WEIGHT;
 use crate::cells::MIRROR_END;
 use crate::cells::SEVERAL;
 use crate::cells::key_of;
@@ -18,10 +19,11 @@ use work_area::BAN_EARLIER;
 use work_area::BAN_SECONDS;
 use work_area::HEADS;
 use work_area::LAST_BARRED;
+use work_area::NEXT;
 use work_area::QUEUE;
 use work_area::field;
 ghost use mathlib.Core.Path.{_≡_};
-ghost use Rattle.work_area.specs.Area.{lastBarredFrom, searchTo};
+ghost use Rattle.work_area.specs.Area.{lastBarredFrom, searchTo, banChain};
 ghost use Rattle.model.specs.Map.{greatestBanCount, Map};
 ghost use Rattle.model.specs.Work.{workLength};
 ghost use lib.ListN.{length};
@@ -29,7 +31,7 @@ ghost use Rattle.search.specs.Area.{Mirrored, Chained};
 ghost use Prim.Native.Nat.{ℕ, _≤_, _<_};
 ghost use Rattle.buffers.specs.Decides.{Decides};
 ghost use Rattle.buffers.specs.Kept.{Kept};
-ghost use Rattle.search.specs.Steps.{Task, Underway, NoteFor, GoesOn, GoneBefore, PairBefore, PairFor, Starts, WalkLine, WalkNext, Sets, Walked, Expanded};
+ghost use Rattle.search.specs.Steps.{Task, Underway, NoteFor, GoesOn, GoneBefore, PairBefore, Marks, PairFor, Starts, WalkLine, WalkNext, Sets, Walked, Expanded};
 
 // Two lines, 1 + each; or none, where the first is 0.
 pub struct Pair {
@@ -203,8 +205,22 @@ fn keep_last(work: &mut [u32], lines: usize, l: usize)
     work[at] = work[at] % LIST_WEIGHT * LIST_WEIGHT + (l + 1) as u32;
 }
 
+// Line `l`, whose banned turns are `chain`, marks the lines that they lead into. So a look at one line tells whether the turn into it is banned.
+fn mark_bans(work: &mut [u32], lines: usize, l: usize, chain: usize)
+    requires { ⌜ (l < lines) × ((m : Map) × Mirrored (now work) lines m × (chain ≡ banChain (m .bans) l)) ⌝ }
+    ensures { λ _. ⌜ ((m : Map) → Mirrored (now (work .entry)) lines m → chain ≡ banChain (m .bans) l
+        → Marks m lines l (now (work .entry)) (now (work .exit))) ⌝ }
+{
+    let mut x = chain;
+    while 0 < x {
+        let at = NEXT + wide(work[BAN_SECONDS + (x - 1)]);
+        work[at] = work[at] % MARK_WEIGHT + MARK_WEIGHT * l as u32;
+        x = wide(work[BAN_EARLIER + (x - 1)]);
+    }
+}
+
 // For a line with banned turns that has something to do: two such lines that have gone on before it from the same node. Only the turns that are banned
-// from one of them are left for it. For any other line none.
+// from one of them are left for it. For any other line none. Then the line marks those that it may not turn into.
 fn pair_for(work: &mut [u32], lines: usize, place: usize, going: Going) -> Pair
     requires { ⌜ ((q : Task) × (class limit count end : ℕ) × Underway q lines class limit place count end (now work) × (place < end)
         × GoesOn (q .map) lines place (now work) going) ⌝ }
@@ -219,6 +235,7 @@ fn pair_for(work: &mut [u32], lines: usize, place: usize, going: Going) -> Pair
     }
     let pair = pair_before(work, lines, going.line, work[QUEUE + place]);
     keep_last(work, lines, going.line);
+    mark_bans(work, lines, going.line, going.chain);
     pair
 }
 

@@ -1,6 +1,7 @@
 // The list of the lines that a search has reached, in the order in which it reached them, and the queue of those that it goes on from, the nearest first.
 use crate::cells::FAR;
 use crate::cells::LIST_WEIGHT;
+use crate::cells::MARK_WEIGHT;
 use crate::cells::MIRROR_END;
 use crate::cells::NOTE_WEIGHT;
 use crate::cells::line_at;
@@ -15,9 +16,9 @@ use work_area::field;
 ghost use Rattle.model.specs.Map.{greatestLineCount, Map};
 ghost use Rattle.model.specs.Reading.{greatestLegLength};
 ghost use Rattle.model.specs.Work.{workLength};
-ghost use Rattle.search.specs.Area.{Mirrored, several, Chained, lengthTo, queued};
+ghost use Rattle.search.specs.Area.{Mirrored, several, listWeight, markWeight, Chained, lengthTo, queued};
 ghost use mathlib.Core.Path.{_≡_};
-ghost use Prim.Native.Nat.{ℕ, _≤_, _<_};
+ghost use Prim.Native.Nat.{ℕ, _+_, _*_, _/_, _%_, _≤_, _<_};
 ghost use lib.ListN.{length};
 ghost use Rattle.search.specs.Steps.{Reset, Put, Sent, Inserted};
 
@@ -25,6 +26,13 @@ ghost use Rattle.search.specs.Steps.{Reset, Put, Sent, Inserted};
 pub struct ReachedLines {
     pub count: usize,
     pub end: usize,
+}
+
+// A cell of `NEXT` with no line on the list at its place.
+fn unlisted(cell: u32) -> u32
+    ensures { λ r. ⌜ r ≡ cell / markWeight * markWeight + cell % listWeight ⌝ }
+{
+    cell / MARK_WEIGHT * MARK_WEIGHT + cell % LIST_WEIGHT
 }
 
 // Resets what the last search found: no line is reached, the list is empty, and no node has a nearest free line.
@@ -42,7 +50,7 @@ pub fn reset(work: &mut [u32], lines: usize)
         let v = wide(field(work, x - 1, MIRROR_END));
         work[HEADS + v] = work[HEADS + v] % LIST_WEIGHT;
         work[LENGTHS + (x - 1)] = FAR * NOTE_WEIGHT;
-        work[NEXT + i] = work[NEXT + i] % LIST_WEIGHT;
+        work[NEXT + i] = unlisted(work[NEXT + i]);
         i += 1;
     }
 }
@@ -53,7 +61,7 @@ pub fn put(work: &mut [u32], j: usize, note: u32, to: u32, count: usize)
     ensures { λ _. ⌜ Put j note to count (now (work .entry)) (now (work .exit)) ⌝ }
 {
     work[LENGTHS + j] = to * NOTE_WEIGHT + note;
-    work[NEXT + count] = work[NEXT + count] % LIST_WEIGHT + LIST_WEIGHT * (j + 1) as u32;
+    work[NEXT + count] = unlisted(work[NEXT + count]) + LIST_WEIGHT * (j + 1) as u32;
 }
 
 // Whether the search is to go on from line `j`, which is just reached, with the length `to`. From a line with banned turns always. Of the free lines that end at a node only

@@ -1,5 +1,6 @@
 // How a search takes a line into account at one line that can follow it: that is reached, or a tie is recorded there.
 use crate::cells::FAR;
+use crate::cells::MARK_WEIGHT;
 use crate::cells::NOTE_WEIGHT;
 use crate::cells::SEVERAL;
 use crate::cells::key_of;
@@ -8,18 +9,19 @@ use crate::list::ReachedLines;
 use crate::list::insert;
 use crate::list::put;
 use crate::list::sends;
-use banned_turns::in_chain;
 use buffers::wide;
 use work_area::FRC;
 use work_area::LENGTH;
 use work_area::LENGTHS;
+use work_area::NEXT;
 use work_area::field;
 ghost use mathlib.Core.Path.{_≡_};
 ghost use Rattle.model.specs.Lines.{lineAt};
 ghost use Rattle.model.specs.Map.{greatestLineCount, Map};
 ghost use Rattle.model.specs.Reading.{greatestLegLength};
 ghost use Rattle.model.specs.Work.{workLength};
-ghost use Rattle.search.specs.Area.{Mirrored, several, keyOf, queued};
+ghost use Rattle.search.specs.Area.{Mirrored, several, keyOf, queued, marked};
+ghost use Rattle.buffers.specs.Decides.{Decides};
 ghost use Prim.Native.Nat.{ℕ, _≤_, _<_};
 ghost use lib.ListN.{length};
 ghost use Rattle.search.specs.Steps.{Task, Underway, Noted, TieNoted, Goes, Arrived, Relaxed};
@@ -86,6 +88,20 @@ fn reach(
     }
 }
 
+// Whether line `j` is marked by the line that goes on, if that has banned turns.
+fn is_barred(work: &[u32], going: Going, j: usize) -> bool
+    requires { ⌜ (j < greatestLineCount) × (going .line < greatestLineCount) × (workLength ≤ length (now work)) ⌝ }
+    ensures { λ r. ⌜ Decides ((0 < going .chain) × (marked (now (work .entry)) j ≡ going .line)) r ⌝ }
+{
+    if going.chain == 0 {
+        return false;
+    }
+    if work[NEXT + j] / MARK_WEIGHT != going.line as u32 {
+        return false;
+    }
+    true
+}
+
 // Takes a line that the search goes on from into account at line `j`, which starts where it ends: the list and the queue now.
 pub fn relax(
     work: &mut [u32],
@@ -108,7 +124,7 @@ pub fn relax(
     if wide(found) < length {
         return list;
     }
-    if in_chain(work, lines, going.chain, j) {
+    if is_barred(work, going, j) {
         return list;
     }
     // A length that is found is not more than this one: so they are equal.

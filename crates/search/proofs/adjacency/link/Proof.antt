@@ -1,9 +1,9 @@
 -- `link` meets its contract: after `i` turns the adjacency lists of the lines below `i` are made.
-use Rattle.work_area.specs.Area.{linePlace, endNode}
+use Rattle.work_area.specs.Area.{linePlace, endNode, headsFrom}
 use Rattle.search.specs.Area.{Mirrored}
 use Rattle.model.specs.Map.{greatestLineCount, greatestNodeCount, Map}
 use Rattle.model.specs.Work.{workLength}
-use Rattle.search.proofs.Leaving.{Linking, link-none, link-step, linked, start-small}
+use Rattle.search.proofs.Leaving.{Linking, link-none, link-step, linked, start-small, head-small}
 use Rattle.buffers.proofs.Kept.{kept-then, kept-within}
 use Rattle.search.proofs.Holding.{held-kept, few}
 use lib.ListN.{length, getD, length-set}
@@ -34,12 +34,15 @@ known c =
 
 turn : (c : tie.After-wide Inv-loop μ-loop) →
     let k = c .before .before .before .before .loop in
-    (workLength ≤ length (k .work)) × (k .i < greatestLineCount) × (c .wide .result < greatestNodeCount)
+    (workLength ≤ length (k .work)) × (k .i < greatestLineCount) × (c .wide .result < greatestNodeCount) × (getD (k .work) (headsFrom + c .wide .result) 0 ≤ k .i)
 turn c =
     let k = known (c .before .before .before) in
     let e = c .wide .ensures in
     let f = c .before .field .ensures in
-    (k .0, k .1, omega arith)
+    let p = c .before .before .before .before .before .before .before .before .before .before .pre in
+    let h = held-kept (omega arith) (c .before .before .before .before .before .before .before .fill .ensures .kept) (p .1) in
+    let l = c .before .before .before .before .loop .inv in
+    (k .0, k .1, omega arith, head-small h (c .before .before .before .loop-test .taken) (l .2 (p .0) h) (e .0 ∙ f))
 
 fill-requires : tie.Need-fill-requires Inv-loop μ-loop
 fill-requires c κs = search needs
@@ -62,38 +65,47 @@ mul-work c = let k = turn c in omega arith
 slice-read-work : tie.Need-slice-read-work Inv-loop μ-loop
 slice-read-work c = let k = turn (c .before) in omega arith
 
-add-work-2 : tie.Need-add-work-2 Inv-loop μ-loop
-add-work-2 c = let k = turn (c .before) in omega arith
+cast-work : tie.Need-cast-work Inv-loop μ-loop
+cast-work c = let k = turn (c .before) in omega arith
 
 mul-work-2 : tie.Need-mul-work-2 Inv-loop μ-loop
 mul-work-2 c = let k = turn (c .before) in omega arith
 
-slice-write-work : tie.Need-slice-write-work Inv-loop μ-loop
-slice-write-work c = let k = turn (c .before) in omega arith
+add-work-2 : tie.Need-add-work-2 Inv-loop μ-loop
+add-work-2 c = let k = turn (c .before) in omega arith
 
 add-work-3 : tie.Need-add-work-3 Inv-loop μ-loop
 add-work-3 c = let k = turn (c .before) in omega arith
 
-cast-work : tie.Need-cast-work Inv-loop μ-loop
-cast-work c = let k = turn (c .before) in omega arith
+mul-work-3 : tie.Need-mul-work-3 Inv-loop μ-loop
+mul-work-3 c = let k = turn (c .before) in omega arith
+
+slice-write-work : tie.Need-slice-write-work Inv-loop μ-loop
+slice-write-work c = let k = turn (c .before) in omega arith
 
 add-work-4 : tie.Need-add-work-4 Inv-loop μ-loop
 add-work-4 c = let k = turn (c .before) in omega arith
 
-mul-work-3 : tie.Need-mul-work-3 Inv-loop μ-loop
-mul-work-3 c = let k = turn (c .before) in omega arith
-
-slice-write-work-2 : tie.Need-slice-write-work-2 Inv-loop μ-loop
-slice-write-work-2 c = let k = turn (c .before) in simp length-set (omega arith)
-
-mul-work-4 : tie.Need-mul-work-4 Inv-loop μ-loop
-mul-work-4 c = search needs
+cast-work-2 : tie.Need-cast-work-2 Inv-loop μ-loop
+cast-work-2 c = let k = turn (c .before) in omega arith
 
 add-work-5 : tie.Need-add-work-5 Inv-loop μ-loop
 add-work-5 c = let k = turn (c .before) in omega arith
 
+mul-work-4 : tie.Need-mul-work-4 Inv-loop μ-loop
+mul-work-4 c = let k = turn (c .before) in omega arith
+
+slice-write-work-2 : tie.Need-slice-write-work-2 Inv-loop μ-loop
+slice-write-work-2 c = let k = turn (c .before) in simp length-set (omega arith)
+
 mul-work-5 : tie.Need-mul-work-5 Inv-loop μ-loop
 mul-work-5 c = let k = turn (c .before) in omega arith
+
+add-work-6 : tie.Need-add-work-6 Inv-loop μ-loop
+add-work-6 c = let k = turn (c .before) in omega arith
+
+mul-work-6 : tie.Need-mul-work-6 Inv-loop μ-loop
+mul-work-6 c = let k = turn (c .before) in omega arith
 
 slice-write-work-3 : tie.Need-slice-write-work-3 Inv-loop μ-loop
 slice-write-work-3 c = let k = turn (c .before) in simp length-set (omega arith)
@@ -135,17 +147,20 @@ link-spec =
     add-work
     mul-work
     slice-read-work
-    add-work-2
-    mul-work-2
-    slice-write-work
-    add-work-3
     cast-work
-    add-work-4
+    mul-work-2
+    add-work-2
+    add-work-3
     mul-work-3
-    slice-write-work-2
-    mul-work-4
+    slice-write-work
+    add-work-4
+    cast-work-2
     add-work-5
+    mul-work-4
+    slice-write-work-2
     mul-work-5
+    add-work-6
+    mul-work-6
     slice-write-work-3
     add-i
     loop-less

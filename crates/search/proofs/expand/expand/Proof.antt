@@ -91,7 +91,7 @@ returns c =
     let o = c .before .before .before .before .before .before .before .going-at .ensures q _ _ _ _ g inside in
     let p = c .before .before .before .before .before .pair-for .ensures q _ _ _ _ g inside o in
     let r = ready g inside o p in
-    expanded-kept g (p .kept) (walks-end r (c .before .loop .inv .2 q r) (c .before .before .walks .ensures) (c .before .loop .inv .0) (c .loop-test .left))
+    expanded-kept g (p .aside) (walks-end r (c .before .loop .inv .2 q r) (c .before .before .walks .ensures) (c .before .loop .inv .0) (c .loop-test .left))
 
 pub expand-spec : {M : Type 1} → statement M
 expand-spec =

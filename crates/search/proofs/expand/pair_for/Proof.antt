@@ -1,7 +1,7 @@
 -- `pair_for` meets its contract: none for a line that is free or has nothing to do.
 use mathlib.Core.Path.{_∙_}
-use Rattle.buffers.proofs.Kept.{kept-none}
-use Rattle.search.proofs.Holding.{few}
+use Rattle.search.proofs.Holding.{held-kept, few}
+use Rattle.search.proofs.Marking.{aside-none, aside-then, aside-last}
 use Rattle.search.proofs.Reached.{count-le}
 use Rattle.search.proofs.AtPlace.{waiting}
 use native.Mathlib.Omega.{arith}
@@ -11,6 +11,7 @@ use Rattle.search.proofs.expand.pair_for.Tie as tie
 use Rattle.search.proofs.expand.pair_for.Reads as reads
 use Rattle.search.proofs.expand.pair_for.Lts as lts
 use Rattle.search.proofs.expand.keep_last.Reads as keep-last-reads
+use Rattle.search.proofs.expand.mark_bans.Reads as mark-bans-reads
 use Rattle.search.proofs.expand.pair_before.Reads as pair-before-reads
 
 returns : tie.Need-returns
@@ -19,7 +20,8 @@ returns c =
       pair = record { one = λ z. absurd (omega arith); other = λ z. absurd (omega arith); differ = λ z. absurd (omega arith) };
       barred = λ z. absurd (omega arith);
       some = λ z. absurd (omega arith);
-      kept = kept-none;
+      told = λ z y. absurd (omega (arith, c .if1 .taken));
+      aside = aside-none;
     }
 
 returns-2 : tie.Need-returns-2
@@ -28,7 +30,8 @@ returns-2 c =
       pair = record { one = λ z. absurd (omega arith); other = λ z. absurd (omega arith); differ = λ z. absurd (omega arith) };
       barred = λ z. absurd (omega arith);
       some = λ z. absurd (omega arith);
-      kept = kept-none;
+      told = λ z. absurd (omega (arith, c .if2 .taken));
+      aside = aside-none;
     }
 
 add-pair-before : tie.Need-add-pair-before
@@ -62,19 +65,29 @@ keep-last-requires c κs =
     let p = c .before .before .before .before .before .before .before .before .pre in
     (waiting (p .5) (_, omega arith, p .6, p .7 .at) .0, (_, p .5 .held))
 
+mark-bans-requires : tie.Need-mark-bans-requires
+mark-bans-requires c κs =
+    let p = c .before .before .before .before .before .before .before .before .before .before .before .before .pre in
+    let kept = c .before .before .before .keep-last .ensures in
+    (waiting (p .5) (_, omega arith, p .6, p .7 .at) .0, (_, held-kept (omega arith) kept (p .5 .held), p .7 .chain))
+
 same-length : tie.Need-same-length
 same-length c = search needs
 
 returns-3 : tie.Need-returns-3
 returns-3 c =
     λ q class limit count end g inside o.
-    let y = c .before .before .before .before .before .before .before .before .if1 .left in
-    let z = c .before .before .before .before .before .before .if2 .left in
+    let back = c .before .before .before .before .before .before in
+    let y = back .before .before .before .before .before .before .if1 .left in
+    let z = back .before .before .before .before .if2 .left in
+    let kept = back .keep-last .ensures in
+    let marks = c .before .before .mark-bans .ensures _ (held-kept (omega arith) kept (g .held)) (o .chain) in
     record {
-      pair = c .before .before .before .before .pair-before .ensures _ (g .held);
+      pair = back .before .before .pair-before .ensures _ (g .held);
       barred = λ p free. y (o .chain ∙ free);
       some = λ p. omega (arith, z);
-      kept = c .before .before .keep-last .ensures;
+      told = λ p some. marks .told;
+      aside = aside-then (aside-last (few (g .held)) kept) (marks .aside);
     }
 
 pub pair-for-spec : {M : Type 1} → statement M
@@ -88,5 +101,6 @@ pair-for-spec =
     slice-reshared-read-pair-before
     pair-before-requires
     keep-last-requires
+    mark-bans-requires
     same-length
     returns-3)

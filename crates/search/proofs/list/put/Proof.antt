@@ -1,11 +1,16 @@
 -- `put` meets its contract: two stores.
+use Rattle.search.specs.Area.{listWeight}
 use Rattle.search.proofs.Putting.{put-stores}
 use lib.ListN.{length-set}
-use mathlib.Core.Path.{refl}
+use Prim.Native.Nat.{ℕ, _+_, _*_}
+use mathlib.Core.Path.{ap}
 use native.Mathlib.Omega.{arith}
 use borrow.Author.Needs.{needs}
 use Rattle.search.proofs.list.put.Statement.{statement}
 use Rattle.search.proofs.list.put.Tie as tie
+use Rattle.search.proofs.list.put.Reads as reads
+use Rattle.search.proofs.list.put.Lts as lts
+use Rattle.search.proofs.list.unlisted.Reads as unlisted-reads
 
 mul-work : tie.Need-mul-work
 mul-work c = search needs
@@ -22,32 +27,35 @@ mul-work-2 c = search needs
 slice-write-work : tie.Need-slice-write-work
 slice-write-work c = search needs
 
+add-unlisted : tie.Need-add-unlisted
+add-unlisted c = search needs
+
+mul-unlisted : tie.Need-mul-unlisted
+mul-unlisted c = search needs
+
+slice-read-unlisted : tie.Need-slice-read-unlisted
+slice-read-unlisted c = simp length-set (omega arith)
+
+unlisted-requires : tie.Need-unlisted-requires
+unlisted-requires c κs = search needs
+
 add-work-3 : tie.Need-add-work-3
 add-work-3 c = search needs
-
-mul-work-3 : tie.Need-mul-work-3
-mul-work-3 c = search needs
-
-slice-read-work : tie.Need-slice-read-work
-slice-read-work c = simp length-set (omega arith)
-
-add-work-4 : tie.Need-add-work-4
-add-work-4 c = search needs
 
 cast-work : tie.Need-cast-work
 cast-work c = search needs
 
-mul-work-4 : tie.Need-mul-work-4
-mul-work-4 c = search needs
+mul-work-3 : tie.Need-mul-work-3
+mul-work-3 c = search needs
+
+add-work-4 : tie.Need-add-work-4
+add-work-4 c = search needs
 
 add-work-5 : tie.Need-add-work-5
 add-work-5 c = search needs
 
-add-work-6 : tie.Need-add-work-6
-add-work-6 c = search needs
-
-mul-work-5 : tie.Need-mul-work-5
-mul-work-5 c = search needs
+mul-work-4 : tie.Need-mul-work-4
+mul-work-4 c = search needs
 
 slice-write-work-2 : tie.Need-slice-write-work-2
 slice-write-work-2 c = simp length-set (omega arith)
@@ -56,7 +64,10 @@ same-length : tie.Need-same-length
 same-length c = search needs
 
 returns : tie.Need-returns
-returns c = let p = c .before .pre in put-stores _ _ _ _ _ (p .0) (p .1) (p .3) (p .4) _ refl
+returns c =
+    let start = c .before .before .before in
+    let p = start .pre in
+    put-stores _ _ _ _ _ (p .0) (p .1) (p .3) (p .4) _ (ap (λ (x : ℕ). x + listWeight * (start .args .j + 1)) (c .unlisted .ensures))
 
 pub put-spec : {M : Type 1} → statement M
 put-spec =
@@ -67,15 +78,16 @@ put-spec =
     add-work-2
     mul-work-2
     slice-write-work
+    add-unlisted
+    mul-unlisted
+    slice-read-unlisted
+    unlisted-requires
     add-work-3
-    mul-work-3
-    slice-read-work
-    add-work-4
     cast-work
-    mul-work-4
+    mul-work-3
+    add-work-4
     add-work-5
-    add-work-6
-    mul-work-5
+    mul-work-4
     slice-write-work-2
     same-length
     returns)

@@ -116,23 +116,26 @@ mul-work-4 c = let k = turn (c .before) in omega arith
 slice-write-work-2 : tie.Need-slice-write-work-2 Inv-loop μ-loop
 slice-write-work-2 c = let k = turn (c .before) in simp length-set (omega arith)
 
+add-unlisted : tie.Need-add-unlisted Inv-loop μ-loop
+add-unlisted c = let k = turn (c .before) in omega arith
+
+mul-unlisted : tie.Need-mul-unlisted Inv-loop μ-loop
+mul-unlisted c = let k = turn (c .before) in omega arith
+
+slice-read-unlisted : tie.Need-slice-read-unlisted Inv-loop μ-loop
+slice-read-unlisted c = let k = turn (c .before .before) in simp length-set (omega arith)
+
+unlisted-requires : tie.Need-unlisted-requires Inv-loop μ-loop
+unlisted-requires c κs = search needs
+
 add-work-4 : tie.Need-add-work-4 Inv-loop μ-loop
-add-work-4 c = let k = turn (c .before) in omega arith
+add-work-4 c = let k = turn (c .before .before .before) in omega arith
 
 mul-work-5 : tie.Need-mul-work-5 Inv-loop μ-loop
-mul-work-5 c = let k = turn (c .before) in omega arith
-
-slice-read-work-2 : tie.Need-slice-read-work-2 Inv-loop μ-loop
-slice-read-work-2 c = let k = turn (c .before .before) in simp length-set (omega arith)
-
-add-work-5 : tie.Need-add-work-5 Inv-loop μ-loop
-add-work-5 c = let k = turn (c .before .before) in omega arith
-
-mul-work-6 : tie.Need-mul-work-6 Inv-loop μ-loop
-mul-work-6 c = let k = turn (c .before .before) in omega arith
+mul-work-5 c = let k = turn (c .before .before .before) in omega arith
 
 slice-write-work-3 : tie.Need-slice-write-work-3 Inv-loop μ-loop
-slice-write-work-3 c = let k = turn (c .before .before) in simp length-set (omega arith)
+slice-write-work-3 c = let k = turn (c .before .before .before) in simp length-set (omega arith)
 
 add-i : tie.Need-add-i Inv-loop μ-loop
 add-i c = search needs
@@ -143,14 +146,14 @@ loop-less c = search needs
 loop-again : tie.Need-loop-again Inv-loop μ-loop
 loop-again c = (
   search needs,
-  simp length-set (c .before .before .before .before .before .before .before .before .before .loop .inv .1),
+  simp length-set (c .before .before .before .before .before .before .before .before .before .before .loop .inv .1),
   λ m h ch.
-      let back = c .before .before .before .before .before in
+      let back = c .before .before .before .before .before .before in
       let e = back .before .line-at .ensures in
       let t = back .if1 .left in
       let s = back .before .before .before .before .loop .inv .2 m h ch in
-      let at = c .before .before .wide .ensures .0 ∙ c .before .before .before .field .ensures in
-      resetting-step h (ch .listing .1) (back .before .before .before .loop-test .taken) s _ _ (omega arith) at _ _ refl refl,
+      let at = c .before .before .before .wide .ensures .0 ∙ c .before .before .before .before .field .ensures in
+      resetting-step h (ch .listing .1) (back .before .before .before .loop-test .taken) s _ _ (omega arith) at _ _ refl (c .unlisted .ensures),
 )
 
 same-length-2 : tie.Need-same-length-2 Inv-loop μ-loop
@@ -187,11 +190,12 @@ reset-spec =
     add-work-3
     mul-work-4
     slice-write-work-2
+    add-unlisted
+    mul-unlisted
+    slice-read-unlisted
+    unlisted-requires
     add-work-4
     mul-work-5
-    slice-read-work-2
-    add-work-5
-    mul-work-6
     slice-write-work-3
     add-i
     loop-less

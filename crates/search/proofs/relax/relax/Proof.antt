@@ -1,19 +1,18 @@
 -- `relax` meets its contract, in the order of its tests: nearer already, a banned turn, a tie, shut to the class, past the limit, reached.
-use mathlib.Core.Path.{sym, _∙_}
 use mathlib.Core.Logic.{⊎-elim}
 use Rattle.buffers.proofs.Cases.{le-or-lt}
 use Rattle.search.specs.Area.{far, lengthTo}
-use Rattle.search.proofs.Follows.{barred, follow}
+use Rattle.search.proofs.Follows.{follow}
 use Rattle.search.proofs.Holding.{few}
 use Rattle.search.proofs.Reached.{room-left}
-use Rattle.search.proofs.Going.{going-in, key-behind, notable-low, apart, not-more, nearer, tied, shut, beyond, reaches}
+use Rattle.search.proofs.Going.{going-in, key-behind, notable-low, marked-apart, unmarked, apart, not-more, nearer, tied, shut, beyond, reaches}
 use native.Mathlib.Omega.{arith}
 use borrow.Author.Needs.{needs}
 use Rattle.search.proofs.relax.relax.Statement.{statement}
 use Rattle.search.proofs.relax.relax.Tie as tie
 use Rattle.search.proofs.relax.relax.Reads as reads
 use Rattle.search.proofs.relax.relax.Lts as lts
-use Rattle.banned_turns.proofs.in_chain.Reads as in-chain-reads
+use Rattle.search.proofs.relax.is_barred.Reads as is-barred-reads
 use Rattle.buffers.proofs.wide.Reads as wide-reads
 use Rattle.search.proofs.cells.length_to.Reads as length-to-reads
 use Rattle.search.proofs.relax.reach.Reads as reach-reads
@@ -53,8 +52,12 @@ returns c =
     let j = c .before .before .before .before .before .before .before .before .before .pre .0 in
     ⊎-elim (λ none. beyond g o j (omega arith) (let s = g .small in omega arith)) (λ some. nearer g o j (omega arith) (omega arith)) (le-or-lt far (lengthTo (c .before .before .before .before .before .before .before .before .before .args .work .now) (c .before .before .before .before .before .before .before .before .before .args .j)))
 
-in-chain-requires : tie.Need-in-chain-requires
-in-chain-requires c κs = let p = c .before .before .before .before .before .before .before .before .before .before .pre in let g = p .1 .2 in let o = p .1 .3 in (g .held .full, (_, _, g .held .bans-held, o .chain))
+is-barred-requires : tie.Need-is-barred-requires
+is-barred-requires c κs =
+    let p = c .before .before .before .before .before .before .before .before .before .before .pre in
+    let g = p .1 .2 in
+    let n≤ = few (g .held) in
+    (omega arith, omega (arith, going-in g (p .1 .3) (p .0)), g .held .full)
 
 same-length-2 : tie.Need-same-length-2
 same-length-2 c = search needs
@@ -62,7 +65,7 @@ same-length-2 c = search needs
 returns-2 : tie.Need-returns-2
 returns-2 c =
     λ q place g o meets.
-    apart g o (c .before .before .before .before .before .before .before .before .before .before .before .before .pre .0) (barred (sym (c .before .in-chain .ensures _ _ (g .held .bans-held) (o .chain)) ∙ c .if2 .taken))
+    apart g o (c .before .before .before .before .before .before .before .before .before .before .before .before .pre .0) (marked-apart g o (c .before .before .before .before .before .before .before .before .before .before .before .before .pre .0) (rw (c .if2 .taken) at (c .before .is-barred .ensures)))
 
 record-tie-requires : tie.Need-record-tie-requires
 record-tie-requires c κs =
@@ -88,7 +91,7 @@ returns-3 c =
     let u = c .before .before .before .before .before .before .before .before .if1 .left in
     let i = c .before .before .before .before .if3 .taken in
     let j = c .before .before .before .before .before .before .before .before .before .before .before .before .before .before .before .before .before .pre .0 in
-    tied g o j (follow (let h = g .held .line-count in let j = c .before .before .before .before .before .before .before .before .before .before .before .before .before .before .before .before .before .pre .0 in omega arith) meets (sym (c .before .before .before .before .before .before .in-chain .ensures _ _ (g .held .bans-held) (o .chain)) ∙ c .before .before .before .before .before .if2 .left)) (omega arith) (omega (arith, not-more g o j (omega arith))) (c .before .before .record-tie .ensures)
+    tied g o j (follow (let h = g .held .line-count in let j = c .before .before .before .before .before .before .before .before .before .before .before .before .before .before .before .before .before .pre .0 in omega arith) meets (unmarked g o j (rw (c .before .before .before .before .before .if2 .left) at (c .before .before .before .before .before .before .is-barred .ensures)))) (omega arith) (omega (arith, not-more g o j (omega arith))) (c .before .before .record-tie .ensures)
 
 field-requires-2 : tie.Need-field-requires-2
 field-requires-2 c κs = search needs
@@ -162,7 +165,7 @@ returns-6 c =
     let d = c .before .before .before .before .before .before .if4 .left in
     let s = c .before .before .before .before .before .wide4 .ensures .0 in
     let i = c .before .before .before .before .if5 .left in
-    reaches g o j (follow (let h = g .held .line-count in let j = c .before .before .before .before .before .before .before .before .before .before .before .before .before .before .before .before .before .before .before .before .before .before .pre .0 in omega arith) meets (sym (c .before .before .before .before .before .before .before .before .before .before .before .in-chain .ensures _ _ (g .held .bans-held) (o .chain)) ∙ c .before .before .before .before .before .before .before .before .before .before .if2 .left)) (omega arith) (omega arith) (omega arith) (omega arith)
+    reaches g o j (follow (let h = g .held .line-count in let j = c .before .before .before .before .before .before .before .before .before .before .before .before .before .before .before .before .before .before .before .before .before .before .pre .0 in omega arith) meets (unmarked g o j (rw (c .before .before .before .before .before .before .before .before .before .before .if2 .left) at (c .before .before .before .before .before .before .before .before .before .before .before .is-barred .ensures)))) (omega arith) (omega arith) (omega arith) (omega arith)
     (c .before .before .reach .ensures _ (g .held) place (o .inside) (key-behind g o j (omega arith)))
 
 pub relax-spec : {M : Type 1} → statement M
@@ -177,7 +180,7 @@ relax-spec =
     wide-requires-3
     same-length
     returns
-    in-chain-requires
+    is-barred-requires
     same-length-2
     returns-2
     record-tie-requires
