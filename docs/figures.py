@@ -23,8 +23,9 @@ INTRODUCTION = """\
 ## Calls
 
 Each row is the mean over up to eight inputs of the best of many rounds, in microseconds; the proved function and plain Rust take turns in one process. The maps
-have 512 nodes and about 1,024 lines, and no banned turns but where a row names them: 512 spread over the map, or all at the junction with most turns, where
-they are listed many times. Plain Rust is that of `bench/src`, written for speed. A ratio below 1 says that the proved function is faster.
+have 512 nodes and about 1,024 lines. Those of "random" go one way, two from each node and any number to it; "random roads" have a line each way. There are no
+banned turns but where a row names them: 512 spread over the map, or all at the junction with most turns, where they are listed many times. Plain Rust is
+that of `bench/src`, written for speed. A ratio below 1 says that the proved function is faster.
 Readings of over 2,304 lines are made twice; a C host's lists have 1,024 at most, so those rows are left out of the aim of 1.2.
 """
 
