@@ -313,7 +313,7 @@ pub record Marks (m : Map) (lines l : ℕ) (w v : List ℕ) : Type 0 where
   pub aside : Aside m lines w v
   pub told : (j : ℕ) → j < lines → turnAmong (m .bans) l j ≡ true → marked v j ≡ l
 
--- Such a pair for a line that goes on, which then marks its lines.
+-- Such a pair for a line that goes on, which then marks the lines that it may not turn into.
 pub record PairFor (m : Map) (lines place : ℕ) (g : Going) (w v : List ℕ) (p : Pair) : Type 0 where
   pub pair : PairBefore m lines (g .line) (queued w place) w p
   pub barred : 0 < p .one → Free m (g .line) → ⊥
