@@ -1,7 +1,7 @@
 -- The banned turns as chains: none, one more, and the walk along the chain of a line.
-use Prim.Native.Nat.{ℕ, zero, suc, _+_, _-_, _≤_, _<_}
+use Prim.Native.Nat.{ℕ, zero, suc, _-_, _≤_, _<_}
 use mathlib.Core.Path.{_≡_, refl, sym, ap, ap₂, subst, _∙_}
-use mathlib.Core.Bool.{Bool, true, false, cond, _&&_, _||_, or-false, or-assoc, or-comm}
+use mathlib.Core.Bool.{Bool, true, false, cond, _&&_, _||_, or-true, or-false, or-assoc, or-comm}
 use mathlib.Core.List.{List, [], _∷_, _++_}
 use mathlib.Core.Logic.{_≢_}
 use native.Mathlib.Decide.{decLt, ℕ-discrete}
@@ -131,6 +131,13 @@ unfolding turnAmong
 among-before [] l k = refl
 among-before (t ∷ ts) l k =
     ap (λ (b : Bool). is ts l k t || b) (among-before ts l k) ∙ or-comm (is ts l k t) (before ts l k (length ts)) ∙ sym (before-cons t ts l k (length ts))
+
+-- Each of them is banned.
+pub among-at : (bans : List Turn) (i : ℕ) → i < length bans → turnAmong bans (banAt bans i .first) (banAt bans i .second) ≡ true
+unfolding turnAmong
+among-at [] i i< = absurd (omega arith)
+among-at (t ∷ ts) zero i< = rw (eq-eqb (t .first) _ refl, eq-eqb (t .second) _ refl)
+among-at (t ∷ ts) (suc i) i< = rw (among-at ts i (omega arith)) (or-true (eqb (t .first) (banAt ts i .first) && eqb (t .second) (banAt ts i .second)))
 
 -- The walk has come to `x`: the turn is banned if it is among the first `x`.
 pub record WalkAt (bans : List Turn) (l k x : ℕ) : Type 0 where

@@ -13,6 +13,11 @@ le-or-lt a b = go (decLe a b)
     go (yes h) = inl h
     go (no h) = inr (omega arith)
 
+-- A test says yes or no.
+pub true-or : (b : Bool) → (b ≡ true) ⊎ (b ≡ false)
+true-or true = inl refl
+true-or false = inr refl
+
 -- What holds of either of two numbers holds of the one that a test takes.
 pub picked : (P : ℕ → Type 0) (t : Bool) (a b : ℕ) → (t ≡ true → P a) → (t ≡ false → P b) → P (cond t a b)
 picked P true a b this that = this refl

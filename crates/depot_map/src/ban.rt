@@ -31,7 +31,8 @@ pub enum BanRead {
 
 // Puts a banned turn that fits its lines, mirrored, behind `count` others, unless it is one of them: how many there are then.
 fn put_once(work: &mut [u32], count: usize, lines: u32, first: u32, second: u32) -> usize
-    requires { ⌜ (workLength ≤ length (now work)) × (count < greatestBanCount) × (lines ≤ greatestLineCount) × (second < lines) ⌝ }
+    requires { ⌜ (workLength ≤ length (now work)) × (count < greatestBanCount) × (lines ≤ greatestLineCount)
+        × (first < lines) × (second < lines) ⌝ }
     requires { ⌜ ((bans : List Turn) × BansHeld (now work) lines bans) ⌝ }
     ensures { λ r. ⌜ BanAdded (record { first = second; second = first }) count lines (now (work .entry)) (now (work .exit)) r ⌝ }
 {

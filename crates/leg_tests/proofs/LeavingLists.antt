@@ -11,13 +11,12 @@ use native.Mathlib.Omega.{arith}
 use lib.ListN.{length, getD, set, length-set}
 use lib.Seq.{getD-set-other}
 use Rattle.buffers.specs.Kept.{Kept, Filled}
-use Rattle.buffers.proofs.Cases.{le-or-lt, here-or}
 use Rattle.buffers.proofs.Kept.{kept-none, kept-within, at-set, kept-set}
 use Rattle.search.specs.Area.{Set, latest, lengthTo, listWeight, markWeight, noteWeight}
 use Rattle.search.proofs.Marking.{marked-same}
 use Rattle.work_area.specs.Mirror.{mirror}
-use Rattle.search.proofs.Leaving.{latest-same, latest-other, latest-le, latest-hit, latest-all}
-use Rattle.search.proofs.Reached.{listing-same}
+use Rattle.search.proofs.Leaving.{latest-same, latest-other, OnList, list-start, list-none, list-next, list-passed}
+use Rattle.search.proofs.Keeping.{chained-same}
 use Rattle.leg_tests.specs.LegTests.{Worked}
 use Rattle.leg_tests.specs.Leaving.{Listed}
 use Rattle.leg_tests.proofs.Sifting.{worked-then}
@@ -50,20 +49,13 @@ module _ {m : Map} {lines low high : ℕ} {w v : List ℕ} (free : Free low high
   -- After a change of such cells a search can begin as before.
   pub still-set : Worked m lines w v
   still-set =
-      let c = s .chained in
       let r = within in
       record {
         set = record {
           held = held-kept (omega arith) k (s .held);
-          chained = record {
-            heads = λ b b<. ap (λ (x : ℕ). x % listWeight) (head-same b b<) ∙ c .heads b b<;
-            nexts = λ l l<. ap (λ (x : ℕ). x % listWeight) (next-same l l<) ∙ c .nexts l l<;
-            listing = (c .listing .0, listing-same length-same (λ l l<. ap (λ (x : ℕ). x / listWeight % listWeight) (next-same l l<)) (c .listing .1));
-            bare = λ b b< p.
-                let e = c .bare b b< (rw (ap (λ (x : ℕ). x / listWeight) (head-same b b<)) at p) in
-                (e .0, e .1, omega (arith, length-same (e .0) (e .1), e .2), e .3);
-            marks = marked-same (mirror m) w v (λ l l<. ap (λ (x : ℕ). x / markWeight) (next-same l l<)) (c .marks);
-          };
+          chained = chained-same (mirror m) w v length-same head-same
+              (λ l l<. (ap (λ (x : ℕ). x % listWeight) (next-same l l<), ap (λ (x : ℕ). x / listWeight % listWeight) (next-same l l<)))
+              (marked-same (mirror m) w v (λ l l<. ap (λ (x : ℕ). x / markWeight) (next-same l l<))) (s .chained);
         };
         kept = kept-within (omega arith) (omega arith) k;
       }
@@ -71,8 +63,8 @@ module _ {m : Map} {lines low high : ℕ} {w v : List ℕ} (free : Free low high
 -- ---- the lists are made
 
 -- The cells of the nodes are 0, and no line is on a list.
-pub list-none : {m : Map} {lines : ℕ} {w v : List ℕ} → Filled lastBarredFrom greatestNodeCount 0 w v → Set m lines w → Listed m lines 0 w v
-list-none f s =
+pub listed-none : {m : Map} {lines : ℕ} {w v : List ℕ} → Filled lastBarredFrom greatestNodeCount 0 w v → Set m lines w → Listed m lines 0 w v
+listed-none f s =
     let k = s .held .formed in
     record {
       leaving = record { firsts = λ a a<. f .filled a (omega arith); nexts = λ l l<. absurd (omega arith) };
@@ -91,9 +83,9 @@ module _ {m : Map} {lines i : ℕ} {u w : List ℕ} (k : Listed m lines i u w) (
   start-small = let h = k .worked .set .held in let f = h .formed in omega (arith, start-at, line-ok h i< .start)
 
   -- One line more is on the list of its start node.
-  pub list-more : {v : ℕ} → v ≡ getD w (linePlace i + startNode) 0 →
+  pub listed-more : {v : ℕ} → v ≡ getD w (linePlace i + startNode) 0 →
       Listed m lines (i + 1) u (set (set w (queueFrom + i) (getD w (lastBarredFrom + v) 0)) (lastBarredFrom + v) (i + 1))
-  list-more {v} at =
+  listed-more {v} at =
       let x = getD w (lastBarredFrom + v) 0 in
       let w₁ = set w (queueFrom + i) x in
       let h = k .worked .set .held in
@@ -124,33 +116,14 @@ module _ {m : Map} {lines i : ℕ} {u w : List ℕ} (k : Listed m lines i u w) (
 
 -- The walk along the list of node `v` is at line `at - 1`. Of the lines from `at` on none but `own` leaves the node and has the property `P`.
 pub record Along (m : Map) (lines v own : ℕ) (P : ℕ → Type 0) (at : ℕ) : Type 0 where
-  pub inside : at ≤ lines
-  pub there : 0 < at → lineAt m (at - 1) .start ≡ v
-  pub passed : (l : ℕ) → at ≤ l → l < lines → lineAt m l .start ≡ v → P l → l ≡ own
+  pub list : OnList m lines v at
+  pub passed : (l : ℕ) → l < lines → lineAt m l .start ≡ v → at ≤ l → P l → l ≡ own
 
 module _ {m : Map} {lines v own : ℕ} {P : ℕ → Type 0} where
   pub along-start : {at : ℕ} → at ≡ latest m v lines → Along m lines v own P at
-  along-start {at} e =
-      record {
-        inside = omega (arith, e, latest-le m v lines);
-        there = λ some. rw e (latest-hit m v lines (omega arith));
-        passed = λ l from inside leaves p. absurd (omega (arith, e, latest-all m v lines l inside leaves));
-      }
+  along-start e = record { list = list-start m lines v e; passed = λ l inside there le. absurd (list-none m lines v e l inside there le) }
 
   pub along-on : {at next : ℕ} → Along m lines v own P at → 0 < at → (P (at - 1) → at - 1 ≡ own) → next ≡ latest m (lineAt m (at - 1) .start) (at - 1) →
       Along m lines v own P next
-  along-on {at} {next} k some here e′ =
-      let e : next ≡ latest m v (at - 1) = e′ ∙ ap (λ (a : ℕ). latest m a (at - 1)) (k .there some) in
-      record {
-        inside = omega (arith, k .inside, e, latest-le m v (at - 1));
-        there = λ pos. rw e (latest-hit m v (at - 1) (omega arith));
-        passed = λ l from inside leaves p.
-            ⊎-elim
-            (λ o. k .passed l o inside leaves p)
-            (λ o.
-            here-or (λ l. l < at → next ≤ l → lineAt m l .start ≡ v → P l → l ≡ own) (at - 1)
-            (λ o from leaves p. here p)
-            (λ l d o from leaves p. absurd (omega (arith, e, latest-all m v (at - 1) l (omega (arith, d)) leaves)))
-            l o from leaves p)
-            (le-or-lt at l);
-      }
+  along-on k some here e =
+      record { list = list-next (k .list) some e; passed = list-passed (k .list) some e (λ l. P l → l ≡ own) (k .passed) here }

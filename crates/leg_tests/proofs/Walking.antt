@@ -12,7 +12,7 @@ use Rattle.work_area.specs.Mirror.{mirror}
 use Rattle.work_area.proofs.Mirrored.{line-mirrored}
 use Rattle.search.specs.Ways.{line}
 use Rattle.search.specs.Area.{latest}
-use Rattle.search.proofs.Leaving.{latest-le, latest-hit}
+use Rattle.search.proofs.Leaving.{OnList, list-start, list-next}
 use Rattle.leg_tests.specs.declared.columns.Column.{Column}
 use Rattle.point_choice.specs.Cuts.{Tested}
 use Rattle.leg_tests.specs.LegTests.{mark, Marks, Open, Owned, Worked, ColumnKept, ColumnOwned, ColumnSifted, ColumnTested}
@@ -22,8 +22,7 @@ use Rattle.leg_tests.proofs.Sifting.{worked-then, column-then}
 
 -- The last lines from `at` on are tested, and the legs' own; `at - 1` is the next that ends at the node of the last position.
 pub record Testing (m : Map) (lines : ℕ) (s : List ℕ) (end : ℕ) (a b w v : List ℕ) (at : ℕ) : Type 0 where
-  pub inside : at ≤ lines
-  pub next : 0 < at → lineAt (mirror m) (at - 1) .start ≡ lineAt m (getD s (length s - 1) 0) .end
+  pub list : OnList (mirror m) lines (lineAt m (getD s (length s - 1) 0) .end) at
   pub numbers : (i : ℕ) → i < length s → Open m s i (length s) at (mark b i (length s))
   pub owned : Owned m s end b
   pub kept : ColumnKept (length s) a b
@@ -34,10 +33,8 @@ module _ {m : Map} {lines : ℕ} {s w : List ℕ} (c : Connected m s) where
       ColumnOwned m lines s (length s) (line (getD s (length s - 1) 0)) a b w v r → Testing m lines s (r .end) a b w v at
   testing-start at e own =
       let all = own .worked .set .held .line-count in
-      let v = lineAt m (getD s (length s - 1) 0) .end in
       record {
-        inside = omega (arith, e, latest-le (mirror m) v lines);
-        next = rw e (latest-hit (mirror m) v lines);
+        list = list-start (mirror m) lines _ e;
         numbers = λ i h. open-start s c h (omega arith) (line (getD s (length s - 1) 0)) (rw all e) (own .says i h);
         owned = λ i h one. (own .ended i h one, mark-sound _ (own .says i h) one);
         kept = own .kept;
@@ -48,13 +45,9 @@ module _ {m : Map} {lines : ℕ} {s w : List ℕ} (c : Connected m s) where
       next ≡ latest (mirror m) (lineAt (mirror m) (at - 1) .start) (at - 1) → ColumnSifted m lines s (at - 1) b b′ v u →
       Testing m lines s end a b′ w u next
   testing-on {at = at} {next = next} k some e column =
-      let there = k .next some in
+      let there = k .list .joined some in
       record {
-        inside = omega (arith, k .inside, e, latest-le (mirror m) (lineAt (mirror m) (at - 1) .start) (at - 1));
-        next = λ pos.
-            let hit : lineAt (mirror m) (next - 1) .start ≡ lineAt (mirror m) (at - 1) .start =
-            rw e (latest-hit (mirror m) (lineAt (mirror m) (at - 1) .start) (at - 1) (omega arith)) in
-            hit ∙ there;
+        list = list-next (k .list) some e;
         numbers = λ i h. open-on s c h (omega arith) some there e (k .numbers i h) (column .sifted i h);
         owned = λ i h one. k .owned i h (column .sifted i h .still one);
         kept = column-then (k .kept) (column .kept);

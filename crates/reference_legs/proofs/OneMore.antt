@@ -14,7 +14,7 @@ use Rattle.model.proofs.Joining.{last-known}
 use Rattle.work_area.specs.Mirror.{mirror}
 use Rattle.work_area.proofs.Mirrored.{line-mirrored}
 use Rattle.search.specs.Area.{Set}
-use Rattle.search.proofs.Leaving.{latest-le, latest-hit}
+use Rattle.search.proofs.Leaving.{latest-le, latest-hit, list-start}
 use Rattle.buffers.proofs.Kept.{kept-none, kept-then}
 use Rattle.fields.specs.declared.leg.Verdict.{Verdict}
 use Rattle.legs.specs.Verdict.{bothOf, OneList, Says, Judged, TerminusOf, at-node, at-line, ReadingTo, ToLines}
@@ -38,11 +38,11 @@ module _ (m : Map) (leg : Leg) {lines : ℕ} (all : length (m .lines) ≡ lines)
 
   pub first-inside : (a : Arrival) (v at : ℕ) → at ≡ firstAt m lines a v → at ≤ lines
   first-inside any v at e = omega arith
-  first-inside (matching x) v at e = omega (arith, latest-le (mirror m) v lines)
+  first-inside (matching x) v at e = list-start (mirror m) lines v e .within
 
   pub first-stands : (a : Arrival) (v at : ℕ) → at ≡ firstAt m lines a v → 0 < at → Standing m lines a v at
   first-stands any v at e pos = omega arith
-  first-stands (matching x) v at e pos = rw e (latest-hit (mirror m) v lines (omega arith))
+  first-stands (matching x) v at e pos = list-start (mirror m) lines v e .joined pos
 
   -- ---- the next
 

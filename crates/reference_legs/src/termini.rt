@@ -16,7 +16,7 @@ ghost use Rattle.fields.specs.Leg.{arrivalIn, legIn};
 ghost use Rattle.legs.specs.Verdict.{ReadingTo, StandsIn, Judged};
 ghost use Rattle.reference_legs.specs.TerminusAt.{firstAt, nextAt, terminusAt, Standing};
 
-// Where the first terminus of a leg is.
+// Where the first terminus of a leg is: 1 + the line, for a leg that any line may end the count of lines, which stands for its end node, or 0 for none.
 pub fn first_terminus(work: &[u32], lines: usize, leg: Leg) -> usize
     requires { ⌜ ((m : Map) × Set m lines (now work) × (leg .to < length (m .nodes))) ⌝ }
     ensures { λ r. ⌜ ((m : Map) → Set m lines (now (work .entry)) → leg .to < length (m .nodes)

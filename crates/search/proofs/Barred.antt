@@ -9,13 +9,13 @@ use mathlib.Core.Logic.{inl, inr, ⊎-elim, _≢_}
 use native.Mathlib.Omega.{arith}
 use lib.ListN.{length, getD}
 use Rattle.model.specs.Lines.{lineAt, turnAmong, Follows}
-use Rattle.search.specs.Steps.{Free, FreeReached, Counted, Settled, Task, Underway, Grew, GoesOn, GoneBefore, PairFor, Aside, Told, WentAlong, WentAlongBans, Sets, Walked, Expanded}
+use Rattle.search.specs.Steps.{Free, FreeReached, Counted, Settled, Task, Underway, Grew, GoesOn, GoneBefore, WalksBegun, Aside, Told, WentAlong, WentAlongBans, Sets, Walked, Expanded}
 use Rattle.search.specs.declared.relax.Going.{Going}
 use Rattle.search.specs.declared.expand.Pair.{Pair}
 use Rattle.buffers.proofs.Kept.{kept-then, kept-within}
-use Rattle.buffers.proofs.Cases.{le-or-lt}
+use Rattle.buffers.proofs.Cases.{le-or-lt, true-or}
 use Rattle.search.proofs.Holding.{held-kept, few, line-ok}
-use Rattle.search.proofs.Follows.{known, follows-unless, true-or}
+use Rattle.search.proofs.Follows.{known, follows-unless}
 use Rattle.search.proofs.Keeping.{key-same, underway-same}
 use Rattle.search.proofs.Growing.{grew-then, free-grew, backed-grew, settled-grew}
 use Rattle.search.proofs.AtPlace.{class-of, waiting}
@@ -231,7 +231,7 @@ pub record Ready (q : Task) (n c limit place : ℕ) (going : Going) (pair : Pair
   pub differ : 0 < pair .one → pair .one ≢ pair .other
 
 pub ready : {q : Task} {n c limit place count end : ℕ} {going : Going} {pair : Pair} {w u : List ℕ} → Underway q n c limit place count end w → place < end →
-    GoesOn (q .map) n place w going → PairFor (q .map) n place going w u pair → Ready q n c limit place going pair u count end
+    GoesOn (q .map) n place w going → WalksBegun (q .map) n place going w u pair → Ready q n c limit place going pair u count end
 ready g inside o p =
     record {
       underway = underway-kept g (p .aside);

@@ -4,18 +4,12 @@ use Rattle.work_area.specs.Area.{banChain}
 use Rattle.banned_turns.proofs.Chains.{walk-start, walk-end}
 use Rattle.model.specs.Map.{Map}
 use Prim.Native.Nat.{ℕ, _<_}
-use mathlib.Core.Path.{_≡_, refl, sym, _∙_}
-use mathlib.Core.Bool.{Bool, true, false}
-use mathlib.Core.Logic.{_⊎_, inl, inr}
+use mathlib.Core.Path.{_≡_, sym, _∙_}
+use mathlib.Core.Bool.{true, false}
 use mathlib.Core.List.{List}
 use native.Mathlib.Omega.{arith}
 use lib.ListN.{length}
 use Rattle.model.specs.Lines.{lineAt, turnAmong, banned, Follows}
-
--- A test says yes or no.
-pub true-or : (b : Bool) → (b ≡ true) ⊎ (b ≡ false)
-true-or true = inl refl
-true-or false = inr refl
 
 module _ {m : Map} {l j : ℕ} where
   -- A line that can follow is a line, and it starts where the other ends: so it is in the adjacency list of that node.

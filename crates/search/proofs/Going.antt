@@ -14,10 +14,10 @@ use Rattle.model.specs.Lines.{lineAt, turnAmong, Follows}
 use Rattle.search.specs.Steps.{Backed, Counted, Queued, Task, Underway, Grew, Noted, TieNoted, Inserted, Arrived, Notable, Goes, Relaxed}
 use Rattle.search.specs.declared.relax.Going.{Going}
 use Rattle.buffers.proofs.Kept.{kept-none, kept-within}
-use Rattle.buffers.proofs.Cases.{le-or-lt, here-or}
+use Rattle.buffers.proofs.Cases.{le-or-lt, here-or, true-or}
 use Rattle.search.proofs.Holding.{held-kept, few, line-ok}
 use Rattle.search.proofs.Plain.{way-more, total-more}
-use Rattle.search.proofs.Follows.{true-or, known, meets, barred, follows-free}
+use Rattle.search.proofs.Follows.{known, meets, barred, follows-free}
 use Rattle.banned_turns.proofs.Chains.{walk-start, walk-end}
 use Rattle.search.proofs.Reached.{count-le, room-left}
 use Rattle.search.proofs.Growing.{grew-none, free-grew, backed-grew}

@@ -1,12 +1,13 @@
 -- The search stays under way where lengths, the queue, the adjacency lists and the nearest free lines stay, what notes rest on, and what marks say.
 use Rattle.work_area.specs.Area.{queueFrom, headsFrom, nextFrom}
-use Rattle.search.specs.Area.{Mirrored, far, listWeight, nextLeaving, listed, Marked, lengthTo, predecessor, nearestFree, queued, named}
+use Rattle.search.specs.Area.{Mirrored, Chained, far, listWeight, nextLeaving, listed, Marked, lengthTo, predecessor, nearestFree, queued, named}
 use Prim.Native.Nat.{ℕ, _+_, _/_, _%_, _≤_, _<_}
 use mathlib.Core.Path.{_≡_, _∙_, ap}
 use mathlib.Core.List.{List}
 use mathlib.Core.Logic.{inl, inr, ⊎-elim}
 use native.Mathlib.Omega.{arith}
 use lib.ListN.{length, getD}
+use Rattle.model.specs.Map.{Map}
 use Rattle.model.specs.Lines.{lineAt}
 use Rattle.search.specs.Steps.{FreeReached, Waits, Backed, Standing, Task, Underway, Grew}
 use Rattle.search.proofs.Holding.{few, line-ok}
@@ -14,6 +15,21 @@ use Rattle.search.proofs.Reached.{listing-same, count-le}
 use Rattle.search.proofs.Nearness.{nearest-lengths}
 use Rattle.search.proofs.Queueing.{waits-same, ordered-same}
 use Rattle.search.proofs.Growing.{free-grew, settled-grew}
+
+-- The adjacency lists, the list of reached lines and the marks stay where their cells do, and lengths.
+pub chained-same : (m : Map) {n : ℕ} (w v : List ℕ) → ((l : ℕ) → l < n → lengthTo v l ≡ lengthTo w l) →
+    ((b : ℕ) → b < length (m .nodes) → getD v (headsFrom + b) 0 ≡ getD w (headsFrom + b) 0) →
+    ((k : ℕ) → k < n → (nextLeaving v k ≡ nextLeaving w k) × (listed v k ≡ listed w k)) → (Marked m n w → Marked m n v) → Chained w n m → Chained v n m
+chained-same m w v lengths heads nexts marks c =
+    record {
+      heads = λ b b<. ap (λ (x : ℕ). x % listWeight) (heads b b<) ∙ c .heads b b<;
+      nexts = λ k k<. nexts k k< .0 ∙ c .nexts k k<;
+      listing = (c .listing .0, listing-same lengths (λ i i<. nexts i i< .1) (c .listing .1));
+      bare = λ b b< p.
+          let e = c .bare b b< (rw (ap (λ (x : ℕ). x / listWeight) (heads b b<)) at p) in
+          (e .0, e .1, omega (arith, lengths (e .0) (e .1), e .2), e .3);
+      marks = marks (c .marks);
+    }
 
 module _ {q : Task} {n c limit place count end d : ℕ} {w v : List ℕ} (g : Underway q n c limit place count end w) (held : Mirrored v n (q .map))
     (lengths : (l : ℕ) → l < n → lengthTo v l ≡ lengthTo w l) (cells : (a : ℕ) → queueFrom ≤ a → a < nextFrom → getD v a 0 ≡ getD w a 0)
@@ -48,14 +64,7 @@ module _ {q : Task} {n c limit place count end d : ℕ} {w v : List ℕ} (g : Un
       let list = listing-same lengths (λ i i<. nexts i i< .1) (g .listing) in
       record {
         held = held;
-        chained = record {
-          heads = λ b b<. ap (λ (x : ℕ). x % listWeight) (cells (headsFrom + b) (omega arith) (omega arith)) ∙ g .chained .heads b b<;
-          nexts = λ k k<. nexts k k< .0 ∙ g .chained .nexts k k<;
-          listing = (count, list);
-          bare = λ b b< p.
-              let e = g .chained .bare b b< (rw (node-same b b<) at p) in (e .0, e .1, omega (arith, lengths (e .0) (e .1), e .2), e .3);
-          marks = marks (g .chained .marks);
-        };
+        chained = chained-same (q .map) w v lengths (λ b b<. cells (headsFrom + b) (omega arith) (omega arith)) nexts marks (g .chained);
         listing = list;
         small = g .small;
         begun = g .begun;

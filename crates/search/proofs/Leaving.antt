@@ -19,7 +19,7 @@ use Rattle.buffers.specs.Kept.{Kept, Filled}
 use Rattle.search.specs.Promises.{Linked}
 use Rattle.buffers.proofs.Kept.{kept-none, kept-then, at-set, kept-set}
 use Rattle.search.proofs.Reached.{listing-none}
-use Rattle.buffers.proofs.Cases.{picked}
+use Rattle.buffers.proofs.Cases.{picked, le-or-lt, here-or}
 use Rattle.search.proofs.Holding.{held-kept, line-ok, few}
 
 -- With one line more.
@@ -57,6 +57,43 @@ latest-all m v (suc i) j j< e =
     (λ l. l)
     (eq-or-lt-of-le {n = j} {m = i} (omega arith)))
     e)
+
+-- A walk along the adjacency list of node `v` is at line `at - 1`, one of those that start there; or at its end.
+pub record OnList (m : Map) (n v at : ℕ) : Type 0 where
+  pub within : at ≤ n
+  pub joined : 0 < at → lineAt m (at - 1) .start ≡ v
+
+module _ (m : Map) (n v : ℕ) {at : ℕ} (e : at ≡ latest m v n) where
+  pub list-start : OnList m n v at
+  list-start = record { within = omega (arith, e, latest-le m v n); joined = λ pos. rw e (latest-hit m v n (omega arith)) }
+
+  -- None is passed yet.
+  pub list-none : (l : ℕ) → l < n → lineAt m l .start ≡ v → at ≤ l → ⊥
+  list-none l l< there le = omega (arith, e, latest-all m v n l l< there)
+
+module _ {m : Map} {n v at next : ℕ} (k : OnList m n v at) (pos : 0 < at) (e : next ≡ latest m (lineAt m (at - 1) .start) (at - 1)) where
+  next-is : next ≡ latest m v (at - 1)
+  next-is = e ∙ ap (λ (a : ℕ). latest m a (at - 1)) (k .joined pos)
+
+  pub list-less : next < at
+  list-less = omega (arith, next-is, latest-le m v (at - 1))
+
+  pub list-next : OnList m n v next
+  list-next =
+      record { within = omega (arith, list-less, k .within); joined = λ some. rw next-is (latest-hit m v (at - 1) (omega (arith, next-is))) }
+
+  -- What holds of those that are passed and of this one holds of those that are passed then.
+  pub list-passed : (P : ℕ → Type 0) → ((l : ℕ) → l < n → lineAt m l .start ≡ v → at ≤ l → P l) → P (at - 1) →
+      (l : ℕ) → l < n → lineAt m l .start ≡ v → next ≤ l → P l
+  list-passed P old here l l< there le =
+      ⊎-elim
+      (old l l< there)
+      (λ below.
+      here-or (λ l. l < at → lineAt m l .start ≡ v → next ≤ l → P l) (at - 1)
+      (λ l< there le. here)
+      (λ l d l< there le. absurd (omega (arith, next-is, latest-all m v (at - 1) l (omega (arith, d)) there)))
+      l below there le)
+      (le-or-lt at l)
 
 -- The adjacency lists of the lines below `i` are made, and no such line is reached.
 pub record Linking (w : List ℕ) (i : ℕ) (m : Map) (v : List ℕ) : Type 0 where

@@ -21,7 +21,7 @@ use Rattle.search.proofs.Holding.{held-kept, few, line-ok}
 use Rattle.search.proofs.Plain.{way-one, total-one}
 use Rattle.search.proofs.Reached.{count-le, room-left}
 use Rattle.search.proofs.Queueing.{ordered-same}
-use Rattle.search.proofs.Leaving.{latest-le, latest-hit, latest-all}
+use Rattle.search.proofs.Leaving.{OnList, list-start, list-none, list-less, list-next, list-passed}
 use Rattle.search.proofs.Arriving.{Entered, Levelled, entered, found-now, lengths-now, enter, queue-same, enter-unsent}
 
 -- No line is reached.
@@ -154,8 +154,7 @@ begun-line {m} {c = c} {limit = limit} {v = v} e k s =
 -- Those from line `at` on are reached, where their class and their length allow that, and none below.
 pub record SeedingNode (m : Map) (n c v limit at : ℕ) (w u : List ℕ) (count end : ℕ) : Type 0 where
   pub seeding : Seeding (task m (node v)) n c limit count end u
-  pub within : at ≤ n
-  pub joined : 0 < at → lineAt m (at - 1) .start ≡ v
+  pub list : OnList m n v at
   pub fresh : (l : ℕ) → l < at → far ≤ lengthTo u l
   pub based : (l : ℕ) → l < n → lineAt m l .start ≡ v → at ≤ l → BasedAt m c limit u l
   pub kept : Kept searchFrom lastBarredFrom w u
@@ -165,34 +164,24 @@ module _ {m : Map} {n c v limit : ℕ} {w : List ℕ} where
   node-start {at} s e =
       record {
         seeding = s;
-        within = omega (arith, e, latest-le m v n);
-        joined = λ p. rw e (latest-hit m v n (omega arith));
-        fresh = λ l l<. ⊎-elim (λ z. z) (λ z. absurd (let t = s .underway .listing in let o = t .every l (omega (arith, e, latest-le m v n)) z in omega (arith, o .1))) (le-or-lt far (lengthTo w l));
-        based = λ l l< f le. absurd (omega (arith, e, latest-all m v n l l< f));
+        list = list-start m n v e;
+        fresh = λ l l<. ⊎-elim (λ z. z) (λ z. absurd (let t = s .underway .listing in let o = t .every l (omega (arith, list-start m n v e .within)) z in omega (arith, o .1))) (le-or-lt far (lengthTo w l));
+        based = λ l l< f le. absurd (list-none m n v e l l< f le);
         kept = kept-none;
       }
 
   module _ {u : List ℕ} {at count end : ℕ} (k : SeedingNode m n c v limit at w u count end) (pos : 0 < at) where
     pub node-step : {next count′ end′ : ℕ} {t : List ℕ} → Seeded (task m (node v)) n c limit (at - 1) u t count′ end′ →
         next ≡ latest m (lineAt m (at - 1) .start) (at - 1) → SeedingNode m n c v limit next w t count′ end′
-    node-step {next} {t = t} s e′ =
-        let i = k .within in
-        let e : next ≡ latest m v (at - 1) = e′ ∙ ap (λ (a : ℕ). latest m a (at - 1)) (k .joined pos) in
-        let low = latest-le m v (at - 1) in
+    node-step {next} {t = t} s e =
+        let i = k .list .within in
+        let less = list-less (k .list) pos e in
         record {
           seeding = s .seeding;
-          within = omega arith;
-          joined = λ p. rw e (latest-hit m v (at - 1) (omega arith));
+          list = list-next (k .list) pos e;
           fresh = λ l l<. omega (arith, s .others l (omega arith) (omega arith), k .fresh l (omega arith));
-          based = λ l l< f le.
-              ⊎-elim
-              (λ o ok near. omega (arith, s .others l l< (omega arith), k .based l l< f o ok near))
-              (λ o.
-              here-or (λ l. l < at → next ≤ l → lineAt m l .start ≡ v → BasedAt m c limit t l) (at - 1)
-              (λ l< le f. s .based)
-              (λ l d l< le f. absurd (omega (arith, latest-all m v (at - 1) l (omega (arith, d)) f)))
-              l o le f)
-              (le-or-lt at l);
+          based = list-passed (k .list) pos e (BasedAt m c limit t)
+              (λ l l< f le ok near. omega (arith, s .others l l< (omega arith), k .based l l< f le ok near)) (s .based);
           kept = kept-then (k .kept) (s .kept);
         }
 

@@ -16,7 +16,7 @@ use Rattle.buffers.proofs.Kept.{kept-none, kept-then}
 use Rattle.buffers.proofs.Cases.{le-or-lt}
 use Rattle.search.proofs.Holding.{few}
 use Rattle.search.proofs.Follows.{known, meets}
-use Rattle.search.proofs.Leaving.{latest-le, latest-hit, latest-all}
+use Rattle.search.proofs.Leaving.{OnList, list-start, list-none, list-less, list-next, list-passed}
 use Rattle.search.proofs.Growing.{grew-none, grew-then, counted-grew}
 use Rattle.search.proofs.Arriving.{equal-or}
 use Rattle.search.proofs.Going.{notable-grew}
@@ -75,8 +75,7 @@ pub record Along (q : Task) (n c limit place : ℕ) (going : Going) (u w : List 
   pub goes : 0 < going .note → Goes (q .map) n place end w going
   pub counted : 0 < going .note → (j : ℕ) → at ≤ j → Follows (q .map) (going .line) j → Counted (q .map) c limit (going .note) (going .line) j w
   pub idle : going .note ≡ 0 → at ≡ 0
-  pub within : at ≤ n
-  pub joined : 0 < at → lineAt (q .map) (at - 1) .start ≡ lineAt (q .map) (going .line) .end
+  pub list : OnList (q .map) n (lineAt (q .map) (going .line) .end) at
 
 module _ {q : Task} {n c limit place : ℕ} {going : Going} {u : List ℕ} where
   along-start : {at count end : ℕ} → Underway q n c limit place count end u → place < end → (0 < going .note → Told (q .map) n u going) → GoesOn (q .map) n place u going →
@@ -88,13 +87,11 @@ module _ {q : Task} {n c limit place : ℕ} {going : Going} {u : List ℕ} where
         counted = λ p j at≤ f.
             let to = known f in
             let h = g .held in
-            let j< : j < n = omega arith in
-            absurd (omega (arith, start p, latest-all (q .map) _ n j j< (meets f)));
+            absurd (list-none (q .map) n _ (start p) j (omega arith) (meets f) at≤);
         idle = still;
-        within = ⊎-elim (λ z. omega (arith, still (omega arith))) (λ p. omega (arith, start p, latest-le (q .map) (lineAt (q .map) (going .line) .end) n)) (le-or-lt (going .note) 0);
-        joined = λ z. ⊎-elim
-            (λ none. absurd (omega (arith, still (omega arith))))
-            (λ p. let e = start p in rw e (latest-hit (q .map) _ n (omega arith)))
+        list = ⊎-elim
+            (λ none. let z = still (omega arith) in record { within = omega arith; joined = λ some. absurd (omega arith) })
+            (λ p. list-start (q .map) n _ (start p))
             (le-or-lt (going .note) 0);
       }
 
@@ -108,21 +105,18 @@ module _ {q : Task} {n c limit place : ℕ} {going : Going} {u : List ℕ} where
       Relaxed q n c limit place going (at - 1) w v count′ end′ → next ≡ latest (q .map) (lineAt (q .map) (at - 1) .start) (at - 1) →
       Along q n c limit place going u v next count′ end′
   along-step {w} {v} {at} {next} k pos p e =
-      let i = k .within in
       let g = k .went .underway in
       let goes = along-goes k pos in
+      let all = g .held .line-count in
       record {
         went = went-then (k .went) (went-to p);
         goes = λ z. goes-then g goes (went-to p);
-        counted = λ z j next≤ f. ⊎-elim
-            (λ at≤. counted-more g goes (went-to p) (p .here) (λ d. k .counted z j (omega (arith, d)) f) f)
-            (λ j<. absurd (omega (arith, e, latest-all (q .map) _ (at - 1) j j< (meets f ∙ sym (k .joined pos)))))
-            (le-or-lt (at - 1) j);
+        counted = λ z j next≤ f.
+            list-passed (k .list) pos e (λ i. Follows (q .map) (going .line) i → Counted (q .map) c limit (going .note) (going .line) i v)
+            (λ i i< there at≤ f. counted-then g goes (went-to p) i< (k .counted z i at≤ f)) (p .here)
+            j (let to = known f in omega arith) (meets f) next≤ f;
         idle = λ z. absurd (omega (arith, along-some k pos));
-        within = omega (arith, latest-le (q .map) (lineAt (q .map) (at - 1) .start) (at - 1));
-        joined = λ z.
-            let hit : lineAt (q .map) (next - 1) .start ≡ lineAt (q .map) (at - 1) .start = rw e (latest-hit (q .map) _ (at - 1) (omega arith)) in
-            hit ∙ k .joined pos;
+        list = list-next (k .list) pos e;
       }
 
   along-end : {w : List ℕ} {at count end : ℕ} → at ≤ 0 → Along q n c limit place going u w at count end → WentAlong q n c limit place going u w count end
@@ -224,7 +218,7 @@ module _ {q : Task} {n c limit place other : ℕ} {going : Going} {u : List ℕ}
     walking-went = either (λ e a. a .went) (λ p a. a .went)
 
     pub walking-within : other ≡ 0 → at ≤ n
-    walking-within e = k .node e .within
+    walking-within e = k .node e .list .within
 
     pub walking-end : at ≤ 0 → Walked q n c limit place going other u w count end
     walking-end z = record { node = λ e. along-end z (k .node e); bans = λ p. bans-end z (k .bans p) }
@@ -238,17 +232,17 @@ module _ {q : Task} {n c limit place other : ℕ} {going : Going} {u : List ℕ}
 
       module _ {j : ℕ} (here : WalkLine w other at j) where
         pub walking-line : j < n
-        walking-line = either (λ e a. let i = a .within in omega (arith, here .node e)) (λ p a. rw (here .bans p) (second-in (a .went .underway .held) (a .walk) pos))
+        walking-line = either (λ e a. let i = a .list .within in omega (arith, here .node e)) (λ p a. rw (here .bans p) (second-in (a .went .underway .held) (a .walk) pos))
 
         pub walking-meets : (0 < other → lineAt (q .map) (other - 1) .end ≡ lineAt (q .map) (going .line) .end) →
             lineAt (q .map) j .start ≡ lineAt (q .map) (going .line) .end
-        walking-meets ends = either (λ e a. rw (here .node e) (a .joined pos)) (λ p a. rw (here .bans p) (second-starts (a .went .underway .held) (a .walk) pos) ∙ ends p)
+        walking-meets ends = either (λ e a. rw (here .node e) (a .list .joined pos)) (λ p a. rw (here .bans p) (second-starts (a .went .underway .held) (a .walk) pos) ∙ ends p)
 
         module _ {v : List ℕ} {next count′ end′ : ℕ} (p : Relaxed q n c limit place going j w v count′ end′) (then : WalkNext (q .map) v other at next) where
           pub walking-less : next < at
           walking-less =
               either
-              (λ e a. omega (arith, then .node e, latest-le (q .map) (lineAt (q .map) (at - 1) .start) (at - 1)))
+              (λ e a. list-less (a .list) pos (then .node e))
               (λ b a. omega (arith, then .bans b, earlier-kept a pos p))
 
           pub walking-step : Walking q n c limit place going other u v next count′ end′

@@ -313,8 +313,8 @@ pub record Marks (m : Map) (lines l : ℕ) (w v : List ℕ) : Type 0 where
   pub aside : Aside m lines w v
   pub told : (j : ℕ) → j < lines → turnAmong (m .bans) l j ≡ true → marked v j ≡ l
 
--- Such a pair for a line that goes on, which then marks the lines that it may not turn into.
-pub record PairFor (m : Map) (lines place : ℕ) (g : Going) (w v : List ℕ) (p : Pair) : Type 0 where
+-- What a line does before its walks: such a pair for it, and the lines that it may not turn into are marked.
+pub record WalksBegun (m : Map) (lines place : ℕ) (g : Going) (w v : List ℕ) (p : Pair) : Type 0 where
   pub pair : PairBefore m lines (g .line) (queued w place) w p
   pub barred : 0 < p .one → Free m (g .line) → ⊥
   pub some : 0 < p .one → 0 < g .note

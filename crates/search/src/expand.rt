@@ -31,7 +31,7 @@ ghost use Rattle.search.specs.Area.{Mirrored, Chained};
 ghost use Prim.Native.Nat.{ℕ, _≤_, _<_};
 ghost use Rattle.buffers.specs.Decides.{Decides};
 ghost use Rattle.buffers.specs.Kept.{Kept};
-ghost use Rattle.search.specs.Steps.{Task, Underway, NoteFor, GoesOn, GoneBefore, PairBefore, Marks, PairFor, Starts, WalkLine, WalkNext, Sets, Walked, Expanded};
+ghost use Rattle.search.specs.Steps.{Task, Underway, NoteFor, GoesOn, GoneBefore, PairBefore, Marks, WalksBegun, Starts, WalkLine, WalkNext, Sets, Walked, Expanded};
 
 // Two lines, 1 + each; or none, where the first is 0.
 pub struct Pair {
@@ -219,13 +219,13 @@ fn mark_bans(work: &mut [u32], lines: usize, l: usize, chain: usize)
     }
 }
 
-// For a line with banned turns that has something to do: two such lines that have gone on before it from the same node. Only the turns that are banned
-// from one of them are left for it. For any other line none. Then the line marks those that it may not turn into.
-fn pair_for(work: &mut [u32], lines: usize, place: usize, going: Going) -> Pair
+// What a line does before its walks. One with banned turns that has something to do marks the lines that it may not turn into, and gives two such lines
+// that have gone on before it from the same node: only the turns that are banned from one of them are left for it. Any other gives none.
+fn begin_walks(work: &mut [u32], lines: usize, place: usize, going: Going) -> Pair
     requires { ⌜ ((q : Task) × (class limit count end : ℕ) × Underway q lines class limit place count end (now work) × (place < end)
         × GoesOn (q .map) lines place (now work) going) ⌝ }
     ensures { λ r. ⌜ ((q : Task) (class limit count end : ℕ) → Underway q lines class limit place count end (now (work .entry)) → place < end
-        → GoesOn (q .map) lines place (now (work .entry)) going → PairFor (q .map) lines place going (now (work .entry)) (now (work .exit)) r) ⌝ }
+        → GoesOn (q .map) lines place (now (work .entry)) going → WalksBegun (q .map) lines place going (now (work .entry)) (now (work .exit)) r) ⌝ }
 {
     if going.chain == 0 {
         return Pair { one: 0, other: 0 };
@@ -268,7 +268,7 @@ pub fn expand(
         → Expanded q lines class limit place (now (work .entry)) (now (work .exit)) (r .count) (r .end)) ⌝ }
 {
     let going = going_at(work, lines, place);
-    let pair = pair_for(work, lines, place, going);
+    let pair = begin_walks(work, lines, place, going);
     let count = walks(pair);
     let mut reached = list;
     let mut i: usize = 0;

@@ -80,7 +80,7 @@ column c m joint noted own =
     let start = at-attributes-of .before .before .before .before .before .before .before .before .before .before .before .before .before .before in
     let l = at-loop .loop in
     let k = l .inv .2 m joint noted own in
-    c .test-candidate .ensures m (k .worked .set) joint (ends-there m (l .at - 1) (k .next (at-loop-test .loop-test .taken)))
+    c .test-candidate .ensures m (k .worked .set) joint (ends-there m (l .at - 1) (k .list .joined (at-loop-test .loop-test .taken)))
     (same-attributes at-attributes-of m own) (noted-kept m (start .args .lines) (start .args .stretch .now) (start .pre .0 .0) (k .kept) noted) (k .owned)
 
 sub-wide : tie.Need-sub-wide Inv-loop μ-loop
@@ -161,12 +161,12 @@ test-candidate-requires c κs =
     let own = owned at-test-own-column m (q .1) (q .2) (q .3) in
     let noted = noted-kept m (start .args .lines) (start .args .stretch .now) (p .0 .0) (own .kept) (q .3) in
     let k = l .inv .2 m (q .2) noted (own-again own) in (
-      (p .0 .1, omega (arith, p .0 .2, l .inv .1, o .kept .1 .1 .1 .1 .1 .1 .0), o .ensures .0, omega (arith, c .before .before .loop-test .taken, k .inside)),
+      (p .0 .1, omega (arith, p .0 .2, l .inv .1, o .kept .1 .1 .1 .1 .1 .1 .0), o .ensures .0, omega (arith, c .before .before .loop-test .taken, k .list .within)),
       (
         m,
         k .worked .set,
         q .2,
-        ends-there m (l .at - 1) (k .next (c .before .before .loop-test .taken)),
+        ends-there m (l .at - 1) (k .list .joined (c .before .before .loop-test .taken)),
         same-attributes at-attributes-of m (own-again own),
         noted-kept m (start .args .lines) (start .args .stretch .now) (p .0 .0) (k .kept) noted,
         k .owned,
@@ -186,7 +186,7 @@ next-leaving-requires c κs =
     let noted = noted-kept m (start .args .lines) (start .args .stretch .now) (start .pre .0 .0) (own .kept) (q .3) in
     let k = at-loop .loop .inv .2 m (q .2) noted (own-again own) in
     let r = column at-test-candidate m (q .2) noted (own-again own) in
-    ((at-loop-test .loop-test .taken, k .inside), (mirror m, mirrored (r .worked .set .held), r .worked .set .chained))
+    ((at-loop-test .loop-test .taken, k .list .within), (mirror m, mirrored (r .worked .set .held), r .worked .set .chained))
 
 loop-less : tie.Need-loop-less Inv-loop μ-loop
 loop-less c =

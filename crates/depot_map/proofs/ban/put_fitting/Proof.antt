@@ -4,7 +4,7 @@ use borrow.Author.Tests.{not-true, not-false}
 use Rattle.work_area.specs.Held.{heldLine}
 use Rattle.work_area.specs.Mirror.{mirrorTurns}
 use Rattle.work_area.proofs.Held.{listed-length}
-use Rattle.banned_turns.proofs.Fitting.{fits-second}
+use Rattle.banned_turns.proofs.Fitting.{fits-first, fits-second}
 use Rattle.depot_map.proofs.Adding.{sort-off, sort-unfit, sort-fit}
 use native.Mathlib.Omega.{arith}
 use borrow.Author.Needs.{needs}
@@ -22,8 +22,9 @@ put-once-requires c κs =
     let start = c .before .before .before .before .before .before .before in
     let pre = start .pre .0 in
     let so-far = start .pre .1 in
-    let fit = fits-second _ _ (sym (c .before .before .fits2 .ensures) ∙ c .before .if2 .taken) in
-    ((pre .0, pre .1, pre .2, omega (arith, fit, listed-length (heldLine (start .args .work .now)) (start .args .lines))), (mirrorTurns (so-far .0), so-far .1 .taken .held (not-false _ (c .before .before .before .before .if1 .left))))
+    let fit = sym (c .before .before .fits2 .ensures) ∙ c .before .if2 .taken in
+    let all = listed-length (heldLine (start .args .work .now)) (start .args .lines) in
+    ((pre .0, pre .1, pre .2, omega (arith, fits-first _ _ fit, all), omega (arith, fits-second _ _ fit, all)), (mirrorTurns (so-far .0), so-far .1 .taken .held (not-false _ (c .before .before .before .before .if1 .left))))
 
 same-length : tie.Need-same-length
 same-length c = search needs

@@ -32,7 +32,7 @@ same-length-2 c = search needs
 returns-2 : tie.Need-returns-2
 returns-2 c =
     let pre = c .before .before .before .before .before .before .before .before .before .before .pre .0 in
-    add-new (λ bans held. c .before .before .before .before .before .in-chain .ensures bans _ held (c .before .before .before .before .before .before .before .bans-from .ensures bans held)) (c .before .before .before .before .if1 .left) (pre .1) (pre .2) (pre .3)
+    add-new (λ bans held. c .before .before .before .before .before .in-chain .ensures bans _ held (c .before .before .before .before .before .before .before .bans-from .ensures bans held)) (c .before .before .before .before .if1 .left) (pre .1) (pre .2) (pre .4)
     (c .before .before .put-ban .ensures)
 
 pub put-once-spec : {M : Type 1} → statement M

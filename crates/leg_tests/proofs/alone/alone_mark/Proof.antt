@@ -2,7 +2,7 @@
 use Rattle.leg_tests.specs.Leaving.{Leaving}
 use Rattle.leg_tests.proofs.LeavingLists.{Along, along-start, along-on}
 use Rattle.stretches.specs.Attributes.{attributesBy}
-use Rattle.search.proofs.Leaving.{latest-le}
+use Rattle.search.proofs.Leaving.{list-less}
 use Rattle.fields.specs.Leg.{attributesIn}
 use Rattle.work_area.specs.Area.{Held}
 use Rattle.model.specs.Lines.{lineAt, leaving}
@@ -64,7 +64,7 @@ leaves-as-requires : tie.Need-leaves-as-requires Inv-loop μ-loop
 leaves-as-requires c κs =
     let at-loop-test = c .before in
     let q = c .before .before .before .before .before .before .before .before .before .before .pre .1 in
-    (omega (arith, at-loop-test .loop-test .taken, at-loop-test .before .loop .inv (q .0) (q .1) (q .2) .inside), (q .0, q .1))
+    (omega (arith, at-loop-test .loop-test .taken, at-loop-test .before .loop .inv (q .0) (q .1) (q .2) .list .within), (q .0, q .1))
 
 returns : tie.Need-returns Inv-loop μ-loop
 returns c m held lists alone =
@@ -76,19 +76,19 @@ returns c m held lists alone =
     let here = at-loop-test .before .loop .inv m held lists in
     let leaves = rw (c .if2 .taken) at (c .before .leaves-as .ensures m held) in
     c .before .before .if1 .taken
-    (alone _ (omega (arith, some, here .inside)) (here .there some ∙ own .0) (leaves ∙ own .1) ∙ sym (at-wide .wide .ensures .0))
+    (alone _ (omega (arith, some, here .list .within)) (here .list .joined some ∙ own .0) (leaves ∙ own .1) ∙ sym (at-wide .wide .ensures .0))
 
 next-from-requires : tie.Need-next-from-requires Inv-loop μ-loop
 next-from-requires c κs =
     let q = c .before .before .before .before .before .before .before .before .before .before .pre .1 in
     let l = c .before .before .loop in
-    ((c .before .loop-test .taken, l .inv (q .0) (q .1) (q .2) .inside), (q .0, q .1, q .2))
+    ((c .before .loop-test .taken, l .inv (q .0) (q .1) (q .2) .list .within), (q .0, q .1, q .2))
 
 loop-less : tie.Need-loop-less Inv-loop μ-loop
 loop-less c =
     let q = c .before .before .before .before .before .before .before .before .before .before .before .pre .1 in
     let l = c .before .before .before .loop in
-    omega (arith, c .before .before .loop-test .taken, c .next-from .ensures (q .0) (q .2), latest-le (q .0) (lineAt (q .0) (l .at - 1) .start) (l .at - 1))
+    list-less (l .inv (q .0) (q .1) (q .2) .list) (c .before .before .loop-test .taken) (c .next-from .ensures (q .0) (q .2))
 
 loop-again : tie.Need-loop-again Inv-loop μ-loop
 loop-again c m held lists =
@@ -101,7 +101,7 @@ returns-2 c m held lists l inside from leaves =
     let at-attributes-of = c .before .before .before in
     let at-wide = at-attributes-of .before .before in
     let own = alike at-attributes-of m held in
-    c .before .loop .inv m held lists .passed l (omega (arith, c .loop-test .left)) inside (from ∙ sym (own .0)) (leaves ∙ sym (own .1))
+    c .before .loop .inv m held lists .passed l inside (from ∙ sym (own .0)) (omega (arith, c .loop-test .left)) (leaves ∙ sym (own .1))
     ∙ at-wide .wide .ensures .0
 
 pub alone-mark-spec : {M : Type 1} → statement M

@@ -1,6 +1,6 @@
 -- `list_leaving` meets its contract: after `l` turns the lines below `l` are on their lists.
 use Rattle.leg_tests.specs.Leaving.{Listed}
-use Rattle.leg_tests.proofs.LeavingLists.{list-none, listed-again, list-more, start-small}
+use Rattle.leg_tests.proofs.LeavingLists.{listed-none, listed-again, listed-more, start-small}
 use Rattle.leg_tests.proofs.Sifting.{worked-then}
 use Rattle.work_area.specs.Area.{linePlace, startNode}
 use Rattle.work_area.proofs.Holding.{few}
@@ -26,7 +26,7 @@ known : (c : tie.In-loop Inv-loop μ-loop) →
     (workLength ≤ length (k .work)) × (k .l < greatestLineCount) × (getD (k .work) (linePlace (k .l) + startNode) 0 < greatestNodeCount)
 known c =
     let p = c .before .before .before .before .before .before .before .pre in
-    let none = list-none (c .before .before .before .before .fill .ensures) (p .1) in
+    let none = listed-none (c .before .before .before .before .fill .ensures) (p .1) in
     let l = c .before .loop .inv .2 (p .0) (listed-again none) in
     (l .worked .set .held .full, omega (arith, c .loop-test .taken, few (p .1 .held)), start-small l (c .loop-test .taken))
 
@@ -95,7 +95,7 @@ loop-again c = (
   omega (arith, c .before .before .before .before .loop-test .taken),
   simp length-set (c .before .before .before .before .before .loop .inv .1),
   λ m k.
-      list-more (c .before .before .before .before .before .loop .inv .2 m k) (c .before .before .before .before .loop-test .taken)
+      listed-more (c .before .before .before .before .before .loop .inv .2 m k) (c .before .before .before .before .loop-test .taken)
       (c .before .wide .ensures .0 ∙ c .before .before .field .ensures),
 )
 
@@ -104,7 +104,7 @@ same-length c = c .before .loop .inv .1 ∙ c .before .before .before .before .f
 
 returns : tie.Need-returns Inv-loop μ-loop
 returns c m set =
-    let none = list-none (c .before .before .before .before .fill .ensures) set in
+    let none = listed-none (c .before .before .before .before .fill .ensures) set in
     let e : c .before .loop .l ≡ c .before .before .before .before .before .before .before .args .lines = omega (arith, c .loop-test .left) in
     let s = rw e at (c .before .loop .inv .2 m (listed-again none)) in
     record { leaving = s .leaving; worked = worked-then (none .worked) (s .worked) }

@@ -11,7 +11,7 @@ use Rattle.search.proofs.expand.expand.Tie as tie
 use Rattle.search.proofs.expand.expand.Reads as reads
 use Rattle.search.proofs.expand.expand.Lts as lts
 use Rattle.search.proofs.expand.going_at.Reads as going-at-reads
-use Rattle.search.proofs.expand.pair_for.Reads as pair-for-reads
+use Rattle.search.proofs.expand.begin_walks.Reads as begin-walks-reads
 use Rattle.search.proofs.expand.walk.Reads as walk-reads
 use Rattle.search.proofs.expand.walk_of.Reads as walk-of-reads
 use Rattle.search.proofs.expand.walks.Reads as walks-reads
@@ -29,20 +29,20 @@ abbrev μ-loop : tie.MeasureT-loop
 known : (c : tie.In-loop Inv-loop μ-loop) →
     let p = c .before .before .before .before .before .before .before .before .before .before .pre in
     let a = c .before .before .before .before .before .before .before .before .before .before .args in
-    Ready (p .1 .0) (a .lines) (a .class) (a .limit) (a .place) (c .before .before .before .before .before .before .before .going-at .result) (c .before .before .before .before .before .pair-for .result) (c .before .before .before .before .before .pair-for .last .0) (a .list .count) (a .list .end)
+    Ready (p .1 .0) (a .lines) (a .class) (a .limit) (a .place) (c .before .before .before .before .before .before .before .going-at .result) (c .before .before .before .before .before .begin-walks .result) (c .before .before .before .before .before .begin-walks .last .0) (a .list .count) (a .list .end)
 known c =
     let p = c .before .before .before .before .before .before .before .before .before .before .pre in
     let g = p .1 .1 in
     let o = c .before .before .before .before .before .before .before .going-at .ensures _ _ _ _ _ g (p .0) in
-    ready g (p .0) o (c .before .before .before .before .before .pair-for .ensures _ _ _ _ _ g (p .0) o)
+    ready g (p .0) o (c .before .before .before .before .before .begin-walks .ensures _ _ _ _ _ g (p .0) o)
 
 going-at-requires : tie.Need-going-at-requires Inv-loop μ-loop
 going-at-requires c κs =
     let p = c .before .before .pre in
     (p .1 .0, _, _, _, _, p .1 .1, p .0)
 
-pair-for-requires : tie.Need-pair-for-requires Inv-loop μ-loop
-pair-for-requires c κs =
+begin-walks-requires : tie.Need-begin-walks-requires Inv-loop μ-loop
+begin-walks-requires c κs =
     let p = c .before .before .before .before .pre in
     (p .1 .0, _, _, _, _, p .1 .1, p .0, c .before .going-at .ensures _ _ _ _ _ (p .1 .1) (p .0))
 
@@ -89,7 +89,7 @@ returns c =
     λ q g.
     let inside = c .before .before .before .before .before .before .before .before .before .before .pre .0 in
     let o = c .before .before .before .before .before .before .before .going-at .ensures q _ _ _ _ g inside in
-    let p = c .before .before .before .before .before .pair-for .ensures q _ _ _ _ g inside o in
+    let p = c .before .before .before .before .before .begin-walks .ensures q _ _ _ _ g inside o in
     let r = ready g inside o p in
     expanded-kept g (p .aside) (walks-end r (c .before .loop .inv .2 q r) (c .before .before .walks .ensures) (c .before .loop .inv .0) (c .loop-test .left))
 
@@ -100,7 +100,7 @@ expand-spec =
     Inv-loop
     μ-loop
     going-at-requires
-    pair-for-requires
+    begin-walks-requires
     walks-requires
     loop-holds
     walk-of-requires

@@ -5,7 +5,7 @@ use Rattle.model.specs.Map.{Map}
 use Rattle.model.specs.Lines.{lineAt}
 use Rattle.search.specs.Ways.{node}
 use Rattle.search.specs.Steps.{task, Seeding}
-use Rattle.search.proofs.Leaving.{latest-le}
+use Rattle.search.proofs.Leaving.{list-less}
 use Rattle.search.proofs.Seeding.{SeedingNode, node-start, node-step, node-done}
 use native.Mathlib.Omega.{arith}
 use borrow.Author.Needs.{needs}
@@ -39,30 +39,30 @@ seed-requires c κs =
     let p = c .before .before .before .before .before .before .pre in
     let k = c .before .before .loop .inv (p .0) (p .1) (p .2) in
     let pos = c .before .loop-test .taken in
-    (omega (arith, k .within), (task (p .0) (node (c .before .before .before .before .before .before .args .v)), k .seeding, k .fresh _ (omega arith)))
+    (omega (arith, k .list .within), (task (p .0) (node (c .before .before .before .before .before .before .args .v)), k .seeding, k .fresh _ (omega arith)))
 
 next-leaving-requires : tie.Need-next-leaving-requires Inv-loop μ-loop
 next-leaving-requires c κs =
     let p = c .before .before .before .before .before .before .before .before .before .before .pre in
     let k = c .before .before .before .before .before .before .loop .inv (p .0) (p .1) (p .2) in
     let pos = c .before .before .before .before .before .loop-test .taken in
-    let g = c .before .before .before .seed .ensures _ (k .seeding) (k .fresh _ (omega arith)) (k .joined pos) .seeding .underway in
-    ((pos, k .within), (p .0, g .held, g .chained))
+    let g = c .before .before .before .seed .ensures _ (k .seeding) (k .fresh _ (omega arith)) (k .list .joined pos) .seeding .underway in
+    ((pos, k .list .within), (p .0, g .held, g .chained))
 
 loop-less : tie.Need-loop-less Inv-loop μ-loop
 loop-less c =
     let p = c .before .before .before .before .before .before .before .before .before .before .before .pre in
     let k = c .before .before .before .before .before .before .before .loop .inv (p .0) (p .1) (p .2) in
     let pos = c .before .before .before .before .before .before .loop-test .taken in
-    let g = c .before .before .before .before .seed .ensures _ (k .seeding) (k .fresh _ (omega arith)) (k .joined pos) .seeding .underway in
-    omega (arith, c .next-leaving .ensures (p .0) (g .held) (g .chained), latest-le (p .0) (lineAt (p .0) (c .before .before .before .before .before .before .before .loop .at - 1) .start) (c .before .before .before .before .before .before .before .loop .at - 1))
+    let g = c .before .before .before .before .seed .ensures _ (k .seeding) (k .fresh _ (omega arith)) (k .list .joined pos) .seeding .underway in
+    list-less (k .list) pos (c .next-leaving .ensures (p .0) (g .held) (g .chained))
 
 loop-again : tie.Need-loop-again Inv-loop μ-loop
 loop-again c =
     λ m s v<.
     let k = c .before .before .before .before .before .before .before .loop .inv m s v< in
     let pos = c .before .before .before .before .before .before .loop-test .taken in
-    let t = c .before .before .before .before .seed .ensures _ (k .seeding) (k .fresh _ (omega arith)) (k .joined pos) in
+    let t = c .before .before .before .before .seed .ensures _ (k .seeding) (k .fresh _ (omega arith)) (k .list .joined pos) in
     let g = t .seeding .underway in
     node-step k pos t (c .next-leaving .ensures m (g .held) (g .chained))
 

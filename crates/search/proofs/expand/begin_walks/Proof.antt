@@ -1,4 +1,4 @@
--- `pair_for` meets its contract: none for a line that is free or has nothing to do.
+-- `begin_walks` meets its contract: none for a line that is free or has nothing to do.
 use mathlib.Core.Path.{_∙_}
 use Rattle.search.proofs.Holding.{held-kept, few}
 use Rattle.search.proofs.Marking.{aside-none, aside-then, aside-last}
@@ -6,10 +6,10 @@ use Rattle.search.proofs.Reached.{count-le}
 use Rattle.search.proofs.AtPlace.{waiting}
 use native.Mathlib.Omega.{arith}
 use borrow.Author.Needs.{needs}
-use Rattle.search.proofs.expand.pair_for.Statement.{statement}
-use Rattle.search.proofs.expand.pair_for.Tie as tie
-use Rattle.search.proofs.expand.pair_for.Reads as reads
-use Rattle.search.proofs.expand.pair_for.Lts as lts
+use Rattle.search.proofs.expand.begin_walks.Statement.{statement}
+use Rattle.search.proofs.expand.begin_walks.Tie as tie
+use Rattle.search.proofs.expand.begin_walks.Reads as reads
+use Rattle.search.proofs.expand.begin_walks.Lts as lts
 use Rattle.search.proofs.expand.keep_last.Reads as keep-last-reads
 use Rattle.search.proofs.expand.mark_bans.Reads as mark-bans-reads
 use Rattle.search.proofs.expand.pair_before.Reads as pair-before-reads
@@ -90,8 +90,8 @@ returns-3 c =
       aside = aside-then (aside-last (few (g .held)) kept) (marks .aside);
     }
 
-pub pair-for-spec : {M : Type 1} → statement M
-pair-for-spec =
+pub begin-walks-spec : {M : Type 1} → statement M
+begin-walks-spec =
     tie.close
     (tie.spec
     returns
