@@ -129,13 +129,15 @@ module _ {u w : List ℕ} {n i : ℕ} {m : Map} (h : Mirrored u n m) (i< : i < n
   pub start-at : getD w (linePlace i + endNode) 0 ≡ lineAt m i .start
   start-at = held-kept (omega arith) (k .kept) h .line-held i 1 i< (omega arith)
 
-  pub start-small : getD w (linePlace i + endNode) 0 < greatestNodeCount
-  start-small = let f = h .formed in omega (arith, start-at, line-ok h i< .start)
+  end-at : getD w (linePlace i + startNode) 0 ≡ lineAt m i .end
+  end-at = held-kept (omega arith) (k .kept) h .line-held i 0 i< (omega arith)
 
-  pub head-small : {v : ℕ} → v ≡ getD w (linePlace i + endNode) 0 → getD w (headsFrom + v) 0 ≤ i
-  head-small {v} at =
-      let from : v ≡ lineAt m i .start = at ∙ start-at in
-      rw from (omega (arith, k .heads _ (line-ok h i< .start), latest-le m (lineAt m i .start) i))
+  -- Its two nodes are nodes of the map, and what stands in the cell of a node so far is small.
+  pub nodes-in : (getD w (linePlace i + startNode) 0 < length (m .nodes)) × (getD w (linePlace i + endNode) 0 < length (m .nodes))
+  nodes-in = let o = line-ok h i< in (omega (arith, end-at, o .end), omega (arith, start-at, o .start))
+
+  pub head-small : (v : ℕ) → v < length (m .nodes) → (v < greatestNodeCount) × (getD w (headsFrom + v) 0 ≤ i)
+  head-small v v< = let f = h .formed in (omega arith, omega (arith, k .heads v v<, latest-le m v i))
 
   pub link-step : {v : ℕ} → v ≡ getD w (linePlace i + endNode) 0 →
       Linking u (i + 1) m (set (set (set w (nextFrom + i) (getD w (headsFrom + v) 0 + markWeight * i)) (headsFrom + v) (i + 1)) (lengthsFrom + i) (far * noteWeight))
@@ -144,7 +146,7 @@ module _ {u w : List ℕ} {n i : ℕ} {m : Map} (h : Mirrored u n m) (i< : i < n
       let x = head + markWeight * i in
       let w₁ = set w (nextFrom + i) x in
       let w₂ = set w₁ (headsFrom + v) (i + 1) in
-      let z = start-small in
+      let small = head-small (lineAt m i .start) (line-ok h i< .start) .0 in
       let n≤ = few h in
       let s = k .kept .same in
       let from : v ≡ lineAt m i .start = at ∙ start-at in

@@ -1,9 +1,9 @@
 -- `link` meets its contract: after `i` turns the adjacency lists of the lines below `i` are made.
-use Rattle.work_area.specs.Area.{linePlace, endNode, headsFrom}
+use Rattle.work_area.specs.Area.{headsFrom}
 use Rattle.search.specs.Area.{Mirrored}
 use Rattle.model.specs.Map.{greatestLineCount, greatestNodeCount, Map}
 use Rattle.model.specs.Work.{workLength}
-use Rattle.search.proofs.Leaving.{Linking, link-none, link-step, linked, start-small, head-small}
+use Rattle.search.proofs.Leaving.{Linking, link-none, link-step, linked, nodes-in, head-small}
 use Rattle.buffers.proofs.Kept.{kept-then, kept-within}
 use Rattle.search.proofs.Holding.{held-kept, few}
 use lib.ListN.{length, getD, length-set}
@@ -22,15 +22,13 @@ abbrev μ-loop : tie.MeasureT-loop
 μ-loop work₀ lines i₀ work i = lines - i
 
 -- What is known at the start of each turn, and once the node is read.
-known : (c : tie.In-loop Inv-loop μ-loop) →
-    let k = c .before .loop in
-    (workLength ≤ length (k .work)) × (k .i < greatestLineCount) × (getD (k .work) (linePlace (k .i) + endNode) 0 < greatestNodeCount)
+known : (c : tie.In-loop Inv-loop μ-loop) → let k = c .before .loop in (workLength ≤ length (k .work)) × (k .i < greatestLineCount)
 known c =
     let p = c .before .before .before .before .before .before .before .pre in
     let h = held-kept (omega arith) (c .before .before .before .before .fill .ensures .kept) (p .1) in
     let l = c .before .loop .inv in
     let t = c .loop-test .taken in
-    (let z = l .1 in omega arith, omega (arith, few h), start-small h t (l .2 (p .0) h))
+    (let z = l .1 in omega arith, omega (arith, few h))
 
 turn : (c : tie.After-wide Inv-loop μ-loop) →
     let k = c .before .before .before .before .loop in
@@ -41,8 +39,11 @@ turn c =
     let f = c .before .field .ensures in
     let p = c .before .before .before .before .before .before .before .before .before .before .pre in
     let h = held-kept (omega arith) (c .before .before .before .before .before .before .before .fill .ensures .kept) (p .1) in
-    let l = c .before .before .before .before .loop .inv in
-    (k .0, k .1, omega arith, head-small h (c .before .before .before .loop-test .taken) (l .2 (p .0) h) (e .0 ∙ f))
+    let l = c .before .before .before .before .loop .inv .2 (p .0) h in
+    let t = c .before .before .before .loop-test .taken in
+    let n = nodes-in h t l in
+    let v = head-small h t l (c .wide .result) (omega (arith, e .0, f, n .0, n .1)) in
+    (k .0, k .1, v .0, v .1)
 
 fill-requires : tie.Need-fill-requires Inv-loop μ-loop
 fill-requires c κs = search needs
