@@ -1,11 +1,12 @@
-# `make` reads the ridge example, `make ridge-ban` the one with a turn banned, `make test` runs the gate,
+# `make` reads the ridge example, `make ridge-ban` the one with a turn banned, `make islands` the one across the 180th meridian,
+# `make test` runs the gate,
 # `make bench` measures against plain Rust (`make bench ROWS=read`: of one kind; `make bench ROWS=worst`: maps made against reader and writer, which no
 # other run has and which may take minutes),
-# `make count` counts the proved writer's searches and leg tests, `make host` runs a C host on the ridge, `make test-host` tests the C functions,
-# `make test-plain` tests plain Rust and holds it to the stored cases,
+# `make count` counts the proved writer's searches and leg tests, `make host` runs a C host on the ridge and on the islands,
+# `make test-host` tests the C functions, `make test-plain` tests plain Rust and holds it to the stored cases,
 # `make differential` holds the C functions to plain Rust (`make differential CALLS=1000000 SEED=2`),
 # `make counts` counts definitions, code, proofs and tests, `make figures` makes docs/FIGURES.md anew.
-.PHONY: ridge ridge-ban test bench count archive host test-host test-plain differential counts figures
+.PHONY: ridge ridge-ban islands test bench count archive host test-host test-plain differential counts figures
 .DELETE_ON_ERROR:
 
 CALLS = 400000
@@ -26,6 +27,9 @@ ridge: target/bin/openlr_show
 
 ridge-ban: target/bin/openlr_show
 	cd examples/ridge_ban && ../../target/bin/openlr_show
+
+islands: target/bin/openlr_show
+	cd examples/islands && ../../target/bin/openlr_show
 
 target/bin/openlr_show: $(SOURCES)
 	rt check openlr_show >&2
@@ -50,6 +54,7 @@ host: $(ARCHIVE)
 	mkdir -p target/host
 	$(CC) $(C_FLAGS) -O2 -o target/host/host examples/host.c $(ARCHIVE)
 	target/host/host examples/ridge/map.bin 500 0 0 1
+	target/host/host examples/islands/map.bin 0 0 0 1 2
 
 test-host: $(ARCHIVE) target/bin/openlr_show target/host/stack
 	mkdir -p target/host
@@ -66,6 +71,8 @@ test-host: $(ARCHIVE) target/bin/openlr_show target/host/stack
 	else echo "no C++ compiler: openlr.h is not tried in C++"; fi
 	target/host/host examples/ridge/map.bin 500 0 0 1 >target/host/printed
 	diff target/host/printed tests/host_ridge.txt
+	target/host/host examples/islands/map.bin 0 0 0 1 2 >target/host/printed
+	diff target/host/printed tests/host_islands.txt
 	python3 oracle/check_host.py target/host/answer 500
 	python3 oracle/check_format_page.py target/host/answer
 

@@ -24,7 +24,8 @@ def stored_cases(name):
 def counts():
     """What is counted, and how many there are."""
     written = stored_cases("test_writes")
-    yield "lines of definitions that demand 3 rests on (crates/model/specs)", lines_of("model/specs/**/*.antt")
+    before = lines_of("model/specs/AsBefore.antt")
+    yield "lines of definitions that demand 3 rests on (crates/model/specs without AsBefore)", lines_of("model/specs/**/*.antt") - before
     yield "lines of all definitions (crates/*/specs)", lines_of("*/specs/**/*.antt")
     yield "lines of code (crates/*/src)", lines_of("*/src/**/*.rt")
     yield "lines of proofs (crates/*/proofs)", lines_of("*/proofs/**/*.antt")

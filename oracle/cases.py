@@ -2,15 +2,18 @@
 
 import random
 from dataclasses import dataclass, replace
+from itertools import combinations
 
 from damages import map_damage
 from depot_map import DepotMap, map_to_bytes, read_map
 from fields import LONGEST_LEG
 from legs import Leg, LegSearch, Readings, describe_leg, list_length
+from meridian_recipes import MERIDIAN_READ_RECIPES, MERIDIAN_WRITE_RECIPES, READ_RECIPES_ACROSS, WRITE_RECIPES_ACROSS, all_across
 from outcome import RefusedCall
 from read_recipes import READ_RECIPES, read_outcome
 from recipes import any_sample
-from sample_maps import Sample, chain_of_blocks, chain_of_ties, full_size_sample, other_first_line_sample, other_way, pairs_of, random_walk
+from sample_maps import (FIRST_BEHIND, LAST_BEFORE, MapBuilder, Sample, across_meridian, chain_of_blocks, chain_of_ties, full_size_sample,
+                         other_first_line_sample, other_way, pairs_of, random_walk, sample_across)
 from write_recipes import WRITE_RECIPES, write_outcome
 
 
@@ -85,6 +88,38 @@ MAP_RECIPES = {
     "refusal 5": damaged_map(5),
     "refusal 6": damaged_map(6),
     "refusal 23": damaged_map(23),
+}
+
+
+def good_map_across(rng, turn):
+    label, map_bytes = good_map(rng, turn)
+    return label, map_to_bytes(across_meridian(read_map(map_bytes)))
+
+
+def damaged_map_across(refusal):
+    def recipe(rng, turn):
+        depot_map = across_meridian(any_sample(rng, turn).depot_map)
+        damage = map_damage(depot_map, refusal, turn)
+        return damage.label, damage.apply(depot_map)
+    return recipe
+
+
+def nodes_at_meridian(rng, turn):
+    """Every two of the three longitudes on each side that are nearest to the meridian. Across it no two have the same code."""
+    longitudes = [LAST_BEFORE - 2, LAST_BEFORE - 1, LAST_BEFORE, FIRST_BEHIND, FIRST_BEHIND + 1, FIRST_BEHIND + 2]
+    pairs = list(combinations(longitudes, 2))
+    builder = MapBuilder()
+    latitude = rng.choice([0, 9_000_000])
+    nodes = [builder.node(longitude, latitude) for longitude in rng.sample(pairs[turn % len(pairs)], 2)]
+    builder.line(*nodes, 1_000)
+    return f"{pairs[turn % len(pairs)]}", map_to_bytes(builder.build())
+
+
+MERIDIAN_MAP_RECIPES = {
+    "good map, across the meridian": good_map_across,
+    "two nodes at the meridian": nodes_at_meridian,
+    "refusal 4, across the meridian": damaged_map_across(4),
+    "refusal 6, across the meridian": damaged_map_across(6),
 }
 
 
@@ -170,6 +205,17 @@ LEG_RECIPES = {
 }
 
 
+def leg_across(recipe):
+    """What another recipe makes, on its map shifted to lie across the meridian. The leg stays: it names nodes and not where they are."""
+    def recipe_across(rng, turn):
+        sample, leg = recipe(rng, turn)
+        return sample_across(sample), leg
+    return recipe_across
+
+
+LEG_RECIPES_ACROSS = all_across(LEG_RECIPES, leg_across)
+
+
 def make_cases(kind, recipes, seed, count, make_case, left_out=None):
     """Recipes in turn, but for the one left out. The turn tells a recipe how often it has been used, so that it can vary its edges."""
     names = list(recipes)
@@ -182,18 +228,22 @@ def make_cases(kind, recipes, seed, count, make_case, left_out=None):
     return cases
 
 
-def map_cases(seed, count):
-    def make_case(name, detail, map_bytes):
-        return MapCase(f"{name}: {detail}", map_bytes, map_outcome(map_bytes))
-    return make_cases("map", MAP_RECIPES, seed, count, make_case)
+def map_cases_of(kind, recipes):
+    def make_cases_of_kind(seed, count):
+        def make_case(name, detail, map_bytes):
+            return MapCase(f"{name}: {detail}", map_bytes, map_outcome(map_bytes))
+        return make_cases(kind, recipes, seed, count, make_case)
+    return make_cases_of_kind
 
 
-def leg_cases(seed, count, left_out=None):
-    def make_case(name, sample, leg):
-        readings = LegSearch(sample.depot_map).readings(leg)
-        label = f"{name}: {sample.label}"
-        return LegCase(label, sample.depot_map, map_to_bytes(sample.depot_map), leg, readings)
-    return make_cases("leg", LEG_RECIPES, seed, count, make_case, left_out)
+def leg_cases_of(kind, recipes):
+    def make_cases_of_kind(seed, count, left_out=None):
+        def make_case(name, sample, leg):
+            readings = LegSearch(sample.depot_map).readings(leg)
+            label = f"{name}: {sample.label}"
+            return LegCase(label, sample.depot_map, map_to_bytes(sample.depot_map), leg, readings)
+        return make_cases(kind, recipes, seed, count, make_case, left_out)
+    return make_cases_of_kind
 
 
 def call_cases(kind, recipes, outcome):
@@ -204,5 +254,15 @@ def call_cases(kind, recipes, outcome):
     return make_cases_of_kind
 
 
+map_cases = map_cases_of("map", MAP_RECIPES)
+leg_cases = leg_cases_of("leg", LEG_RECIPES)
 read_cases = call_cases("read", READ_RECIPES, read_outcome)
 write_cases = call_cases("write", WRITE_RECIPES, write_outcome)
+# The same, case by case, on maps shifted to lie across the meridian.
+leg_cases_across = leg_cases_of("leg", LEG_RECIPES_ACROSS)
+read_cases_across = call_cases("read", READ_RECIPES_ACROSS, read_outcome)
+write_cases_across = call_cases("write", WRITE_RECIPES_ACROSS, write_outcome)
+# The edges of longitudes brought round.
+meridian_map_cases = map_cases_of("meridian map", MERIDIAN_MAP_RECIPES)
+meridian_read_cases = call_cases("meridian read", MERIDIAN_READ_RECIPES, read_outcome)
+meridian_write_cases = call_cases("meridian write", MERIDIAN_WRITE_RECIPES, write_outcome)

@@ -7,7 +7,7 @@ import argparse
 from dataclasses import replace
 
 from answers import answers, hexadecimal, report
-from cases import read_cases, write_cases
+from cases import meridian_read_cases, meridian_write_cases, read_cases, read_cases_across, write_cases, write_cases_across
 from host_calls import MOST_LINES, line_bytes
 from outcome import outcome_text
 from read_recipes import read_outcome
@@ -19,21 +19,27 @@ def one_row(outcome):
     return outcome_text(outcome).replace("\n", " ")
 
 
+def with_meridian(seed, count, make_cases, make_cases_across, make_meridian_cases):
+    """As many cases as are asked for, of which every fifth lies at the meridian: shifted to it, or with edges of its own."""
+    tenth = count // 10
+    return [*make_cases(seed, count - 2 * tenth), *make_cases_across(seed, tenth), *make_meridian_cases(seed, tenth)]
+
+
 def read_calls(seed, count):
     """Rows for the program and expected answers. "A line buffer holds a quarter of its bytes, rounded down": up to three bytes more change nothing."""
-    for index, case in enumerate(read_cases(seed, count)):
+    for index, case in enumerate(with_meridian(seed, count, read_cases, read_cases_across, meridian_read_cases)):
         given = replace(case.given, work_length=LEAST_WORK_LENGTH, line_room=min(case.given.line_room, MOST_LINES))
         room = 4 * case.given.line_room + index % 4
         yield f"read {hexadecimal(given.map_bytes)} {hexadecimal(given.reference)} {room}", one_row(read_outcome(given))
 
 
 def write_calls(seed, count):
-    """Likewise. Every fourth stretch has one to three bytes too many, "a byte list whose length is no multiple of four"."""
-    for index, case in enumerate(write_cases(seed, count)):
+    """Likewise. Every fifth stretch has one to three bytes too many, "a byte list whose length is no multiple of four"."""
+    for index, case in enumerate(with_meridian(seed, count, write_cases, write_cases_across, meridian_write_cases)):
         given = replace(case.given, work_length=LEAST_WORK_LENGTH)
         stretch = line_bytes(given.lines)
-        if index % 4 == 3:
-            stretch += bytes(index // 4 % 3 + 1)
+        if index % 5 == 4:
+            stretch += bytes(index // 5 % 3 + 1)
             given = replace(given, lines=())
         numbers = f"{given.pos} {given.neg} {given.byte_room}"
         yield f"write {hexadecimal(given.map_bytes)} {hexadecimal(stretch)} {numbers}", one_row(write_outcome(given))

@@ -15,6 +15,7 @@ from depot_map import (GREATEST_LATITUDE, GREATEST_LONGITUDE, LARGEST_NUMBER, MO
 from read_recipes import around, bytes_of_legs, longest_reference
 from sample_maps import ridge_map
 from show import shown
+from test_meridian import RIDGE_ACROSS, from_the_ridge_across
 from test_scope_paper import RIDGE, THREE_POINTS, THREE_POINTS_OFFSET_500, TWO_POINTS
 
 # More than any buffer that the program could keep for a map or a reference.
@@ -73,6 +74,8 @@ def folders():
     yield "the ridge with a turn banned, two points", {"map.bin": map_to_bytes(ridge_map((0, 2))), "ref.bin": TWO_POINTS}
     yield "legs that meet in a banned turn", {"map.bin": map_to_bytes(ridge_map((0, 1))), "ref.bin": THREE_POINTS}
     yield "a line banned after itself", {"map.bin": map_to_bytes(ridge_map((0, 0))), "ref.bin": THREE_POINTS}
+    yield "the ridge across the meridian", {"map.bin": RIDGE_ACROSS, "ref.bin": from_the_ridge_across(THREE_POINTS_OFFSET_500)}
+    yield "a point at 17,999,999", {"map.bin": RIDGE_ACROSS, "ref.bin": from_the_ridge_across(THREE_POINTS).replace(b"\x03\xe8", b"\x03\xe7")}
     yield from longest_maps()
     for length in (459, 460, 511, 512, 513, FAR):
         yield f"reference of {length} bytes", {"map.bin": RIDGE, "ref.bin": (THREE_POINTS + bytes(FAR))[:length]}

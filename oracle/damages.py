@@ -5,7 +5,7 @@ from typing import Optional
 
 from depot_map import (GREATEST_LATITUDE, GREATEST_LONGITUDE, LARGEST_NUMBER, LATITUDE_SHIFT, LONGITUDE_SHIFT, MOST_BANS, MOST_LINES,
                        joins, map_numbers, numbers_to_bytes, write_number)
-from fields import coordinate_code
+from fields import coordinate_code, differences
 from legs import Marks, marks_arriving, marks_leaving
 from reader import point_nodes
 from reference import last_point_position, p_byte_positions, take_apart
@@ -274,8 +274,7 @@ def point_damages(depot_map, reference):
     for place, point, position in (("second", 1, 10),
                                    ("last", len(nodes) - 1, last_point_position(len(reference)))):
         previous = depot_map.nodes[nodes[point - 1]]
-        taken = {(node.longitude - previous.longitude, node.latitude - previous.latitude)
-                 for node in depot_map.nodes}
+        taken = {differences(previous, node) for node in depot_map.nodes}
         changed = replaced(reference, position, absent_pair(taken, 2))
         damages.append(ReferenceDamage(16, f"{place} point", changed, point))
     return damages

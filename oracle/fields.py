@@ -1,10 +1,12 @@
-"""The fields of a reference, as the scope paper's paragraph "The bytes" words them."""
+"""The fields of a reference, as the scope paper's paragraph "The bytes" words them, and paper 02, "Depots on the 180th meridian"."""
 
 from fractions import Fraction
 from functools import lru_cache
 from math import trunc
 
 LONGEST_LEG = 150_000
+# 360 degrees, in hundred-thousandths.
+WHOLE_CIRCLE = 36_000_000
 
 
 @lru_cache(maxsize=None)
@@ -55,11 +57,23 @@ def offset_span(byte, leg_length):
     return (least, greatest) if least <= greatest else None
 
 
+def brought_round(longitude):
+    """A difference or a sum of longitudes "brought into -18,000,000 to 17,999,999 by adding or taking 36,000,000", once at most."""
+    if longitude < -18_000_000:
+        return longitude + WHOLE_CIRCLE
+    if longitude > 17_999_999:
+        return longitude - WHOLE_CIRCLE
+    return longitude
+
+
 def differences(from_node, to_node):
-    """Longitude and latitude of a point less the previous point's, in hundred-thousandths of a degree."""
-    return to_node.longitude - from_node.longitude, to_node.latitude - from_node.latitude
+    """Longitude and latitude of a point less the previous point's, in hundred-thousandths of a degree.
+
+    The longitude goes the shorter way around the earth. The latitude stays plain, since no way leads over a pole.
+    """
+    return brought_round(to_node.longitude - from_node.longitude), to_node.latitude - from_node.latitude
 
 
 def differences_fit(from_node, to_node):
-    """Whether both differences can be written in 16 bits, signed."""
+    """Whether both differences, the longitude's brought round, can be written in 16 bits, signed."""
     return all(-32_768 <= difference <= 32_767 for difference in differences(from_node, to_node))

@@ -5,8 +5,8 @@ from pathlib import Path
 from typing import NamedTuple, Optional
 
 from answers import hexadecimal
-from depot_map import write_number
-from fields import coordinate_code, distance_byte, offset_byte, offset_span, sector
+from depot_map import Node, write_number
+from fields import coordinate_code, differences, differences_fit, distance_byte, offset_byte, offset_span, sector
 from host_calls import MOST_LINES, line_bytes, lines_of
 from outcome import Refused, ReferenceWritten, StretchRead
 from reader import LEAST_WORK_LENGTH, read
@@ -59,6 +59,10 @@ def signed_bytes(number, width):
     return number.to_bytes(width, "big", signed=True).hex().upper()
 
 
+def longitude_difference(start, end):
+    return signed_bytes(differences(start, end)[0], 2) if differences_fit(start, end) else "none"
+
+
 def span_text(byte, leg_length):
     span = offset_span(byte, leg_length)
     return "none" if span is None else f"{span[0]} {span[1]}"
@@ -68,6 +72,7 @@ FORMULAS = (
     (r"number (\d+)", lambda number: write_number(int(number)).hex(" ").upper()),
     (r"code (-?\d+)", lambda coordinate: signed_bytes(coordinate_code(int(coordinate)), 3)),
     (r"difference (-?\d+)", lambda difference: signed_bytes(int(difference), 2)),
+    (r"longitudes (-?\d+) to (-?\d+)", lambda start, end: longitude_difference(Node(int(start), 0), Node(int(end), 0))),
     (r"sector (\d+)", lambda bearing: str(sector(int(bearing)))),
     (r"D (\d+)", lambda length: str(distance_byte(int(length)))),
     (r"offset (\d+) of (\d+)", lambda offset, length: f"{offset_byte(int(offset), int(length)):02X}"),

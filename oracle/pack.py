@@ -8,15 +8,17 @@ import sys
 from dataclasses import replace
 from pathlib import Path
 
-from cases import leg_cases, map_cases, random_source, read_cases, stretch_leg, write_cases
+from cases import (leg_cases, leg_cases_across, map_cases, meridian_map_cases, meridian_read_cases, meridian_write_cases, random_source, read_cases,
+                   read_cases_across, stretch_leg, write_cases, write_cases_across)
 from depot_map import MOST_BANS, map_numbers, map_to_bytes
 from legs import LegSearch, list_length
+from meridian_recipes import ACROSS
 from outcome import Refused, outcome_text
 from read_recipes import changed_in_a_byte, composed_from, read_outcome
 from reader import LEAST_WORK_LENGTH, read
 from recipes import until_found
-from sample_maps import full_sample, full_size_sample, joining_pairs
-from write_recipes import many_on_full_size, write_outcome
+from sample_maps import full_sample, full_size_sample, joining_pairs, sample_across
+from write_recipes import many_on_a_map, write_outcome
 
 CRATES = Path(__file__).parent.parent / "crates"
 SUM_MODULUS = 4_294_967_291
@@ -24,6 +26,9 @@ SUM_MODULUS = 4_294_967_291
 MOST_CASE_BYTES = 1_048_576
 WORK_ROOM, READS_LINE_ROOM = 14_340, 65_480
 WRITES_LINE_ROOM, WRITES_BYTE_ROOM = 80, 480
+# The recipe whose maps would take too much room.
+FULL_SIZE = "full size"
+FULL_SIZE_ACROSS = FULL_SIZE + ACROSS
 
 
 def packed(parts):
@@ -66,6 +71,7 @@ def test_maps():
     cases = [(case.map_bytes, case.expected) for case in map_cases(seed=1, count=640)]
     full = map_of_different_bans()
     cases.append((map_to_bytes(full), full))
+    cases += [(case.map_bytes, case.expected) for case in meridian_map_cases(seed=1, count=60)]
     return packed(map_bytes for map_bytes, _ in cases), [map_row(expected) for _, expected in cases]
 
 
@@ -91,12 +97,18 @@ def leg_row(depot_map, readings):
     return f"one {lines[0]} {lines[-1]} {list_length(depot_map, lines)} {len(lines)}: {whole}"
 
 
-def full_map_legs(maps, legs):
+def full_size_samples(kind, plain, across):
+    """Some full-size samples, and some more whose maps lie across the meridian. Each comes with its random source."""
+    for turn in range(plain + across):
+        rng = random_source(kind, 1, turn)
+        sample = full_size_sample(rng, turn)
+        yield rng, sample if turn < plain else sample_across(sample)
+
+
+def full_map_legs(plain, across, legs):
     """Many legs on each of some full-size maps; the map stands with the first of its legs only."""
     parts, rows = [], []
-    for turn in range(maps):
-        rng = random_source("full-size legs", 1, turn)
-        sample = full_size_sample(rng, turn)
+    for rng, sample in full_size_samples("full-size legs", plain, across):
         search = LegSearch(sample.depot_map)
         for number in range(legs):
             leg = stretch_leg(rng, sample)
@@ -106,8 +118,8 @@ def full_map_legs(maps, legs):
 
 
 def test_legs():
-    parts, rows = full_map_legs(maps=12, legs=40)
-    for case in leg_cases(seed=1, count=1_280, left_out="full size"):
+    parts, rows = full_map_legs(plain=12, across=0, legs=40)
+    for case in [*leg_cases(seed=1, count=1_280, left_out=FULL_SIZE), *leg_cases_across(seed=1, count=64, left_out=FULL_SIZE_ACROSS)]:
         parts += [case.map_bytes, leg_words(case.leg)]
         rows.append(leg_row(case.depot_map, case.expected))
     return packed(parts), rows
@@ -131,11 +143,9 @@ def read_row(given, outcome):
     return f"{lines_text(outcome)} work cleared rest kept"
 
 
-def full_map_reads(maps, references):
+def full_map_reads(plain, across, references):
     """Inputs and outcomes of many references on each of some full-size maps, every other one with a byte changed."""
-    for turn in range(maps):
-        rng = random_source("full-size reads", 1, turn)
-        sample = full_size_sample(rng, turn)
+    for rng, sample in full_size_samples("full-size reads", plain, across):
         for number in range(references):
             given = until_found(lambda: composed_from(rng, sample))
             if number % 2:
@@ -143,8 +153,8 @@ def full_map_reads(maps, references):
             yield given, read_outcome(given)
 
 
-def on_small_maps(make_cases, count):
-    for case in make_cases(seed=1, count=count, left_out="full size"):
+def on_small_maps(make_cases, count, left_out=FULL_SIZE):
+    for case in make_cases(seed=1, count=count, left_out=left_out):
         yield case.given, case.expected
 
 
@@ -176,7 +186,8 @@ def packed_calls(calls, subject, numbers, row):
 
 def test_reads():
     """The subject is a reference; the numbers are the lengths of the work area and of the line buffer."""
-    calls = [*on_small_maps(read_cases, 3_008), *full_map_reads(maps=10, references=40)]
+    calls = [*on_small_maps(read_cases, 3_008), *full_map_reads(plain=10, across=1, references=40),
+             *on_small_maps(read_cases_across, 96, FULL_SIZE_ACROSS), *on_small_maps(meridian_read_cases, 120)]
     check_room(calls, lambda given: given.line_room <= READS_LINE_ROOM)
     return packed_calls(calls, lambda given: given.reference,
                         lambda given: [given.work_length, given.line_room], read_row)
@@ -192,16 +203,17 @@ def write_row(given, outcome):
             f" read {lines_text(read_back)}")
 
 
-def full_map_writes(maps, stretches):
-    for turn in range(maps):
-        for given in many_on_full_size(random_source("full-size writes", 1, turn), turn, stretches):
+def full_map_writes(plain, across, stretches):
+    for rng, sample in full_size_samples("full-size writes", plain, across):
+        for given in many_on_a_map(rng, sample.depot_map, stretches):
             yield given, write_outcome(given)
 
 
 def test_writes():
     """The subject is a stretch, four bytes a line; the numbers are the offsets, and the lengths of the work area and of
     the byte buffer."""
-    calls = [*on_small_maps(write_cases, 2_560), *full_map_writes(maps=10, stretches=20)]
+    calls = [*on_small_maps(write_cases, 2_560), *full_map_writes(plain=10, across=2, stretches=20),
+             *on_small_maps(write_cases_across, 96, FULL_SIZE_ACROSS), *on_small_maps(meridian_write_cases, 128)]
     check_room(calls, lambda given: len(given.lines) <= WRITES_LINE_ROOM and given.byte_room <= WRITES_BYTE_ROOM)
     return packed_calls(calls, lambda given: words(given.lines),
                         lambda given: [given.pos, given.neg, given.work_length, given.byte_room], write_row)

@@ -1,7 +1,10 @@
-"""The reader: map bytes and reference bytes to a stretch (scope paper, refusals 1 to 6 and 12 to 20; paper 02, "Banned turns": 22 and 23)."""
+"""The reader: map bytes and reference bytes to a stretch (scope paper, refusals 1 to 6 and 12 to 20; paper 02, "Banned turns": 22 and 23).
+
+Longitudes are added up as paper 02 says it, "Depots on the 180th meridian".
+"""
 
 from depot_map import Node, read_map
-from fields import code_pair, offset_span
+from fields import brought_round, code_pair, offset_span
 from legs import Leg, LegSearch, Marks, has_banned_pair, list_length
 from outcome import RefusedCall, StretchRead
 from reference import take_apart
@@ -24,10 +27,10 @@ def point_nodes(depot_map, reference):
         if number == 0:
             node = by_codes.get((point.longitude, point.latitude))
         else:
-            # Differences are added to the coordinates of the previous point's node, not to its codes.
+            # Differences are added to the coordinates of the previous point's node, not to its codes. A sum of 17,999,999 is no node's.
             previous = depot_map.nodes[nodes[-1]]
             node = by_coordinates.get(
-                Node(previous.longitude + point.longitude, previous.latitude + point.latitude))
+                Node(brought_round(previous.longitude + point.longitude), previous.latitude + point.latitude))
         if node is None:
             raise RefusedCall(16, number)
         nodes.append(node)

@@ -1,10 +1,14 @@
 """Maps and stretches from which cases are made. Each kind makes one sort of edge common."""
 
+import random
 from dataclasses import dataclass, replace
 
-from depot_map import GREATEST_LONGITUDE, LATITUDE_SHIFT, LONGITUDE_SHIFT, MOST_BANS, DepotMap, Line, Node
+from depot_map import GREATEST_LONGITUDE, LATITUDE_SHIFT, LONGITUDE_SHIFT, MOST_BANS, DepotMap, Line, Node, map_to_bytes
+from fields import brought_round
 
 NODE_STEP = 400
+# The last longitude before the 180th meridian, going east, and the first behind it. They are 2 apart.
+LAST_BEFORE, FIRST_BEHIND = GREATEST_LONGITUDE, -LONGITUDE_SHIFT
 
 
 @dataclass(frozen=True)
@@ -73,6 +77,38 @@ def with_bans(rng, sample, spare_stretch):
     count = rng.choice([0, 0, 1, rng.randrange(2, 5), len(pairs) // 2, len(pairs)])
     bans = [rng.choice(pairs) for _ in range(min(count, MOST_BANS))] if pairs else []
     return replace(sample, depot_map=replace(sample.depot_map, bans=tuple(bans)))
+
+
+def shifted(depot_map, shift):
+    """The map with a number added to every longitude, and brought round."""
+    return replace(depot_map, nodes=tuple(Node(brought_round(node.longitude + shift), node.latitude) for node in depot_map.nodes))
+
+
+def lies_across(depot_map):
+    """Whether nodes are on both sides of the meridian, nearer to it than to longitude 0."""
+    longitudes = [node.longitude for node in depot_map.nodes]
+    return min(longitudes) < FIRST_BEHIND // 2 and max(longitudes) > LAST_BEFORE // 2
+
+
+def across_meridian(depot_map):
+    """The map shifted so that the meridian runs through a gap between two longitudes: next to the one, next to the other or anywhere between.
+
+    The gap is 2 at least, so that no node comes to 17,999,999. A map without one is shifted to an end of the longitudes.
+    The choice is by chance, and for one map always the same.
+    """
+    rng = random.Random(map_to_bytes(depot_map))
+    longitudes = sorted({node.longitude for node in depot_map.nodes})
+    gaps = [(before, behind - before) for before, behind in zip(longitudes, longitudes[1:]) if behind - before >= 2]
+    if not gaps:
+        return shifted(depot_map, brought_round(rng.choice([LAST_BEFORE - longitudes[-1], FIRST_BEHIND - longitudes[0]])))
+    before, gap = rng.choice(gaps)
+    room = gap - 2
+    return shifted(depot_map, brought_round(LAST_BEFORE - rng.choice([0, room, rng.randrange(room + 1)]) - before))
+
+
+def sample_across(sample):
+    """The sample on its map shifted to lie across the meridian."""
+    return replace(sample, depot_map=across_meridian(sample.depot_map))
 
 
 def ridge_map(*bans):

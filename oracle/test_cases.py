@@ -4,6 +4,8 @@ import unittest
 from dataclasses import replace
 
 import cases
+from check_host import read_calls, write_calls
+from crossings import reading_steps, stretch_steps
 from damages import LINE_FIELDS
 from depot_map import map_to_bytes, read_map
 from legs import LegSearch, Readings, has_banned_pair, list_length, passes_a_node_twice
@@ -11,18 +13,26 @@ from outcome import Refused, RefusedCall, ReferenceWritten, StretchRead
 from read_recipes import read_outcome
 from reader import check_joints, leg_lists, legs_of, point_nodes
 from reference import take_apart
+from sample_maps import FIRST_BEHIND, LAST_BEFORE, lies_across
 from write_recipes import write_outcome
 from writer import skip_lines
 
 # Enough for each recipe to go through its edges at least once.
 MAP_CASES, LEG_CASES, READ_CASES, WRITE_CASES = 480, 480, 940, 832
-KINDS = (cases.map_cases, cases.leg_cases, cases.read_cases, cases.write_cases)
+MERIDIAN_MAP_CASES, MERIDIAN_READ_CASES, MERIDIAN_WRITE_CASES = 60, 120, 128
+KINDS = (cases.map_cases, cases.leg_cases, cases.read_cases, cases.write_cases, cases.leg_cases_across, cases.read_cases_across, cases.write_cases_across,
+         cases.meridian_map_cases, cases.meridian_read_cases, cases.meridian_write_cases)
 
 
 def refusal_in_label(label):
     """The refusal that a label promises, or None."""
     name = label.split(":")[0]
     return int(name.split()[1].rstrip(",")) if name.startswith("refusal ") else None
+
+
+def labelled(made, recipe):
+    """The cases of a recipe, each with its detail."""
+    return [(case.label.split(": ", 1)[1], case) for case in made if case.label.startswith(recipe + ": ")]
 
 
 def without_bans(given):
@@ -41,7 +51,20 @@ class Determinism(unittest.TestCase):
             self.assertEqual(make(7, 12), make(7, 30)[:12])
 
 
-class Coverage(unittest.TestCase):
+class CaseTests(unittest.TestCase):
+    def check_labels(self, made, recipes):
+        self.assertEqual({case.label.split(":")[0] for case in made}, set(recipes))
+
+    def check_promises(self, made):
+        """A label that promises a refusal gets it."""
+        for case in made:
+            promised = refusal_in_label(case.label)
+            if promised is not None:
+                self.assertIsInstance(case.expected, Refused, case.label)
+                self.assertEqual(case.expected.number, promised, case.label)
+
+
+class Coverage(CaseTests):
     @classmethod
     def setUpClass(cls):
         cls.map_cases = cases.map_cases(1, MAP_CASES)
@@ -52,9 +75,6 @@ class Coverage(unittest.TestCase):
     def check_refusals(self, made, numbers):
         given = {case.expected.number for case in made if isinstance(case.expected, Refused)}
         self.assertEqual(given, set(numbers))
-
-    def check_labels(self, made, recipes):
-        self.assertEqual({case.label.split(":")[0] for case in made}, set(recipes))
 
     def test_every_refusal_occurs(self):
         self.check_refusals(self.map_cases, [*range(2, 7), 23])
@@ -71,11 +91,7 @@ class Coverage(unittest.TestCase):
         self.check_labels(self.read_cases, cases.READ_RECIPES)
 
     def test_a_label_that_promises_a_refusal_gets_it(self):
-        for case in self.map_cases + self.read_cases + self.write_cases:
-            promised = refusal_in_label(case.label)
-            if promised is not None:
-                self.assertIsInstance(case.expected, Refused, case.label)
-                self.assertEqual(case.expected.number, promised, case.label)
+        self.check_promises(self.map_cases + self.read_cases + self.write_cases)
 
     def test_some_are_accepted(self):
         self.assertGreater(sum(isinstance(case.expected, StretchRead) for case in self.read_cases), 150)
@@ -159,9 +175,7 @@ class Coverage(unittest.TestCase):
         self.assertLessEqual({-32_768, 32_767, 0}, differences)
 
     def write_details(self, recipe):
-        """The cases of a recipe, each with its detail."""
-        return [(case.label.split(": ", 1)[1], case) for case in self.write_cases
-                if case.label.startswith(recipe + ": ")]
+        return labelled(self.write_cases, recipe)
 
     def test_differences_one_past_are_refused_or_cut(self):
         seen = {}
@@ -318,6 +332,133 @@ class Coverage(unittest.TestCase):
         for case in self.leg_cases:
             self.assertIsInstance(case.expected, Readings)
             self.assertEqual(case.expected.how_many == "one", case.expected.lines is not None)
+
+
+class Across(CaseTests):
+    """Cases on maps shifted to lie across the meridian."""
+
+    def test_calls_have_the_outcomes_they_have_elsewhere(self):
+        # Of what is written only the first point's longitude code is another.
+        for plain, across, count in ((cases.read_cases, cases.read_cases_across, 96), (cases.write_cases, cases.write_cases_across, 96),
+                                     (cases.leg_cases, cases.leg_cases_across, 64)):
+            for case, shifted_case in zip(plain(1, count), across(1, count)):
+                self.assertTrue(shifted_case.label.startswith(case.label.split(":")[0] + ", across the meridian: "))
+                expected, shifted_expected = case.expected, shifted_case.expected
+                if isinstance(expected, ReferenceWritten):
+                    expected, shifted_expected = (outcome.reference[4:] for outcome in (expected, shifted_expected))
+                self.assertEqual(shifted_expected, expected, case.label)
+
+    def test_every_label_occurs_and_every_promise_is_kept(self):
+        for make, recipes in ((cases.read_cases_across, cases.READ_RECIPES_ACROSS), (cases.write_cases_across, cases.WRITE_RECIPES_ACROSS)):
+            made = make(1, len(recipes))
+            self.check_labels(made, recipes)
+            self.check_promises(made)
+
+    def test_maps_that_are_good_lie_across(self):
+        count = 0
+        for case in cases.read_cases_across(1, 96) + cases.write_cases_across(1, 96):
+            depot_map = cases.map_outcome(case.given.map_bytes)
+            if not isinstance(depot_map, Refused):
+                self.assertTrue(lies_across(depot_map) or len({node.longitude for node in depot_map.nodes}) == 1, case.label)
+                count += 1
+        self.assertGreater(count, 140)
+
+    def test_calls_from_c_have_such_maps(self):
+        for make_calls in (read_calls, write_calls):
+            maps = [cases.map_outcome(bytes.fromhex(row.split()[1].strip("-"))) for row, _ in make_calls(1, 100)]
+            self.assertEqual(len(maps), 100)
+            self.assertGreater(sum(not isinstance(depot_map, Refused) and lies_across(depot_map) for depot_map in maps), 10)
+
+
+class Meridian(CaseTests):
+    """Cases at the edges of longitudes brought round."""
+
+    @classmethod
+    def setUpClass(cls):
+        cls.map_cases = cases.meridian_map_cases(1, MERIDIAN_MAP_CASES)
+        cls.read_cases = cases.meridian_read_cases(1, MERIDIAN_READ_CASES)
+        cls.write_cases = cases.meridian_write_cases(1, MERIDIAN_WRITE_CASES)
+
+    def test_every_label_occurs_and_every_promise_is_kept(self):
+        for made, recipes in ((self.map_cases, cases.MERIDIAN_MAP_RECIPES), (self.read_cases, cases.MERIDIAN_READ_RECIPES),
+                              (self.write_cases, cases.MERIDIAN_WRITE_RECIPES)):
+            self.check_labels(made, recipes)
+            self.check_promises(made)
+
+    def test_good_maps_have_nodes_at_both_ends_of_the_longitudes(self):
+        maps = [case.expected for case in self.map_cases if not isinstance(case.expected, Refused)]
+        longitudes = [{node.longitude for node in depot_map.nodes} for depot_map in maps]
+        self.assertTrue(any({LAST_BEFORE, FIRST_BEHIND} <= found for found in longitudes))
+
+    def test_codes_of_nodes_at_the_meridian(self):
+        # The two nearest on each side have the same code, and no two across it.
+        refused = {detail for detail, case in labelled(self.map_cases, "two nodes at the meridian") if case.expected == Refused(6)}
+        self.assertEqual(refused, {"(17999997, 17999998)", "(-18000000, -17999999)"})
+
+    def steps(self, recipe):
+        """The steps over the meridian of the readings of a recipe."""
+        made = [case for _, case in labelled(self.read_cases, recipe)]
+        found = [step for case in made for step in reading_steps(read_map(case.given.map_bytes), case.given.reference)]
+        return [step for step in found if step.crosses()]
+
+    def test_points_across_at_the_ends_of_16_bits(self):
+        steps = self.steps("point across the meridian")
+        self.assertTrue(all(step.found for step in steps))
+        self.assertLessEqual({2, 3, 32_766, 32_767, -2, -3, -32_767, -32_768}, {step.difference for step in steps})
+        for east in (True, False):
+            places = {(step.start.longitude, step.end.longitude) for step in steps if (step.difference > 0) == east}
+            near, far = (LAST_BEFORE, FIRST_BEHIND) if east else (FIRST_BEHIND, LAST_BEFORE)
+            self.assertIn((near, far), places)
+            self.assertTrue(any(start == near and end != far for start, end in places))
+            self.assertTrue(any(start != near and end == far for start, end in places))
+
+    def test_sums_of_17_999_999(self):
+        for detail, case in labelled(self.read_cases, "refusal 16, a sum of 17,999,999"):
+            *_, last = reading_steps(read_map(case.given.map_bytes), case.given.reference)
+            self.assertEqual((last.end.longitude, last.found), (17_999_999, False), detail)
+        details = {detail for detail, _ in labelled(self.read_cases, "refusal 16, a sum of 17,999,999")}
+        self.assertLessEqual({f"difference {number}" for number in (1, 32_767, -1, -32_768)}, details)
+
+    def test_no_node_across(self):
+        steps = self.steps("refusal 16, next to a node across the meridian")
+        self.assertFalse(any(step.found for step in steps))
+        self.assertEqual({step.difference > 0 for step in steps}, {True, False})
+
+    def test_latitudes_beyond_both_poles(self):
+        latitudes = set()
+        for _, case in labelled(self.read_cases, "refusal 16, over a pole"):
+            *_, last = reading_steps(read_map(case.given.map_bytes), case.given.reference)
+            self.assertGreater(abs(last.end.latitude), 9_000_000)
+            latitudes.add(last.end.latitude)
+        self.assertLessEqual({9_000_001, -9_000_001}, latitudes)
+
+    def test_legs_that_cross_64_times(self):
+        for made in (self.read_cases, self.write_cases):
+            self.assertIn(64, {int(detail.split()[0]) for detail, _ in labelled(made, "back and forth across the meridian")})
+
+    def test_differences_one_past_are_refused_or_cut(self):
+        seen = {}
+        for detail, case in labelled(self.write_cases, "differences at the ends of 16 bits, across the meridian"):
+            outcome = case.expected.number if isinstance(case.expected, Refused) else len(case.expected.reference)
+            seen.setdefault(int(detail.split()[1]), set()).add((len(case.given.lines), outcome))
+        for difference in (-32_769, 32_768):
+            self.assertEqual(seen.pop(difference), {(1, 10), (2, 23)}, difference)
+        self.assertEqual(seen, {difference: {(1, 16), (2, 16)} for difference in (-32_768, -32_767, -2, 2, 32_766, 32_767)})
+
+    def test_far_lines_that_are_skipped(self):
+        crossings = set()
+        for _, case in labelled(self.write_cases, "far line skipped, across the meridian"):
+            depot_map, given = read_map(case.given.map_bytes), case.given
+            remaining, _, _ = skip_lines(depot_map, given.lines, given.pos, given.neg)
+            self.assertEqual((len(remaining), len(take_apart(case.expected.reference).points)), (1, 2))
+            self.assertEqual(write_outcome(replace(given, pos=0, neg=0)), Refused(10))
+            crossings |= {(step.crosses(), step.difference) for step in stretch_steps(depot_map, remaining)}
+        self.assertEqual(crossings, {(False, 400), (False, -400), (True, 400), (True, -400)})
+
+    def test_half_a_circle(self):
+        plain = {step.end.longitude - step.start.longitude for _, case in labelled(self.write_cases, "refusal 10, half a circle")
+                 for step in stretch_steps(read_map(case.given.map_bytes), case.given.lines)}
+        self.assertLessEqual({17_999_999, 18_000_000, 18_000_001, -17_999_999, -18_000_000, -18_000_001}, plain)
 
 
 if __name__ == "__main__":

@@ -5,7 +5,7 @@ import unittest
 from fractions import Fraction
 
 from depot_map import Node
-from fields import (coordinate_code, differences, differences_fit, distance_byte, offset_byte, offset_span,
+from fields import (brought_round, coordinate_code, differences, differences_fit, distance_byte, offset_byte, offset_span,
                     offset_span_by_trying, sector)
 
 
@@ -59,6 +59,16 @@ class SmallFields(unittest.TestCase):
         for reach, fits in ((32_767, True), (32_768, False), (-32_768, True), (-32_769, False)):
             self.assertEqual(differences_fit(origin, Node(1 + reach, -1)), fits)
             self.assertEqual(differences_fit(origin, Node(1, -1 + reach)), fits)
+
+    def test_difference_of_longitudes_worked_out_in_paper_02(self):
+        # More across the meridian is in test_meridian.py.
+        self.assertEqual(differences(Node(17_999_998, 0), Node(-18_000_000, 0)), (2, 0))
+
+    def test_a_longitude_is_brought_round_once_at_most(self):
+        for longitude in (-18_000_000, -1, 0, 17_999_999):
+            self.assertEqual(brought_round(longitude), longitude)
+            self.assertEqual(brought_round(longitude - 36_000_000), longitude)
+            self.assertEqual(brought_round(longitude + 36_000_000), longitude)
 
 
 class Offsets(unittest.TestCase):

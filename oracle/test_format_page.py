@@ -1,6 +1,7 @@
-"""Every example of docs/FORMAT.md is what this implementation answers, and the files of the ridge are those of the page."""
+"""Every example of docs/FORMAT.md is what this implementation answers, and the files of the examples are those of the page."""
 
 import unittest
+from pathlib import Path
 
 from depot_map import map_to_bytes, read_map
 from format_page import format_page
@@ -8,6 +9,7 @@ from outcome import Refused
 from sample_maps import ridge_map
 from test_scope_paper import RIDGE, THREE_POINTS, THREE_POINTS_OFFSET_500, TWO_POINTS
 
+ROOT = Path(__file__).parent.parent
 PAGE = format_page()
 
 
@@ -26,7 +28,7 @@ class FormatPage(unittest.TestCase):
             with self.subTest(formula.text):
                 self.assertEqual(formula.said, formula.computed)
         kinds = {formula.text.split()[0] for formula in PAGE.formulas}
-        self.assertEqual(kinds, {"number", "code", "difference", "sector", "D", "offset", "span"})
+        self.assertEqual(kinds, {"number", "code", "difference", "longitudes", "sector", "D", "offset", "span"})
 
     def test_bytes_of_the_ridge(self):
         names = PAGE.names
@@ -34,6 +36,12 @@ class FormatPage(unittest.TestCase):
 
     def test_bytes_of_the_ridge_with_a_turn_banned(self):
         self.assertEqual(PAGE.names["ridge_ban"], map_to_bytes(ridge_map((0, 2))))
+
+    def test_bytes_of_the_islands(self):
+        longitudes = [node.longitude for node in read_map(PAGE.names["islands"]).nodes]
+        self.assertEqual(longitudes, [17_999_000, 17_999_998, -18_000_000, -17_999_000])
+        for name, file_name in (("islands", "map.bin"), ("over", "ref.bin")):
+            self.assertEqual(PAGE.names[name], (ROOT / "examples" / "islands" / file_name).read_bytes())
 
     def test_small_map(self):
         tiny = read_map(PAGE.names["tiny"])

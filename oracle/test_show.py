@@ -1,16 +1,19 @@
-"""The files of the ridge examples, and what is printed for them."""
+"""The files of the examples, and what is printed for them."""
 
 import unittest
 from pathlib import Path
 
 from depot_map import map_to_bytes
+from outcome import ReferenceWritten
 from sample_maps import ridge_map
 from show import shown
-from test_scope_paper import RIDGE, THREE_POINTS_OFFSET_500, TWO_POINTS
+from test_scope_paper import RIDGE, THREE_POINTS_OFFSET_500, TWO_POINTS, WORK
+from writer import write
 
 ROOT = Path(__file__).parent.parent
 FOLDER = ROOT / "examples" / "ridge"
 BAN_FOLDER = ROOT / "examples" / "ridge_ban"
+ISLANDS_FOLDER = ROOT / "examples" / "islands"
 PROGRAM = ROOT / "crates" / "openlr_show"
 
 
@@ -36,6 +39,19 @@ class RidgeExampleWithABan(unittest.TestCase):
 
     def test_printed(self):
         self.assertEqual(shown(BAN_FOLDER), "lines 2 pos 0 0 neg 0 0\n0\n1")
+
+
+class IslandsExample(unittest.TestCase):
+    def test_reference_is_the_writers(self):
+        reference = (ISLANDS_FOLDER / "ref.bin").read_bytes()
+        self.assertEqual(write((ISLANDS_FOLDER / "map.bin").read_bytes(), (0, 1, 2), 0, 0, WORK, 16), ReferenceWritten(reference))
+
+    def test_printed(self):
+        self.assertEqual(shown(ISLANDS_FOLDER), "lines 3 pos 0 0 neg 0 0\n0\n1\n2")
+
+    def test_printed_by_the_host(self):
+        reference = (ISLANDS_FOLDER / "ref.bin").read_bytes().hex(" ").upper()
+        self.assertEqual((ROOT / "tests" / "host_islands.txt").read_text(), f"reference {reference}\n{shown(ISLANDS_FOLDER)}\n")
 
 
 if __name__ == "__main__":

@@ -102,9 +102,8 @@ def full_size(rng, turn):
     return sample.label, WriteInput(map_to_bytes(sample.depot_map), sample.stretch, pos, neg)
 
 
-def many_on_full_size(rng, turn, count):
-    """Inputs on one full-size map: walks of 1 to 64 lines, every other one with offsets, every fifth without heed of bans."""
-    depot_map = full_size_sample(rng, turn).depot_map
+def many_on_a_map(rng, depot_map, count):
+    """Inputs on one map: walks of 1 to 64 lines, every other one with offsets, every fifth without heed of bans."""
     map_bytes = map_to_bytes(depot_map)
     for number in range(count):
         lines = random_walk(rng, depot_map, rng.choice([1, 2, 4, 8, 16, MOST_STRETCH_LINES]), number % 5 > 0)

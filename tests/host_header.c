@@ -14,7 +14,7 @@ enum {
 _Static_assert(OPENLR_LONGEST_MAP == MAP_BYTES && MAP_BYTES == 19462, "every number as long as it can be");
 _Static_assert(OPENLR_LONGEST_REFERENCE == 1 + 9 + 63 * 7 + 6 + 2 && OPENLR_LONGEST_REFERENCE == 459, "64 legs and both offsets");
 _Static_assert(OPENLR_MOST_LINES == 1024, "the scope paper's, for a host");
-_Static_assert(OPENLR_VERSION == 2 && OPENLR_UNITS_PER_METRE == 10, "banned turns, decimetres");
+_Static_assert(OPENLR_VERSION == 3 && OPENLR_UNITS_PER_METRE == 10, "the 180th meridian, decimetres");
 _Static_assert(OPENLR_LEAST_STACK == 104 * 1024, "in whole pages");
 _Static_assert(OPENLR_WORK_AREA_SHORT == 1 && OPENLR_MAP_NUMBER == 2 && OPENLR_EQUAL_CODES == 6 && OPENLR_MAP_BAN == 23, "the table's numbers for maps");
 _Static_assert(OPENLR_STRETCH_LINES == 7 && OPENLR_BYTES_SHORT == 11 && OPENLR_STRETCH_BAN == 21, "for the writer");

@@ -1,7 +1,7 @@
 //! The depot map: from its bytes to nodes, lines, the lines at each node and the banned turns
 //! ("The depot map", "Banned turns").
 
-use crate::fields::{coordinate_code, sector, Marks, LONGEST_LEG};
+use crate::fields::{brought_round, coordinate_code, sector, Marks, LONGEST_LEG};
 use crate::outcome::{Outcome, Refusal};
 
 /// Coordinates in hundred-thousandths of a degree.
@@ -9,6 +9,27 @@ use crate::outcome::{Outcome, Refusal};
 pub struct Node {
     pub longitude: i32,
     pub latitude: i32,
+}
+
+impl Node {
+    /// The differences of longitude and latitude to another node, whether they fit 16 bits or not.
+    /// Longitudes go round at the 180th meridian; latitudes end at the poles.
+    #[inline]
+    pub fn differences_to(self, other: Node) -> [i32; 2] {
+        let longitude = brought_round(other.longitude - self.longitude);
+        [longitude, other.latitude - self.latitude]
+    }
+
+    /// The place at these differences of 16 bits. No node need stand there: the longitude may be
+    /// 17,999,999, and the latitude beyond a pole.
+    #[inline]
+    pub fn place_at(self, differences: [i32; 2]) -> Node {
+        let [longitude, latitude] = differences;
+        Node {
+            longitude: brought_round(self.longitude + longitude),
+            latitude: self.latitude + latitude,
+        }
+    }
 }
 
 /// A line runs one way, from its start node to its end node. Length in decimetres.

@@ -91,7 +91,14 @@ pub fn offset_span(byte: u8, leg_length: u32) -> Option<Span> {
     })
 }
 
-/// The 16-bit difference of two coordinates, if it fits.
-pub fn difference(from: i32, to: i32) -> Option<i16> {
-    i16::try_from(to - from).ok()
+/// A longitude, or a difference of two, brought into -18,000,000 to 17,999,999 by adding or taking
+/// a full circle ("Depots on the 180th meridian"). Once is enough: two longitudes differ by less
+/// than a full circle, and a sum leaves the range by 16 bits at most.
+#[inline]
+pub fn brought_round(longitude: i32) -> i32 {
+    match longitude {
+        18_000_000.. => longitude - 36_000_000,
+        -18_000_000..=17_999_999 => longitude,
+        _ => longitude + 36_000_000,
+    }
 }

@@ -1,6 +1,6 @@
 //! The reader: from the bytes of a reference to the lines and the spans of the offsets.
 
-use crate::depot_map::{DepotMap, Node};
+use crate::depot_map::DepotMap;
 use crate::fields::{
     offset_span, Marks, LONGEST_REFERENCE, MIDDLE_POINT_BYTES, NEGATIVE_FLAG, POSITIVE_FLAG,
     SHORTEST_REFERENCE, STATUS_BYTE, ZERO_BITS_OF_P, ZERO_BIT_OF_R,
@@ -150,11 +150,8 @@ impl<'a> Reference<'a> {
         let mut nodes = Vec::with_capacity(self.legs + 1);
         nodes.push(node);
         for point in 1..=self.legs {
-            let previous = map.node(node);
-            let place = Node {
-                longitude: previous.longitude + self.signed_16_bits(3 + 7 * point),
-                latitude: previous.latitude + self.signed_16_bits(5 + 7 * point),
-            };
+            let differences = [3, 5].map(|at| self.signed_16_bits(at + 7 * point));
+            let place = map.node(node).place_at(differences);
             let refusal = Refusal::PointWithoutNode(point as u32);
             node = map.node_at(place).ok_or(refusal)?;
             nodes.push(node);

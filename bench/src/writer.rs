@@ -2,8 +2,8 @@
 
 use crate::depot_map::DepotMap;
 use crate::fields::{
-    coordinate_code, difference, distance_byte, lengths_of_distance_byte, offset_byte,
-    FIRST_POINT_BYTES, LONGEST_LEG, LONGEST_REFERENCE, NEGATIVE_FLAG, POSITIVE_FLAG, STATUS_BYTE,
+    coordinate_code, distance_byte, lengths_of_distance_byte, offset_byte, FIRST_POINT_BYTES,
+    LONGEST_LEG, LONGEST_REFERENCE, NEGATIVE_FLAG, POSITIVE_FLAG, STATUS_BYTE,
 };
 use crate::legs::{ends_at_lines, least_way, matching_first_lines, matching_last_lines, Ends};
 use crate::outcome::{check_work_area, Outcome, Refusal};
@@ -436,17 +436,11 @@ impl<'a> LegTester<'a> {
     }
 
     fn differences_fit(&self, from: usize, to: usize) -> bool {
-        let start = self.map.line(self.lines[from]).start;
-        let end = self.map.line(self.lines[to - 1]).end;
-        differences(self.map, start, end).is_some()
+        let start = self.map.node(self.map.line(self.lines[from]).start);
+        let end = self.map.node(self.map.line(self.lines[to - 1]).end);
+        let differences = start.differences_to(end);
+        differences.map(i16::try_from).iter().all(Result::is_ok)
     }
-}
-
-/// The differences of longitude and latitude, if both fit 16 bits.
-fn differences(map: &DepotMap, from: u32, to: u32) -> Option<[i16; 2]> {
-    let (from, to) = (map.node(from), map.node(to));
-    let longitude = difference(from.longitude, to.longitude)?;
-    Some([longitude, difference(from.latitude, to.latitude)?])
 }
 
 /// The bytes of a stretch cut at these places, for a choice whose differences fit and whose legs
@@ -492,7 +486,7 @@ fn push_leg(map: &DepotMap, leg: &[u32], bytes: &mut Vec<u8>) -> u32 {
     bytes.extend_from_slice(&[marks.p(), lowest_class << 5 | marks.sector]);
     bytes.push(distance_byte(length));
     let (from, to) = (map.node(first.start), map.node(last.end));
-    for difference in [to.longitude - from.longitude, to.latitude - from.latitude] {
+    for difference in from.differences_to(to) {
         bytes.extend_from_slice(&(difference as i16).to_be_bytes());
     }
     length

@@ -3,7 +3,7 @@
 mod forward;
 
 use plain::depot_map::{Ban, DepotMap};
-use plain::fields::{difference, distance_byte, LONGEST_LEG};
+use plain::fields::{distance_byte, LONGEST_LEG};
 use plain::legs::{Leg, LegEnd, Verdict};
 use plain::maps::{random_walk, small_map, MapPlan, Turns, Xorshift};
 use plain::outcome::{Outcome, Refusal};
@@ -14,8 +14,9 @@ fn leg_of(map: &DepotMap, lines: &[u32], is_last: bool) -> Option<Leg> {
     let each = || lines.iter().map(|&line| map.line(line));
     let length: u32 = each().map(|line| line.length).sum();
     let (from, to) = (map.node(first.start), map.node(last.end));
-    difference(from.longitude, to.longitude)?;
-    difference(from.latitude, to.latitude)?;
+    for difference in from.differences_to(to) {
+        i16::try_from(difference).ok()?;
+    }
     (length <= LONGEST_LEG).then(|| Leg {
         start: first.start,
         first_marks: first.leaving_marks(),

@@ -3,11 +3,14 @@ ghost use mathlib.Core.Path.{_≡_};
 ghost use Prim.Native.Nat.{_≤_, _<_};
 ghost use Rattle.model.specs.Field.{codeSize, code};
 ghost use Rattle.model.specs.Map.{Node, lonCode, latCode};
-ghost use Rattle.model.specs.Difference.{moved};
+ghost use Rattle.model.specs.Difference.{moved, circle, lonDifference, lonSum, signed};
 ghost use Rattle.fields.specs.Difference.{DifferenceIs};
 
-// What the map adds to a longitude, so that it stores no negative number.
-const LONGITUDE_ADDED: u32 = 18_000_000;
+// What the map adds to a longitude, so that it stores no negative number. It is half a circle.
+pub const LONGITUDE_ADDED: u32 = 18_000_000;
+
+// A full circle of longitude.
+const CIRCLE: u32 = 36_000_000;
 
 // What it adds to a latitude.
 const LATITUDE_ADDED: u32 = 9_000_000;
@@ -65,6 +68,25 @@ pub fn difference(from: u32, to: u32) -> Difference16
         return Difference16::TooFar;
     }
     Difference16::Fits(((b + 65_536 - a) % 65_536) as u32)
+}
+
+// The difference from one longitude to another, brought round. It is held as a longitude is stored, with `LONGITUDE_ADDED` added.
+pub fn longitude_difference(from: u32, to: u32) -> u32
+    requires { ⌜ (from < circle) × (to < circle) ⌝ }
+    ensures { λ r. ⌜ r ≡ lonDifference from to ⌝ }
+{
+    (to + CIRCLE + LONGITUDE_ADDED - from) % CIRCLE
+}
+
+// The longitude `from` plus the difference `by` of 16 bits, which is negative from 32,768 on. The sum is brought round.
+pub fn longitude_sum(from: u32, by: u32) -> u32
+    ensures { λ r. ⌜ r ≡ lonSum from (signed by) ⌝ }
+{
+    let sum = from as u64 + CIRCLE as u64 + by as u64;
+    if by < 32_768 {
+        return (sum % CIRCLE as u64) as u32;
+    }
+    ((sum - 65_536) % CIRCLE as u64) as u32
 }
 
 // Whether `to` is `from` plus the difference `by`, which is negative from 32,768 on.

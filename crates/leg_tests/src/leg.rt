@@ -1,7 +1,9 @@
 // A leg of a stretch before any search: whether its length and its differences are a leg's, and the leg as its bytes will say.
 use buffers::wide;
 use fields::coordinate::Difference16;
+use fields::coordinate::LONGITUDE_ADDED;
 use fields::coordinate::difference;
+use fields::coordinate::longitude_difference;
 use fields::leg::Arrival;
 use fields::leg::Leg;
 use fields::leg::distance;
@@ -46,10 +48,11 @@ fn fits(work: &[u32], lines: usize, from: usize, to: usize) -> bool
     ensures { λ r. ⌜ ((m : Map) → Held (now (work .entry)) lines m → from < length (m .nodes) → to < length (m .nodes)
         → Decides (DifferencesFit (nodeAt m from) (nodeAt m to)) r) ⌝ }
 {
-    if !near(
+    let eastward = longitude_difference(
         coordinate(work, lines, from, 0),
         coordinate(work, lines, to, 0),
-    ) {
+    );
+    if !near(LONGITUDE_ADDED, eastward) {
         return false;
     }
     near(

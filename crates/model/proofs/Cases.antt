@@ -28,3 +28,5 @@ pub mod WrongChoices
 pub mod WrongMaps
 pub mod Bans
 pub mod WrongTurns
+pub mod Meridian
+pub mod WrongLongitudes

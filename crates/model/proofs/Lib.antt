@@ -1,6 +1,7 @@
 -- Theorems over the definitions. Demand3 is the claim; the others are what it rests on, and what else holds of the definitions.
 pub mod Tests
 pub mod Every
+pub mod Longitudes
 pub mod Differences
 pub mod Decoded
 pub mod Nodes
@@ -26,4 +27,6 @@ pub mod Text
 pub mod Demand3
 pub mod CallsOnce
 pub mod HostDemand3
+pub mod Tested
+pub mod AsBefore
 pub mod Cases

@@ -5,13 +5,13 @@ use mathlib.Core.Bool.{Bool, true, false}
 use mathlib.Core.List.{List, [], _∷_}
 use native.Mathlib.Omega.{arith}
 use lib.ListN.{length, getD}
-use borrow.Author.Tests.{eq-eqb}
+use borrow.Author.Tests.{eq-eqb, ne-eqb}
 use Rattle.model.specs.Map.{Node, Map, whole, decode, lonCode, latCode, sameCodes, among, clash}
-use Rattle.model.specs.Difference.{DifferencesFit, differences, standsAt}
+use Rattle.model.specs.Difference.{lonSum, signed, Difference, DifferencesFit, differences, standsAt}
 use Rattle.model.specs.Lines.{nodeAt}
-use Rattle.model.specs.Locate.{found, seek, hasCodes}
+use Rattle.model.specs.Locate.{found, missing, seek, hasCodes}
 use Rattle.model.proofs.Tests.{neither}
-use Rattle.model.specs.WellFormed.{WellFormed}
+use Rattle.model.specs.WellFormed.{NodeOk, WellFormed}
 use Rattle.model.proofs.Decoded.{well-formed}
 use Rattle.model.proofs.Differences.{stands-there, stands-only}
 
@@ -53,11 +53,27 @@ module _ (m : Map) (w : WellFormed m) (v : ℕ) (known : v < length (m .nodes)) 
   unfolding hasCodes sameCodes
   by-codes = found-node (λ b. sameCodes b (nodeAt m v)) (same-codes _ _ refl refl) λ b t. t
 
-  pub by-differences : (a : Node) → DifferencesFit a (nodeAt m v) → seek (standsAt a (differences a (nodeAt m v))) 0 (m .nodes) ≡ found v
-  by-differences a fit =
-      found-node _ (stands-there a _ fit) λ b t.
-      let same = stands-only a _ b fit t in
+  pub by-differences : (a : Node) → NodeOk a → DifferencesFit a (nodeAt m v) → seek (standsAt a (differences a (nodeAt m v))) 0 (m .nodes) ≡ found v
+  by-differences a ok fit =
+      let ok′ = w .node-ok v known in
+      found-node _ (stands-there a _ ok ok′ fit) λ b t.
+      let same = stands-only a _ ok ok′ fit b t in
       same-codes _ _ (ap lonCode same) (ap latCode same)
+
+-- No node stands at longitude 17,999,999: a sum that comes to it is a point without a node (W2; refusal 16).
+seek-none : (test : Node → Bool) (v : ℕ) (nodes : List Node) (d : Node) → ((i : ℕ) → i < length nodes → test (getD nodes i d) ≡ false) →
+    seek test v nodes ≡ missing
+unfolding seek
+seek-none test v [] d none = refl
+seek-none test v (a ∷ nodes) d none = rw (none 0 (omega arith), seek) (seek-none test (v + 1) nodes d λ i h. none (suc i) (omega arith))
+
+pub no-node-at-end : (m : Map) → WellFormed m → (a : Node) (d : Difference) → lonSum (a .lon) (signed (d .lon)) ≡ 35_999_999 →
+    seek (standsAt a d) 0 (m .nodes) ≡ missing
+unfolding standsAt nodeAt
+no-node-at-end m w a d end =
+    seek-none (standsAt a d) 0 (m .nodes) (record { lon = 0; lat = 0 }) λ i h.
+    let other = ne-eqb (lonSum (a .lon) (signed (d .lon))) (nodeAt m i .lon) (λ e. absurd (omega (arith, w .node-ok i h .lon))) in
+    rw other refl
 
 -- So a node's number is told by its codes, and by its coordinates.
 module _ (m : Map) (mb : List ℕ) (decodes : decode mb ≡ whole m) (u v : ℕ) (known : u < length (m .nodes)) (known′ : v < length (m .nodes)) where

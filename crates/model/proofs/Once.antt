@@ -11,7 +11,7 @@ use Rattle.model.specs.Reading.{Leg, bannedMeeting}
 use Rattle.model.specs.Stretch.{Stretch, StretchAnswer, remains, checkStretch}
 use Rattle.model.specs.Choice.{LegTest, MoreFirst, more, later, Preferred, same, fewer, more-first, Chosen}
 use Rattle.model.specs.Locate.{located, locate}
-use Rattle.model.specs.Outcome.{LegsAnswer, LegsRead, SpansRead, ReadOutcome, ReadEnd, ReadJoined, ReadOn, ReadParsed, Reads, WriteOutcome, WriteOn, WriteStretch, Writes}
+use Rattle.model.specs.Outcome.{LegsAnswer, LegsRead, SpansRead, ReadOutcome, ReadEnd, ReadJoined, ReadOn, ReadParsed, Reads, WriteOutcome, WriteBy, WriteStretch, Writes}
 use Rattle.model.proofs.Opened.{opens-once}
 use Rattle.model.proofs.Legs.{legs-same}
 use Rattle.model.proofs.Spans.{span-same, no-span}
@@ -35,17 +35,17 @@ preferred-same (more-first e h) (more-first e′ k) = absurd (not-both-more h k)
 pub chosen-same : {test : LegTest} {lines : List ℕ} {a b : List (List ℕ)} → Chosen test lines a → Chosen test lines b → a ≡ b
 chosen-same c d = preferred-same (c .preferred _ (d .choice)) (d .preferred _ (c .choice))
 
-module _ {m : Map} {s : Stretch} {room : ℕ} where
-  write-on-same : {o o′ : WriteOutcome} → WriteOn m s room o → WriteOn m s room o′ → o ≡ o′
-  write-on-same (WriteOn.no-choice n) (WriteOn.no-choice n′) = refl
-  write-on-same (WriteOn.no-choice n) (WriteOn.no-room c h) = absurd (n _ (c .choice))
-  write-on-same (WriteOn.no-choice n) (WriteOn.accepted c h) = absurd (n _ (c .choice))
-  write-on-same (WriteOn.no-room c h) (WriteOn.no-choice n) = absurd (n _ (c .choice))
-  write-on-same (WriteOn.no-room c h) (WriteOn.no-room c′ h′) = refl
-  write-on-same (WriteOn.no-room c h) (WriteOn.accepted c′ h′) = absurd (omega (arith, rw (chosen-same c c′) at h))
-  write-on-same (WriteOn.accepted c h) (WriteOn.no-choice n) = absurd (n _ (c .choice))
-  write-on-same (WriteOn.accepted c h) (WriteOn.no-room c′ h′) = absurd (omega (arith, rw (chosen-same c c′) at h))
-  write-on-same (WriteOn.accepted c h) (WriteOn.accepted c′ h′) = rw (chosen-same c c′)
+module _ {test : LegTest} {bytes : List (List ℕ) → List ℕ} {lines : List ℕ} {room : ℕ} where
+  write-on-same : {o o′ : WriteOutcome} → WriteBy test bytes lines room o → WriteBy test bytes lines room o′ → o ≡ o′
+  write-on-same (WriteBy.no-choice n) (WriteBy.no-choice n′) = refl
+  write-on-same (WriteBy.no-choice n) (WriteBy.no-room c h) = absurd (n _ (c .choice))
+  write-on-same (WriteBy.no-choice n) (WriteBy.accepted c h) = absurd (n _ (c .choice))
+  write-on-same (WriteBy.no-room c h) (WriteBy.no-choice n) = absurd (n _ (c .choice))
+  write-on-same (WriteBy.no-room c h) (WriteBy.no-room c′ h′) = refl
+  write-on-same (WriteBy.no-room c h) (WriteBy.accepted c′ h′) = absurd (omega (arith, rw (chosen-same c c′) at h))
+  write-on-same (WriteBy.accepted c h) (WriteBy.no-choice n) = absurd (n _ (c .choice))
+  write-on-same (WriteBy.accepted c h) (WriteBy.no-room c′ h′) = absurd (omega (arith, rw (chosen-same c c′) at h))
+  write-on-same (WriteBy.accepted c h) (WriteBy.accepted c′ h′) = rw (chosen-same c c′)
 
 module _ (mb : List ℕ) (s : Stretch) (room : ℕ) {o o′ : WriteOutcome} where
   write-stretch-same : (m : Map) (a : StretchAnswer) → WriteStretch m a room o → WriteStretch m a room o′ → o ≡ o′

@@ -25,17 +25,17 @@ module _ {Outcome : Type 0} (refused : Refused → Outcome) where
     opens-once mb work h h′ = on-area-once (ltb work workLength) mb h h′
 
   -- A call that asks another question with the same answer.
-  module _ (Asks Asks′ : Map → Outcome → Type 0) {o : Outcome} (by : (m : Map) → Asks m o → Asks′ m o) where
-    on-map-by : (a : MapAnswer) → OnMap refused Asks a o → OnMap refused Asks′ a o
-    on-map-by (whole m) h = by m h
-    on-map-by (MapAnswer.refused r) h = h
+  module _ (Asks Asks′ : Map → Outcome → Type 0) {o : Outcome} (mb : List ℕ) (by : (m : Map) → decode mb ≡ whole m → Asks m o → Asks′ m o) where
+    on-map-by : (a : MapAnswer) → decode mb ≡ a → OnMap refused Asks a o → OnMap refused Asks′ a o
+    on-map-by (whole m) d h = by m d h
+    on-map-by (MapAnswer.refused r) d h = h
 
-    on-area-by : (t : Bool) (mb : List ℕ) → OnArea refused Asks t mb o → OnArea refused Asks′ t mb o
-    on-area-by true mb h = h
-    on-area-by false mb h = on-map-by (decode mb) h
+    on-area-by : (t : Bool) → OnArea refused Asks t mb o → OnArea refused Asks′ t mb o
+    on-area-by true h = h
+    on-area-by false h = on-map-by (decode mb) refl h
 
-    pub opens-by : (mb : List ℕ) (work : ℕ) → Opens refused Asks mb work o → Opens refused Asks′ mb work o
-    opens-by mb work h = on-area-by (ltb work workLength) mb h
+    pub opens-by : (work : ℕ) → Opens refused Asks mb work o → Opens refused Asks′ mb work o
+    opens-by work h = on-area-by (ltb work workLength) h
 
   module _ (Asks : Map → Outcome → Type 0) (mb : List ℕ) (work : ℕ) where
     pub area-short : work < workLength → Opens refused Asks mb work (refused (row 1))

@@ -10,9 +10,9 @@ use Rattle.model.specs.Refusal.{Refused}
 use Rattle.model.specs.Map.{Map, MapAnswer, whole, decode}
 use Rattle.model.specs.Reference.{Reference, parsed, parse}
 use Rattle.model.specs.Stretch.{Stretch, remaining, StretchAnswer, remains, checkStretch}
-use Rattle.model.specs.Choice.{good, Chosen, stretchBytes}
+use Rattle.model.specs.Choice.{LegTest, good, Chosen, stretchBytes}
 use Rattle.model.specs.Opening.{OnArea}
-use Rattle.model.specs.Outcome.{ReadOutcome, ReadOn, Reads, WriteOutcome, written, WriteOn, WriteStretch, WriteMap, Writes}
+use Rattle.model.specs.Outcome.{ReadOutcome, ReadOn, Reads, WriteOutcome, written, WriteBy, WriteOn, WriteStretch, WriteMap, Writes}
 use Rattle.model.specs.Work.{workLength}
 use Rattle.model.proofs.Skipping.{Left, taken}
 
@@ -27,9 +27,9 @@ pub record Written (m : Map) (mb : List ℕ) (s : Stretch) (bytes : List ℕ) : 
 not-refused : {bytes : List ℕ} {r : Refused} → written bytes ≡ WriteOutcome.refused r → ⊥
 not-refused e = let z : _≡_ {A = ℕ} 0 1 = cc in omega arith
 
-pub written-on : {m : Map} {room : ℕ} {bytes : List ℕ} {r : Stretch} → WriteOn m r room (written bytes) →
-    (legs : List (List ℕ)) × Chosen (good m) (r .lines) legs × (bytes ≡ stretchBytes m legs r)
-written-on (WriteOn.accepted {lss = lss} c fits) = (lss, c, refl)
+pub written-on : {test : LegTest} {bytes : List (List ℕ) → List ℕ} {lines : List ℕ} {room : ℕ} {bs : List ℕ} →
+    WriteBy test bytes lines room (written bs) → (legs : List (List ℕ)) × Chosen test lines legs × (bs ≡ bytes legs)
+written-on (WriteBy.accepted {lss = lss} c fits) = (lss, c, refl)
 
 module _ (mb : List ℕ) (s : Stretch) (bytes : List ℕ) (room : ℕ) where
   written-stretch : (m : Map) (a : StretchAnswer) → decode mb ≡ whole m → checkStretch m s ≡ a → WriteStretch m a room (written bytes) →

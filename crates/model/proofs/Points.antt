@@ -34,7 +34,8 @@ module _ {m : Map} (w : WellFormed m) where
       legsFrom m last (fromNode m ls) k (pointOf m ls ∷ ps) ≡ leg-first (legOf m end ls) (legsFrom m last (toNode m ls) (k + 1) ps)
   unfolding pointOf legOf
   leg-back {ls = ls} last k ps g arrives =
-      next-point m last _ k (pointOf m ls) ps (toNode m ls) (by-differences m w (toNode m ls) (to-known w (connected g)) _ (g .fit))
+      let ok = w .node-ok _ (from-known w (connected g)) in
+      next-point m last _ k (pointOf m ls) ps (toNode m ls) (by-differences m w (toNode m ls) (to-known w (connected g)) _ ok (g .fit))
       ∙ rw arrives
 
   legs-back : {at : ℕ} {lss : List (List ℕ)} (last : LineAttributes) (k : ℕ) → Usable (good m) at lss → gap m (joined lss) ≡ false →

@@ -14,9 +14,10 @@ use Rattle.model.specs.Lines.{total}
 use Rattle.model.specs.Stretch.{Stretch, StretchAnswer, remains, greatestStretch, unknown, gap, bannedPair, remaining, checkStretch}
 use Rattle.model.specs.Reference.{Reference, ParseAnswer, parsed, parse, statusByte, spareBits, flags, pointCount, referenceAt, shortestReference, longestReference}
 use Rattle.model.specs.Reading.{Leg, bannedMeeting}
+use Rattle.model.specs.Choice.{LegTest}
 use Rattle.model.specs.Opening.{OnMap, OnArea, Opens}
 use Rattle.model.specs.Work.{workLength}
-use Rattle.model.specs.Outcome.{failed, LegsRead, ReadOutcome, ReadEnd, ReadJoined, ReadOn, ReadParsed, Reads, WriteOutcome, WriteOn, WriteStretch, Writes}
+use Rattle.model.specs.Outcome.{failed, LegsRead, ReadOutcome, ReadEnd, ReadJoined, ReadOn, ReadParsed, Reads, WriteOutcome, WriteBy, WriteStretch, Writes}
 
 -- A refusal with one of the numbers from `low` to `high`.
 pub record From (low high : ℕ) (r : Refused) : Type 0 where
@@ -182,9 +183,10 @@ read-on-rows (ReadOn.no-leg e h) = let n = legs-rows h in at-place _ _ (omega (a
 read-on-rows {m} {r} {room} {why} (ReadOn.every-leg {lss = lss} e h end) =
     wider (omega arith) (omega arith) (joined-rows m r room why (bannedMeeting m lss) lss end)
 
-write-on-rows : {m : Map} {s : Stretch} {room : ℕ} {why : Refused} → WriteOn m s room (WriteOutcome.refused why) → From 10 11 why
-write-on-rows (WriteOn.no-choice n) = at 10 (omega arith) (omega arith)
-write-on-rows (WriteOn.no-room c h) = at 11 (omega arith) (omega arith)
+write-on-rows : {test : LegTest} {bytes : List (List ℕ) → List ℕ} {lines : List ℕ} {room : ℕ} {why : Refused} →
+    WriteBy test bytes lines room (WriteOutcome.refused why) → From 10 11 why
+write-on-rows (WriteBy.no-choice n) = at 10 (omega arith) (omega arith)
+write-on-rows (WriteBy.no-room c h) = at 11 (omega arith) (omega arith)
 
 -- What every call asks first is refused with 1 to 6, or 23.
 module _ {Outcome : Type 0} (refused : Refused → Outcome) (same : (r s : Refused) → refused r ≡ refused s → r ≡ s) (Asks : Map → Outcome → Type 0)

@@ -20,3 +20,4 @@ pub mod Text
 pub mod Host
 pub mod Demand3
 pub mod HostDemand3
+pub mod AsBefore

@@ -12,7 +12,7 @@ use Rattle.model.specs.Lines.{total}
 use Rattle.model.specs.Reference.{Reference, ParseAnswer, parsed, parse}
 use Rattle.model.specs.Reading.{Leg, Only, Several, Unread, joined, bannedMeeting}
 use Rattle.model.specs.Stretch.{Stretch, StretchAnswer, remains, checkStretch}
-use Rattle.model.specs.Choice.{good, Choice, Chosen, firstLeg, lastLeg, stretchBytes}
+use Rattle.model.specs.Choice.{LegTest, good, Choice, Chosen, firstLeg, lastLeg, stretchBytes}
 use Rattle.model.specs.Locate.{locate, located, no-node}
 use Rattle.model.specs.Span.{SpanRead, NoOffset}
 
@@ -82,13 +82,15 @@ pub data WriteOutcome : Type 0 where
   written : List ℕ → WriteOutcome
   refused : Refused → WriteOutcome
 
--- On a map, for what remains of a stretch and a byte buffer of `room` bytes: 10, 11, or accepted.
-pub data WriteOn (m : Map) (s : Stretch) (room : ℕ) : WriteOutcome → Type 0 where
-  no-choice : ((lss : List (List ℕ)) → Choice (good m) (s .lines) lss → ⊥) → WriteOn m s room (refused (row 10))
-  no-room : {lss : List (List ℕ)} → Chosen (good m) (s .lines) lss → room < length (stretchBytes m lss s) →
-      WriteOn m s room (refused (row 11))
-  accepted : {lss : List (List ℕ)} → Chosen (good m) (s .lines) lss → length (stretchBytes m lss s) ≤ room →
-      WriteOn m s room (written (stretchBytes m lss s))
+-- For the lines that remain of a stretch, a test of its legs, the bytes of legs, and a byte buffer of `room` bytes: 10, 11, or accepted.
+pub data WriteBy (test : LegTest) (bytes : List (List ℕ) → List ℕ) (lines : List ℕ) (room : ℕ) : WriteOutcome → Type 0 where
+  no-choice : ((lss : List (List ℕ)) → Choice test lines lss → ⊥) → WriteBy test bytes lines room (refused (row 10))
+  no-room : {lss : List (List ℕ)} → Chosen test lines lss → room < length (bytes lss) → WriteBy test bytes lines room (refused (row 11))
+  accepted : {lss : List (List ℕ)} → Chosen test lines lss → length (bytes lss) ≤ room → WriteBy test bytes lines room (written (bytes lss))
+
+-- On a map, for what remains of a stretch.
+abbrev pub WriteOn : Map → Stretch → ℕ → WriteOutcome → Type 0
+WriteOn m s room o = WriteBy (good m) (λ lss. stretchBytes m lss s) (s .lines) room o
 
 -- Row by row: the stretch as given (7, 8, 21, 9) after the map (2 to 6, 23) after the work area (1).
 abbrev pub WriteStretch : Map → StretchAnswer → ℕ → WriteOutcome → Type 0

@@ -45,8 +45,8 @@ stretch-stands mb stretch ns pos neg work room o e h =
     let same : (m : Map) → checkStretch m (stretchOf ns pos neg) ≡ checkStretch m (hostStretch stretch pos neg) =
     λ m. ap (λ (l : List ℕ). checkStretch m (stretchOf l pos neg)) e ∙ first-65 m (stretchLines stretch) pos neg in
     opens-by WriteOutcome.refused (λ m. WriteStretch m (checkStretch m (stretchOf ns pos neg)) room)
-    (λ m. WriteStretch m (checkStretch m (hostStretch stretch pos neg)) room)
-    (λ m p. subst (λ (x : StretchAnswer). WriteStretch m x room o) (same m) p) mb work h
+    (λ m. WriteStretch m (checkStretch m (hostStretch stretch pos neg)) room) mb
+    (λ m d p. subst (λ (x : StretchAnswer). WriteStretch m x room o) (same m) p) work h
 
 -- ---- the answer
 

@@ -1,6 +1,8 @@
 // The point that a leg starts at, from the leg's lines.
 use fields::coordinate::Difference16;
+use fields::coordinate::LONGITUDE_ADDED;
 use fields::coordinate::difference;
+use fields::coordinate::longitude_difference;
 use fields::leg::distance;
 use stretches::lines::attributes_of;
 use stretches::lines::coordinate;
@@ -56,10 +58,11 @@ fn step_of(work: &[u32], lines: usize, leg: &[u32]) -> Step
 {
     let from = node_of(work, lines, leg, 0, START);
     let to = node_of(work, lines, leg, leg.len() - 1, END);
-    let lon = near_difference(
+    let eastward = longitude_difference(
         coordinate(work, lines, from, 0),
         coordinate(work, lines, to, 0),
     );
+    let lon = near_difference(LONGITUDE_ADDED, eastward);
     let lat = near_difference(
         coordinate(work, lines, from, 1),
         coordinate(work, lines, to, 1),

@@ -43,7 +43,7 @@ module _ (bytes work : List ℕ) (nodes : ℕ) where
 
   seeks-next : {m : Map} {lines : ℕ} → Holds work nodes lines m → (k from : ℕ) → from < nodes →
       seek (passes (soughtAfter bytes work k from)) 0 (m .nodes) ≡ nextNode m bytes k from
-  unfolding passes soughtAfter pointAt
+  unfolding passes soughtAfter standsAt pointAt
   seeks-next {m = m} h k from known =
       ap (λ (a : Node). seek (standsAt a (pointAt bytes (placeP k) .next)) 0 (m .nodes)) (node-path (lon-at h from known) (lat-at h from known))
 

@@ -6,6 +6,7 @@ use mathlib.Core.List.{List, [], _∷_}
 use lib.ListN.{getD}
 use lib.Dec.{eqb}
 use Rattle.model.specs.Map.{Map}
+use Rattle.model.specs.Difference.{lonSum, signed}
 use Rattle.model.specs.Reference.{at2, attributes, pointAt, referenceAt}
 use Rattle.model.specs.Reading.{Arrival, any, matching, Leg}
 use Rattle.work_area.specs.Area.{Holds}
@@ -48,7 +49,7 @@ legsAt bytes points places = legsOn bytes points places 0 points
 -- What tells the node of the point after point `k`, whose node is `from`.
 unfoldable pub soughtAfter : List ℕ → List ℕ → ℕ → ℕ → Sought
 soughtAfter bytes work k from =
-    Moved (getD work (2 * from) 0) (getD work (2 * from + 1) 0) (at2 bytes (placeP k + 3)) (at2 bytes (placeP k + 5))
+    Moved (lonSum (getD work (2 * from) 0) (signed (at2 bytes (placeP k + 3)))) (getD work (2 * from + 1) 0) (at2 bytes (placeP k + 5))
 
 -- Every point has a node, and these are their nodes.
 pub record AllFound (bytes : List ℕ) (points : ℕ) (work : List ℕ) (nodes : ℕ) (places : List ℕ) : Type 0 where

@@ -10,10 +10,10 @@ ghost use Rattle.model.specs.Map.{Node, greatestNodeCount};
 ghost use Rattle.model.specs.Work.{workLength};
 ghost use Rattle.references.specs.Node.{passes, Finds};
 
-// What tells the node: its two codes, or the coordinates of another node and the differences from there.
+// What tells the node: its two codes, or its longitude, the latitude of another node and the difference from there.
 pub enum Sought {
     Codes(u32, u32),
-    Moved(u32, u32, u32, u32),
+    Moved(u32, u32, u32),
 }
 
 // The number of the node, or none.
@@ -29,8 +29,7 @@ fn is_sought(sought: Sought, lon: u32, lat: u32) -> bool
     match sought {
         Sought::Codes(lon_code, lat_code) => longitude_code(lon) == lon_code
             && latitude_code(lat) == lat_code,
-        Sought::Moved(from_lon, from_lat, by_lon, by_lat) => moved(from_lon, by_lon, lon)
-            && moved(from_lat, by_lat, lat),
+        Sought::Moved(at_lon, from_lat, by_lat) => lon == at_lon && moved(from_lat, by_lat, lat),
     }
 }
 

@@ -5,6 +5,7 @@ use crate::node::find;
 use crate::reference::Reference;
 use buffers::bytes::at2;
 use buffers::bytes::at3;
+use fields::coordinate::longitude_sum;
 use work_area::NODE_NUMBERS;
 ghost use mathlib.Core.Path.{_≡_};
 ghost use Prim.Native.Nat.{_+_, _*_, _≤_, _<_};
@@ -27,7 +28,8 @@ fn next_sought(bytes: &[u8], work: &[u32], k: usize, from: u32) -> Sought
 {
     let p = Reference::FIRST_P + Reference::MIDDLE_POINT * k;
     let at = NODE_NUMBERS * from as usize;
-    Sought::Moved(work[at], work[at + 1], at2(bytes, p + 3), at2(bytes, p + 5))
+    let lon = longitude_sum(work[at], at2(bytes, p + 3));
+    Sought::Moved(lon, work[at + 1], at2(bytes, p + 5))
 }
 
 // Puts the node of each point into `places`, up to the first point that has none.

@@ -7,6 +7,7 @@ use console::load;
 use console::print;
 use fields::coordinate::latitude_code;
 use fields::coordinate::longitude_code;
+use fields::coordinate::longitude_sum;
 use fields::coordinate::moved;
 use fields::leg::Arrival;
 use fields::leg::Attributes;
@@ -65,9 +66,10 @@ fn print_signed(word: &[u8], by: u32)
 // Whether the differences to the point after point `k` lead to its coordinates in Table 72.
 fn reached(k: usize, by_lon: u32, by_lat: u32) -> bool {
     if k == 0 {
-        return moved(LONGITUDE_1, by_lon, LONGITUDE_2) && moved(LATITUDE_1, by_lat, LATITUDE_2);
+        return longitude_sum(LONGITUDE_1, by_lon) == LONGITUDE_2
+            && moved(LATITUDE_1, by_lat, LATITUDE_2);
     }
-    moved(LONGITUDE_2, by_lon, LONGITUDE_3) && moved(LATITUDE_2, by_lat, LATITUDE_3)
+    longitude_sum(LONGITUDE_2, by_lon) == LONGITUDE_3 && moved(LATITUDE_2, by_lat, LATITUDE_3)
 }
 
 // The coordinates of each point, the differences to it from the second on.

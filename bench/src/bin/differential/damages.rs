@@ -1,13 +1,11 @@
 //! Maps and references with something changed.
 
 use plain::depot_map::{Ban, DepotMap};
-use plain::fields::{
-    coordinate_code, FIRST_POINT_BYTES, MIDDLE_POINT_BYTES, NEGATIVE_FLAG, POSITIVE_FLAG,
-    SHORTEST_REFERENCE,
-};
+use plain::fields::{coordinate_code, NEGATIVE_FLAG, POSITIVE_FLAG, SHORTEST_REFERENCE};
 use plain::maps::{push_number, MapPlan, Xorshift};
 
-use crate::inputs::{random_bytes, MOST_BANS};
+use crate::inputs::{random_bytes, EASTERNMOST, MOST_BANS, WESTERNMOST};
+use crate::points::{legs, place_of_p, steps, Step};
 
 /// At the edges of the ranges of a map's numbers.
 #[rustfmt::skip]
@@ -138,24 +136,16 @@ pub fn damaged_reference(rng: &mut Xorshift, map: &DepotMap, reference: &[u8]) -
 }
 
 fn damage_reference(rng: &mut Xorshift, map: &DepotMap, bytes: &mut Vec<u8>) {
-    match rng.below(12) {
+    match rng.below(13) {
         0 => change_bytes(rng, bytes),
         1 => bytes.truncate(rng.below(bytes.len() as u32) as usize),
         2 => bytes.extend(random_bytes(rng, &[1, 2, 3, 7, 460])),
         3 => change_offsets(rng, bytes),
         4 => move_first_point(rng, map, bytes),
         5 => move_point(rng, map, bytes),
+        6 => move_point_to_meridian(rng, map, bytes),
         _ => change_field(rng, bytes),
     }
-}
-
-fn legs(reference: &[u8]) -> usize {
-    (reference.len() - SHORTEST_REFERENCE) / MIDDLE_POINT_BYTES + 1
-}
-
-/// P of a point: the byte after it is Q or R, and the one after Q is D.
-fn place_of_p(point: usize) -> usize {
-    FIRST_POINT_BYTES - 2 + MIDDLE_POINT_BYTES * point
 }
 
 /// Marks, the lowest class, D or the bits that must be zero.
@@ -199,8 +189,32 @@ fn move_first_point(rng: &mut Xorshift, map: &DepotMap, bytes: &mut [u8]) {
 /// A later point moves by what lies between two nodes. Those after it stay.
 fn move_point(rng: &mut Xorshift, map: &DepotMap, bytes: &mut [u8]) {
     let (from, to) = (*rng.pick(&map.nodes), *rng.pick(&map.nodes));
-    let step = [to.longitude - from.longitude, to.latitude - from.latitude];
     let point = rng.within(1, legs(bytes) as u32) as usize;
+    move_point_by(bytes, point, from.differences_to(to));
+}
+
+/// A later point moves to the 180th meridian, unless that is too far, or beside a node. Those after it
+/// stay.
+fn move_point_to_meridian(rng: &mut Xorshift, map: &DepotMap, bytes: &mut [u8]) {
+    let steps = steps(map, bytes);
+    if steps.is_empty() {
+        return move_point(rng, map, bytes);
+    }
+    let place = rng.below(steps.len() as u32) as usize;
+    let Step { from, differences } = steps[place];
+    let mut to = from.place_at(differences);
+    let node = *rng.pick(&map.nodes);
+    to.latitude = *rng.pick(&[to.latitude, node.latitude]);
+    to.longitude = *rng.pick(&[EASTERNMOST, EASTERNMOST + 1, WESTERNMOST]);
+    if i16::try_from(from.differences_to(to)[0]).is_err() || rng.below(4) == 0 {
+        to.longitude = node.longitude + *rng.pick(&[-1, 1]);
+    }
+    let [longitude, latitude] = from.differences_to(to);
+    let step = [longitude - differences[0], latitude - differences[1]];
+    move_point_by(bytes, place + 1, step);
+}
+
+fn move_point_by(bytes: &mut [u8], point: usize, step: [i32; 2]) {
     add_to_differences(bytes, point, step);
     if point < legs(bytes) {
         add_to_differences(bytes, point + 1, step.map(i32::wrapping_neg));

@@ -1,7 +1,7 @@
 //! Maps, stretches, offsets and references from a random source.
 
 use plain::depot_map::{Ban, DepotMap};
-use plain::fields::STATUS_BYTE;
+use plain::fields::{brought_round, STATUS_BYTE};
 use plain::maps::{
     chain, grid, random_graph, random_walk, small_map, Bans, Lengths, MapPlan, Turns, Xorshift,
 };
@@ -11,6 +11,14 @@ use crate::calls::line_bytes;
 
 const MOST_LEGS: usize = 64;
 pub const MOST_BANS: usize = 512;
+
+/// The longitudes of a map's nodes on both sides of the 180th meridian.
+pub const EASTERNMOST: i32 = 17_999_998;
+pub const WESTERNMOST: i32 = -18_000_000;
+
+/// How far apart nodes are put across the meridian: the least that there is, at the ends of 16 bits,
+/// which hold 32,768 westward alone, and half a circle.
+const WIDTHS: [i32; 7] = [2, 32_767, 32_768, 32_768, 32_769, 32_769, 18_000_000];
 
 /// At the edges of D, and the longest.
 const EDGE_LENGTHS: [u32; 9] = [1, 585, 586, 587, 1171, 1172, 75_000, 149_999, 150_000];
@@ -23,8 +31,11 @@ pub fn any_small_plan(rng: &mut Xorshift) -> MapPlan {
             plan.lines[line].length = *rng.pick(&EDGE_LENGTHS);
         }
     }
-    if rng.below(4) == 0 {
-        move_to_corner(rng, &mut plan);
+    match rng.below(8) {
+        0 | 1 => move_to_corner(rng, &mut plan),
+        2 => move_over_meridian(rng, &mut plan),
+        3 => move_to_both_sides(rng, &mut plan),
+        _ => {}
     }
     plan.bans = any_bans(rng, &plan);
     plan
@@ -46,12 +57,31 @@ fn any_bans(rng: &mut Xorshift, plan: &MapPlan) -> Vec<Ban> {
 /// Moves all nodes as far as coordinates go. Codes may fall together.
 fn move_to_corner(rng: &mut Xorshift, plan: &mut MapPlan) {
     let longitudes = plan.nodes.iter().map(|node| node.longitude);
-    let east = to_edge(rng, longitudes, (-18_000_000, 17_999_998));
+    let east = to_edge(rng, longitudes, (WESTERNMOST, EASTERNMOST));
     let latitudes = plan.nodes.iter().map(|node| node.latitude);
     let north = to_edge(rng, latitudes, (-9_000_000, 9_000_000));
     for node in &mut plan.nodes {
         node.longitude += east;
         node.latitude += north;
+    }
+}
+
+/// Moves all nodes so far that one stands beside the meridian. What comes to 17,999,999 stops before
+/// it, so that codes may fall together.
+pub fn move_over_meridian(rng: &mut Xorshift, plan: &mut MapPlan) {
+    let east = *rng.pick(&[WESTERNMOST, EASTERNMOST]) - rng.pick(&plan.nodes).longitude;
+    for node in &mut plan.nodes {
+        node.longitude = brought_round(node.longitude + east).min(EASTERNMOST);
+    }
+}
+
+/// Moves each node to one of two longitudes that the meridian lies between.
+fn move_to_both_sides(rng: &mut Xorshift, plan: &mut MapPlan) {
+    let width = *rng.pick(&WIDTHS);
+    let places = [0, rng.below(width as u32 - 1) as i32, width - 2];
+    let east = EASTERNMOST - *rng.pick(&places);
+    for node in &mut plan.nodes {
+        node.longitude = *rng.pick(&[east, brought_round(east + width)]);
     }
 }
 
@@ -68,7 +98,7 @@ fn to_edge(
 }
 
 /// Maps of 512 nodes and 1,024 lines, of each kind in turn, and of each with no bans, with some and
-/// with as many as there may be.
+/// with as many as there may be. Some lie across the 180th meridian.
 pub fn full_size_plan(rng: &mut Xorshift, turn: u64) -> MapPlan {
     let seed = rng.draw();
     let plan = match turn % 5 {
@@ -78,7 +108,10 @@ pub fn full_size_plan(rng: &mut Xorshift, turn: u64) -> MapPlan {
         3 => grid(seed, Lengths::SlightlyDifferent),
         _ => chain(seed, Lengths::Equal),
     };
-    let plan = plan.shuffled(seed);
+    let mut plan = plan.shuffled(seed);
+    if rng.below(4) == 0 {
+        move_over_meridian(rng, &mut plan);
+    }
     match turn / 5 % 4 {
         0 => plan,
         1 => plan.with_bans(seed, rng.within(1, 60) as usize, Bans::Spread),

@@ -9,6 +9,8 @@ mod calls;
 mod damages;
 mod inputs;
 mod memory;
+mod meridian;
+mod points;
 mod run;
 
 use std::io;

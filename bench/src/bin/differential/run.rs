@@ -8,9 +8,10 @@ use plain::writer::Stretch;
 use crate::calls::{line_numbers, ReadCall, WriteCall, MOST_LINES_READ};
 use crate::damages::{damaged_map, damaged_reference};
 use crate::inputs::{
-    any_offsets, any_reference, any_small_plan, any_stretch, full_size_plan, random_bytes,
-    reference_along_chain,
+    any_offsets, any_reference, any_small_plan, any_stretch, full_size_plan, move_over_meridian,
+    random_bytes, reference_along_chain,
 };
+use crate::meridian::Meridian;
 
 /// Of so many maps one is of full size, and one is for long lists.
 const FULL_SIZE_EVERY: u64 = 10;
@@ -31,6 +32,7 @@ pub struct Run {
     most_lines: usize,
     /// Calls with refusal 21 in which all banned turns are in lines skipped whole.
     banned_where_skipped: u64,
+    meridian: Meridian,
 }
 
 /// A map with its bytes.
@@ -124,13 +126,13 @@ impl Run {
             neg,
             room: *rng.pick(&rooms) as usize,
         };
-        let Ok(reference) = self.write(call)? else {
+        let Ok(reference) = self.write_on(&sample.map, call)? else {
             return Ok(());
         };
         let length = reference.len() as u32;
         let rooms = [length, length, length - 1, rng.below(length)];
         let room = *rng.pick(&rooms) as usize;
-        let _ = self.write(WriteCall { room, ..call })?;
+        let _ = self.write_on(&sample.map, WriteCall { room, ..call })?;
         for _ in 0..3 {
             let damaged = damaged_reference(rng, &sample.map, &reference);
             self.reference(rng, sample, &damaged)?;
@@ -152,17 +154,22 @@ impl Run {
             reference,
             room: *rng.pick(&rooms),
         };
-        let Ok(reading) = self.read(call)? else {
+        let Ok(reading) = self.read_on(&sample.map, call)? else {
             return Ok(());
         };
         let enough = 4 * reading.lines.len();
         let room = *rng.pick(&[enough, enough + 3, enough - 1, enough - 4, 0]);
-        self.read(ReadCall { room, ..call }).map(drop)
+        let call = ReadCall { room, ..call };
+        self.read_on(&sample.map, call).map(drop)
     }
 
     /// References of about 1,024 lines and of many more.
     fn long_lists(&mut self, rng: &mut Xorshift) -> Result<(), String> {
-        let bytes = chain(rng.draw(), Lengths::SlightlyDifferent).encode();
+        let mut plan = chain(rng.draw(), Lengths::SlightlyDifferent);
+        if rng.below(4) == 0 {
+            move_over_meridian(rng, &mut plan);
+        }
+        let bytes = plan.encode();
         let map = DepotMap::decode(&bytes).map_err(|refusal| refusal.to_string())?;
         for lines in [
             MOST_LINES_READ - 1,
@@ -175,9 +182,15 @@ impl Run {
                 reference: &reference_along_chain(&map, lines),
                 room: *rng.pick(&[ENOUGH_FOR_LINES, ENOUGH_FOR_LINES - 1, 8 * lines]),
             };
-            let _ = self.read(call)?;
+            let _ = self.read_on(&map, call)?;
         }
         Ok(())
+    }
+
+    fn read_on(&mut self, map: &DepotMap, call: ReadCall) -> Result<Outcome<Reading>, String> {
+        let outcome = self.read(call)?;
+        self.meridian.count_read(map, call.reference, &outcome);
+        Ok(outcome)
     }
 
     fn read(&mut self, call: ReadCall) -> Result<Outcome<Reading>, String> {
@@ -191,41 +204,58 @@ impl Run {
     }
 
     /// What is written is read back.
-    fn write(&mut self, call: WriteCall) -> Result<Outcome<Vec<u8>>, String> {
-        self.calls += 1;
-        let compared = call.compare();
-        let outcome = compared.map_err(|difference| format!("{call}\n{difference}"))?;
-        count(&mut self.writes, &outcome);
+    fn write_on(&mut self, map: &DepotMap, call: WriteCall) -> Result<Outcome<Vec<u8>>, String> {
+        let outcome = self.write(call)?;
+        let lines = line_numbers(call.stretch);
+        let given = Stretch {
+            lines: &lines,
+            positive: call.pos,
+            negative: call.neg,
+        };
         match &outcome {
             Ok(reference) => {
-                self.longest_reference = self.longest_reference.max(reference.len());
-                self.read_back(call, reference)?;
+                self.meridian.count_written(map, reference);
+                self.read_back(map, call, reference, &given.without_skipped_lines(map))?;
+            }
+            Err(Refusal::NoUsablePoints) => {
+                let left = given.without_skipped_lines(map);
+                self.meridian.count_too_far(map, &left);
             }
             Err(Refusal::BannedInStretch) => {
-                self.banned_where_skipped += u64::from(is_banned_where_skipped(call));
+                let is_skipped = is_banned_where_skipped(map, &given);
+                self.banned_where_skipped += u64::from(is_skipped);
             }
             Err(_) => {}
         }
         Ok(outcome)
     }
 
+    fn write(&mut self, call: WriteCall) -> Result<Outcome<Vec<u8>>, String> {
+        self.calls += 1;
+        let compared = call.compare();
+        let outcome = compared.map_err(|difference| format!("{call}\n{difference}"))?;
+        count(&mut self.writes, &outcome);
+        let length = outcome.as_ref().map_or(0, Vec::len);
+        self.longest_reference = self.longest_reference.max(length);
+        Ok(outcome)
+    }
+
     /// The lines handed back are those left, and each span holds what is left of its offset. The
     /// line buffer is just long enough.
-    fn read_back(&mut self, written: WriteCall, reference: &[u8]) -> Result<(), String> {
-        let lines = line_numbers(written.stretch);
-        let map = DepotMap::decode(written.map).map_err(|refusal| refusal.to_string())?;
-        let left = Stretch::new(&map, &lines, written.pos, written.neg);
-        let left = left.map_err(|refusal| refusal.to_string())?;
+    fn read_back(
+        &mut self,
+        map: &DepotMap,
+        written: WriteCall,
+        reference: &[u8],
+        left: &Stretch,
+    ) -> Result<(), String> {
         let call = ReadCall {
             map: written.map,
             reference,
             room: 4 * left.lines.len(),
         };
-        let read = self.read(call)?;
-        if !read
-            .as_ref()
-            .is_ok_and(|reading| stands_for(reading, &left))
-        {
+        let read = self.read_on(map, call)?;
+        if !read.as_ref().is_ok_and(|reading| stands_for(reading, left)) {
             return Err(format!("{written}\n{call}\n{read:?} for {left:?}"));
         }
         Ok(())
@@ -240,23 +270,15 @@ impl Run {
         if skipped == 0 {
             return Err("no banned turn was in lines skipped whole alone".to_string());
         }
+        self.meridian.report()?;
         print_answers("write", &self.writes, &OF_WRITER)?;
         print_answers("read", &self.reads, &OF_READER)
     }
 }
 
 /// Of a stretch with a banned turn.
-fn is_banned_where_skipped(call: WriteCall) -> bool {
-    let Ok(map) = DepotMap::decode(call.map) else {
-        return false;
-    };
-    let lines = line_numbers(call.stretch);
-    let left = Stretch {
-        lines: &lines,
-        positive: call.pos,
-        negative: call.neg,
-    };
-    let left = left.without_skipped_lines(&map).lines;
+fn is_banned_where_skipped(map: &DepotMap, given: &Stretch) -> bool {
+    let left = given.without_skipped_lines(map).lines;
     let banned = |pair: &[u32]| map.is_banned(pair[0], pair[1]);
     !left.is_empty() && !left.windows(2).any(banned)
 }

@@ -12,7 +12,7 @@ use Rattle.model.specs.Reading.{Leg, any, matching, Allowed, Only, Unrea
 use Rattle.model.specs.Choice.{Good, good, final, Preferred, Chosen}
 use Rattle.model.specs.Refusal.{row}
 use Rattle.model.specs.Span.{unflagged}
-use Rattle.model.specs.Outcome.{LegsRead, ReadOutcome, read, ReadEnd, ReadOn, ReadParsed, Reads, WriteOutcome, written, WriteOn, Writes}
+use Rattle.model.specs.Outcome.{LegsRead, ReadOutcome, read, ReadEnd, ReadOn, ReadParsed, Reads, WriteOutcome, written, WriteBy, WriteOn, Writes}
 use Rattle.model.proofs.Joining.{first-known}
 use Rattle.model.proofs.Cases.Computing.{computing}
 use Rattle.model.proofs.Cases.Encoded.{encoded, encoding}
@@ -96,11 +96,11 @@ north-points =
 
 pub resolved-written : WriteOn barred (stretchOf (0 ∷ 1 ∷ []) 0 0) 16 (written twoPoints)
 unfolding computing
-resolved-written = WriteOn.accepted two-points (omega arith)
+resolved-written = WriteBy.accepted two-points (omega arith)
 
 pub north-written : WriteOn northward (stretchOf (0 ∷ 2 ∷ 3 ∷ []) 0 0) 16 (written twoPoints)
 unfolding computing
-north-written = WriteOn.accepted north-points (omega arith)
+north-written = WriteBy.accepted north-points (omega arith)
 
 pub resolved-read : ReadParsed barred (parse twoPoints) 2 (read (0 ∷ 1 ∷ []) none none)
 unfolding computing

@@ -8,7 +8,7 @@ use lib.ListN.{length}
 use Rattle.model.specs.Map.{Map}
 use Rattle.model.specs.Reading.{Leg, Several}
 use Rattle.model.specs.Choice.{legOf, Good, good, Usable, final, before, MoreFirst, Preferred, Chosen, firstLeg}
-use Rattle.model.specs.Outcome.{written, WriteOn}
+use Rattle.model.specs.Outcome.{written, WriteBy, WriteOn}
 use Rattle.model.proofs.Cases.Computing.{computing}
 use Rattle.model.proofs.Cases.Ways.{finding, connects}
 use Rattle.model.proofs.Legs.{not-several}
@@ -118,7 +118,7 @@ bypassBytes =
 
 pub bypass-written : WriteOn bypass (record { lines = 0 ∷ 1 ∷ 2 ∷ []; pos = 500; neg = 250 }) 25 (written bypassBytes)
 unfolding computing
-bypass-written = WriteOn.accepted most-lines-first (omega arith)
+bypass-written = WriteBy.accepted most-lines-first (omega arith)
 
 -- "The fewest points": 0, 1 alone takes two.
 both-lines : Good bypass true (0 ∷ 1 ∷ [])

@@ -2,7 +2,7 @@
 use Rattle.model.specs.Number.{groups, number, groupBytes, numberBytes}
 use Rattle.model.specs.Field.{codeSize, code, sector, distance, offsetByte}
 use Rattle.model.specs.Map.{field, lonCode, latCode, sameCodes, among, clash, fitting, allFitting, ended, readBan, decodeBans, readLine, decodeLines, readNode, decodeNodes, decode}
-use Rattle.model.specs.Difference.{difference, moved, differences, standsAt}
+use Rattle.model.specs.Difference.{difference, moved, brought, lonDifference, lonSum, signed, differences, standsAt}
 use Rattle.model.specs.Lines.{lineAt, nodeAt, turnAmong, banned, total, lowest, firstOf, lastOf, leaving, arriving}
 use Rattle.model.specs.Stretch.{unknown, somePair, apart, skip, remaining, checkStretch}
 use Rattle.model.specs.Reference.{bytes2, bytes3, byteP, byteQ, flag, byteR, pointBytes, offsetBytes, bytesOf, at2, at3, attributes, pointAt, pointsAt, positive, negative, offsetAt, pointCount, referenceAt, spareBits, flags, parse}
@@ -18,7 +18,7 @@ use Rattle.model.specs.Host.{words, wordBytes, hostStretch, hostRoom, ho
 unfoldable pub computing : Unit {0}
 unfolding
     groups number groupBytes numberBytes codeSize code sector distance offsetByte field lonCode latCode sameCodes among clash fitting allFitting ended readBan decodeBans readLine
-    decodeLines readNode decodeNodes decode difference moved differences standsAt lineAt nodeAt turnAmong banned total lowest firstOf lastOf leaving arriving
+    decodeLines readNode decodeNodes decode difference moved brought lonDifference lonSum signed differences standsAt lineAt nodeAt turnAmong banned total lowest firstOf lastOf leaving arriving
     unknown somePair apart skip remaining checkStretch bytes2 bytes3 byteP byteQ flag byteR pointBytes offsetBytes bytesOf at2 at3 attributes pointAt
     pointsAt positive negative offsetAt pointCount referenceAt spareBits flags parse joined bannedMeeting fromNode toNode arrivalOf legOf firstLeg lastLeg
     pointOf pointsOf offsetOf referenceOf stretchBytes numberOf placeOf refusalOf seek leg-first arrivalBefore legsFrom hasCodes locate cleared placed

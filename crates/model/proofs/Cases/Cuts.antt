@@ -7,7 +7,7 @@ use lib.ListN.{length}
 use Rattle.model.specs.Map.{Map}
 use Rattle.model.specs.Lines.{Connected, single, linked}
 use Rattle.model.specs.Reading.{joined}
-use Rattle.model.specs.Choice.{Good, LegTest, good, Usable, final, before, Choice, Preferred, Chosen}
+use Rattle.model.specs.Choice.{LegTest, good, Usable, final, before, Choice, Preferred, Chosen}
 use Rattle.model.proofs.Cases.Ways.{Every, every}
 
 -- Line `x` in front of some legs, as a leg of its own or as the first line of the first leg.
@@ -54,18 +54,20 @@ unfolding cuts
 leg-cut rest (single {l = l} h) i = alone l i
 leg-cut rest (linked {l = l} h f c) i = widened l (leg-cut rest c i)
 
-connected : {m : Map} {last : Bool} {ls : List ℕ} → Good m last ls → Connected m ls
-connected g = g .only .reading .allowed .connected
+-- A test that only connected lines pass.
+module _ (m : Map) (test : LegTest) (connected : (at : ℕ) (last : Bool) (ls : List ℕ) → test at last ls → Connected m ls) where
+  in-cuts : {at : ℕ} {lss : List (List ℕ)} → Usable test at lss → List·Memᴰ lss (cuts (joined lss))
+  unfolding joined cuts
+  in-cuts (final g) = leg-cut {lss = []} [] (connected _ _ _ g) (List·Memᴰ·head refl)
+  in-cuts (before {ks = ks} {lss = lss} g u) = leg-cut (joined (ks ∷ lss)) (connected _ _ _ g) (in-cuts u)
 
-in-cuts : (m : Map) {at : ℕ} {lss : List (List ℕ)} → Usable (good m) at lss → List·Memᴰ lss (cuts (joined lss))
-unfolding joined cuts
-in-cuts m (final g) = leg-cut {lss = []} [] (connected g) (List·Memᴰ·head refl)
-in-cuts m (before {ks = ks} {lss = lss} g u) = leg-cut (joined (ks ∷ lss)) (connected g) (in-cuts m u)
+  -- What holds of each cut holds of each choice.
+  pub each-cut : (lines : List ℕ) (P : List (List ℕ) → Type 0) → Every P (cuts lines) → (lss : List (List ℕ)) → Choice test lines lss → P lss
+  each-cut lines P each lss d = every P each (subst (λ (l : List ℕ). List·Memᴰ lss (cuts l)) (d .whole) (in-cuts (d .usable)))
 
 module _ (m : Map) (lines : List ℕ) where
-  -- What holds of each cut holds of each choice.
   pub each-choice : (P : List (List ℕ) → Type 0) → Every P (cuts lines) → (lss : List (List ℕ)) → Choice (good m) lines lss → P lss
-  each-choice P each lss d = every P each (subst (λ (l : List ℕ). List·Memᴰ lss (cuts l)) (d .whole) (in-cuts m (d .usable)))
+  each-choice P each lss d = each-cut m (good m) (λ at last ls g. g .only .reading .allowed .connected) lines P each lss d
 
   pub chosen : (lss : List (List ℕ)) → Choice (good m) lines lss →
       Every (λ others. Choice (good m) lines others → Preferred lss others) (cuts lines) → Chosen (good m) lines lss

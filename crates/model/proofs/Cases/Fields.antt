@@ -7,8 +7,8 @@ use native.Mathlib.Omega.{arith}
 use lib.ListN.{replicate}
 use Rattle.model.specs.Refusal.{row}
 use Rattle.model.specs.Field.{code, sector, offsetByte}
-use Rattle.model.specs.Map.{Map, lonCode, latCode}
-use Rattle.model.specs.Difference.{Near, DifferencesFit, difference, moved, differences, standsAt}
+use Rattle.model.specs.Map.{Node, Map, lonCode, latCode}
+use Rattle.model.specs.Difference.{Near, DifferencesFit, difference, moved, brought, lonDifference, lonSum, signed, differences, standsAt}
 use Rattle.model.specs.Lines.{total, lowest, leaving, arriving}
 use Rattle.model.specs.Stretch.{Stretch, StretchAnswer, remains, checkStretch}
 use Rattle.model.specs.Reading.{any, matching}
@@ -31,6 +31,10 @@ toAndFro =
 
 abbrev stretch : List ℕ → ℕ → ℕ → Stretch
 stretch lines pos neg = record { lines = lines; pos = pos; neg = neg }
+
+-- A node at a longitude as the map stores it, on the equator.
+abbrev pub at : ℕ → Node
+at lon = record { lon = lon; lat = 9_000_000 }
 
 -- To and fro so many times.
 abbrev pub laps : ℕ → List ℕ
@@ -60,6 +64,28 @@ pub record FieldCases : Type 0 where
   pub not-fitting : (DifferencesFit (node 0 0) (node 32_768 0) → ⊥) × (DifferencesFit (node 0 0) (node 0 32_768) → ⊥)
   pub both-ways : differences (node 10 20) (node 15 13) ≡ record { lon = 5; lat = 0xFFF9 }
   pub stands : map (standsAt (node 10 20) (record { lon = 5; lat = 0xFFF9 })) (node 15 13 ∷ node 15 12 ∷ node 14 13 ∷ []) ≡ true ∷ false ∷ false ∷ []
+  -- Longitudes as the map stores them, from 17,999,998 (W2): to -18,000,000 "the difference is 2"; to 17,999,997 and itself it is -1 and 0; half a
+  -- circle on it is 17,999,999, -18,000,000 and -17,999,999.
+  pub round : map (lonDifference 35_999_998) (0 ∷ 35_999_997 ∷ 35_999_998 ∷ 17_999_997 ∷ 17_999_998 ∷ 17_999_999 ∷ []) ≡
+      18_000_002 ∷ 17_999_999 ∷ 18_000_000 ∷ 35_999_999 ∷ 0 ∷ 1 ∷ []
+  -- From -18,000,000 to 17,999,998 it is -2; from 0 to -18,000,000, 17,999,998 and 1 it is as plain.
+  pub round-back : lonDifference 0 35_999_998 ∷ map (lonDifference 18_000_000) (0 ∷ 35_999_998 ∷ 18_000_001 ∷ []) ≡ 17_999_998 ∷ 0 ∷ 35_999_998 ∷ 18_000_001 ∷ []
+  -- The ends of what is brought, and one past each: -18,000,000 and 17,999,999; 17,999,999 and -18,000,000.
+  pub brought-ends : map brought (36_000_000 ∷ 71_999_999 ∷ 35_999_999 ∷ 72_000_000 ∷ []) ≡ 0 ∷ 35_999_999 ∷ 35_999_999 ∷ 0 ∷ []
+  -- What 16 bits stand for: 0, 32,767, -32,768 and -1.
+  pub signs : map signed (0 ∷ 0x7FFF ∷ 0x8000 ∷ 0xFFFF ∷ []) ≡ 18_000_000 ∷ 18_032_767 ∷ 17_967_232 ∷ 17_999_999 ∷ []
+  -- Sums: 17,999,998 and 2, -18,000,000 and -2, 17,999,998 and 32,767, -17,967,235 and -32,768, 17,999,998 and 1, 5 and -2.
+  pub sums : lonSum 35_999_998 (signed 2) ∷ lonSum 0 (signed 0xFFFE) ∷ lonSum 35_999_998 (signed 0x7FFF) ∷ lonSum 32_765 (signed 0x8000)
+      ∷ lonSum 35_999_998 (signed 1) ∷ lonSum 18_000_005 (signed 0xFFFE) ∷ [] ≡ 0 ∷ 35_999_998 ∷ 32_765 ∷ 35_999_997 ∷ 35_999_999 ∷ 18_000_003 ∷ []
+  -- In 16 bits; and just inside and just outside them across the meridian, both ways.
+  pub round-bits : differences (at 35_999_998) (at 0) .lon ∷ differences (at 0) (at 35_999_998) .lon ∷ [] ≡ 2 ∷ 0xFFFE ∷ []
+  pub fits-round : DifferencesFit (at 35_999_998) (at 0) × DifferencesFit (at 0) (at 35_999_998)
+      × DifferencesFit (at 35_999_998) (at 32_765) × DifferencesFit (at 32_765) (at 35_999_997)
+  pub not-round : (DifferencesFit (at 35_999_998) (at 32_766) → ⊥) × (DifferencesFit (at 32_765) (at 35_999_996) → ⊥)
+      × (DifferencesFit (at 0) (at 18_000_000) → ⊥) × (DifferencesFit (at 18_000_000) (at 0) → ⊥)
+  -- Latitudes do not go round: there is no way over a pole.
+  pub no-pole : (DifferencesFit (record { lon = 0; lat = 18_000_000 }) (record { lon = 0; lat = 0 }) → ⊥)
+      × (DifferencesFit (record { lon = 0; lat = 0 }) (record { lon = 0; lat = 18_000_000 }) → ⊥)
   -- "Bearing out" and "bearing back"; "the greatest FRC number".
   pub lines : leaving toAndFro 0 ∷ arriving toAndFro 0 ∷ leaving toAndFro 1 ∷ arriving toAndFro 1 ∷ [] ≡
       record { frc = 3; fow = 5; sector = 8 } ∷ record { frc = 3; fow = 5; sector = 16 } ∷ record { frc = 5; fow = 2; sector = 24 }
@@ -107,6 +133,15 @@ field-cases =
       not-fitting = (λ f. omega (arith, f .lon .on), λ f. omega (arith, f .lat .on));
       both-ways = refl;
       stands = refl;
+      round = refl;
+      round-back = refl;
+      brought-ends = refl;
+      signs = refl;
+      sums = refl;
+      round-bits = refl;
+      fits-round = (omega arith, omega arith, omega arith, omega arith);
+      not-round = (λ f. omega (arith, f .lon .on), λ f. omega (arith, f .lon .back), λ f. omega (arith, f .lon .back), λ f. omega (arith, f .lon .back));
+      no-pole = (λ f. omega (arith, f .lat .back), λ f. omega (arith, f .lat .on));
       lines = refl;
       classes = refl;
       totals = refl;

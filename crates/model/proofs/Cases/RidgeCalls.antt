@@ -12,7 +12,7 @@ use Rattle.model.specs.Reference.{absent, byte, Reference}
 use Rattle.model.specs.Reading.{matching, Leg, Only}
 use Rattle.model.specs.Stretch.{Stretch}
 use Rattle.model.specs.Refusal.{rowAt}
-use Rattle.model.specs.Outcome.{LegsRead, ReadOutcome, read, ReadEnd, ReadOn, Reads, written, WriteOutcome, WriteOn, Writes}
+use Rattle.model.specs.Outcome.{LegsRead, ReadOutcome, read, ReadEnd, ReadOn, Reads, written, WriteOutcome, WriteBy, Writes}
 use Rattle.model.specs.Span.{unflagged}
 use Rattle.model.specs.Work.{workLength}
 use Rattle.model.specs.Call.{linesAfter, bytesAfter, ReadAnswers, WriteAnswers, ReadCall, WriteCall}
@@ -112,8 +112,8 @@ module _ (work room : ℕ) (full : workLength ≤ work) where
 
   pub stretch-written : 23 ≤ room → Writes mapBytes (stretch 0) work room (written threePoints)
   unfolding computing
-  stretch-written fits = rw (le-ltb work workLength full) (WriteOn.accepted cut-in-two (omega arith))
+  stretch-written fits = rw (le-ltb work workLength full) (WriteBy.accepted cut-in-two (omega arith))
 
   pub stretch-written-from-500 : 24 ≤ room → Writes mapBytes (stretch 500) work room (written threeFrom500)
   unfolding computing
-  stretch-written-from-500 fits = rw (le-ltb work workLength full) (WriteOn.accepted cut-in-two (omega arith))
+  stretch-written-from-500 fits = rw (le-ltb work workLength full) (WriteBy.accepted cut-in-two (omega arith))

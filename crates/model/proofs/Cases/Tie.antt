@@ -9,7 +9,7 @@ use Rattle.model.specs.Reference.{byte}
 use Rattle.model.specs.Reading.{any, matching, Only, Several}
 use Rattle.model.specs.Choice.{Good, good, final, before, Preferred, Chosen}
 use Rattle.model.specs.Refusal.{row, rowAt}
-use Rattle.model.specs.Outcome.{every, LegsRead, SpansRead, ReadOutcome, read, ReadEnd, ReadOn, Reads, written, WriteOutcome, WriteOn, Writes}
+use Rattle.model.specs.Outcome.{every, LegsRead, SpansRead, ReadOutcome, read, ReadEnd, ReadOn, Reads, written, WriteOutcome, WriteBy, Writes}
 use Rattle.model.specs.Span.{unflagged}
 use Rattle.model.proofs.Cases.Computing.{computing}
 use Rattle.model.proofs.Cases.Edges.{byte-80}
@@ -61,15 +61,15 @@ cut-in-two =
 -- The stretch is written so with a full work area and a byte buffer that is just long enough; in a shorter one it is refusal 11.
 pub writes : Writes mapBytes (stretch 0) 14_336 23 (written threePoints)
 unfolding computing
-writes = WriteOn.accepted cut-in-two (omega arith)
+writes = WriteBy.accepted cut-in-two (omega arith)
 
 pub writes-from-500 : Writes mapBytes (stretch 500) 14_336 24 (written threeFrom500)
 unfolding computing
-writes-from-500 = WriteOn.accepted cut-in-two (omega arith)
+writes-from-500 = WriteBy.accepted cut-in-two (omega arith)
 
 pub too-few-bytes : Writes mapBytes (stretch 0) 14_336 22 (WriteOutcome.refused (row 11))
 unfolding computing
-too-few-bytes = WriteOn.no-room cut-in-two (omega arith)
+too-few-bytes = WriteBy.no-room cut-in-two (omega arith)
 
 -- And it is read so, with a line buffer of 1,024 numbers or of 2; one of 1 is refusal 20.
 abbrev pub none : Span

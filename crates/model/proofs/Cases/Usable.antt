@@ -9,7 +9,7 @@ use Rattle.model.specs.Stretch.{Stretch}
 use Rattle.model.specs.Reading.{Leg, Several}
 use Rattle.model.specs.Choice.{legOf, Good, good, Usable, final, before, Choice, Preferred, Chosen}
 use Rattle.model.specs.Refusal.{row}
-use Rattle.model.specs.Outcome.{WriteOutcome, WriteOn}
+use Rattle.model.specs.Outcome.{WriteOutcome, WriteBy, WriteOn}
 use Rattle.model.proofs.Cases.Computing.{computing}
 use Rattle.model.proofs.Cases.Ways.{finding, connects}
 use Rattle.model.proofs.Legs.{not-several}
@@ -49,12 +49,12 @@ pub record Unwritten (m : Map) (s : Stretch) : Type 0 where
   pub nothing-else : (room : ℕ) (o : WriteOutcome) → WriteOn m s room o → o ≡ WriteOutcome.refused (row 10)
 
 unwritten : {m : Map} {s : Stretch} → ((lss : List (List ℕ)) → Choice (good m) (s .lines) lss → ⊥) → Unwritten m s
-unwritten {m} {s} none = record { given = λ room. WriteOn.no-choice none; nothing-else = λ room o. else }
+unwritten {m} {s} none = record { given = λ room. WriteBy.no-choice none; nothing-else = λ room o. else }
   where
     else : {room : ℕ} {o : WriteOutcome} → WriteOn m s room o → o ≡ WriteOutcome.refused (row 10)
-    else (WriteOn.no-choice n) = refl
-    else (WriteOn.no-room c h) = absurd (none _ (c .choice))
-    else (WriteOn.accepted c h) = absurd (none _ (c .choice))
+    else (WriteBy.no-choice n) = refl
+    else (WriteBy.no-room c h) = absurd (none _ (c .choice))
+    else (WriteBy.accepted c h) = absurd (none _ (c .choice))
 
 abbrev alone-leg : Leg
 alone-leg = legOf pair true (0 ∷ [])

@@ -12,7 +12,7 @@ use Rattle.model.specs.declared.WriteAnswer.{WriteAnswer}
 use Rattle.model.specs.Refusal.{Refused, row}
 use Rattle.model.specs.Reference.{absent, bytesOf}
 use Rattle.model.specs.Span.{unflagged}
-use Rattle.model.specs.Stretch.{stretchOf}
+use Rattle.model.specs.Stretch.{Stretch, stretchOf}
 use Rattle.model.specs.Work.{workLength}
 use Rattle.model.specs.Outcome.{LegsRead, ReadOutcome, read, ReadEnd, ReadOn, Reads, WriteOutcome, Writes}
 use Rattle.model.specs.Call.{WriteAnswers, ReadCall, WriteCall}
@@ -58,11 +58,15 @@ module _ (work lines : List ℕ) (full : workLength ≤ length work) {work′ li
 refused-answer : {a : WriteAnswer} {r : Refused} → WriteAnswers a (WriteOutcome.refused r) → (why : Refusal) × (a ≡ Writer.Refused why)
 refused-answer (WriteAnswers.refusal {why = why}) = (why, refl)
 
--- A writer that looks for bans in what an offset leaves: it would write lines 2, 3.
-pub no-skipped-ban : (work bytes : List ℕ) {work′ bytes′ : List ℕ} {n : ℕ} → workLength ≤ length work →
-    WriteCall (encoded barred) (stretchOf (0 ∷ 2 ∷ 3 ∷ []) 1_000 0) work bytes (Writer.Written n) work′ bytes′ → ⊥
-no-skipped-ban work bytes full c =
-    let told = refused-answer (write-as (skipped-refused (length work) (length bytes) full) c .0) in
+pub no-bytes-where-refused : (r : Refused) {mb work bytes work′ bytes′ : List ℕ} {s : Stretch} {n : ℕ} →
+    Writes mb s (length work) (length bytes) (WriteOutcome.refused r) → WriteCall mb s work bytes (Writer.Written n) work′ bytes′ → ⊥
+no-bytes-where-refused r h c =
+    let told = refused-answer (write-as h c .0) in
     let e = told .1 in
     let z : _≡_ {A = ℕ} 0 1 = cc in
     omega arith
+
+-- A writer that looks for bans in what an offset leaves: it would write lines 2, 3.
+pub no-skipped-ban : (work bytes : List ℕ) {work′ bytes′ : List ℕ} {n : ℕ} → workLength ≤ length work →
+    WriteCall (encoded barred) (stretchOf (0 ∷ 2 ∷ 3 ∷ []) 1_000 0) work bytes (Writer.Written n) work′ bytes′ → ⊥
+no-skipped-ban work bytes full c = no-bytes-where-refused (row 21) (skipped-refused (length work) (length bytes) full) c

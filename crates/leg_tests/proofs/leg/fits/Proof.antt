@@ -1,10 +1,11 @@
 -- `fits` meets its contract: both differences.
 use borrow.Author.Tests.{not-true, not-false}
 use Prim.Native.Nat.{_<_}
+use native.Mathlib.Omega.{arith}
 use lib.ListN.{length}
 use Rattle.model.specs.Map.{Map}
 use Rattle.model.specs.Lines.{nodeAt}
-use Rattle.model.specs.Difference.{Near}
+use Rattle.model.specs.Difference.{Near, halfCircle, lonDifference}
 use Rattle.work_area.specs.Area.{Held}
 use Rattle.buffers.specs.Decides.{Decides}
 use Rattle.buffers.proofs.Decides.{decides-same}
@@ -14,11 +15,13 @@ use Rattle.leg_tests.proofs.leg.fits.Tie as tie
 
 -- The two longitudes, and the two latitudes.
 module _ (m : Map) where
-  lon-near : (c : tie.After-near) → let a = c .before .before .before .before .args in Held (a .work .now) (a .lines) m → a .from < length (m .nodes) → a .to < length (m .nodes) →
-      Decides (Near (nodeAt m (a .from) .lon) (nodeAt m (a .to) .lon)) (c .near .result)
-  lon-near c h f t = rw (c .before .before .coordinate .ensures m h f, c .before .coordinate2 .ensures m h t) at (c .near .ensures)
+  lon-near : (c : tie.After-near) → let a = c .before .before .before .before .before .args in Held (a .work .now) (a .lines) m → a .from < length (m .nodes) → a .to < length (m .nodes) →
+      Decides (Near halfCircle (lonDifference (nodeAt m (a .from) .lon) (nodeAt m (a .to) .lon))) (c .near .result)
+  lon-near c h f t =
+      let eastward = c .before .longitude-difference .ensures in
+      rw (eastward, c .before .before .before .coordinate .ensures m h f, c .before .before .coordinate2 .ensures m h t) at (c .near .ensures)
 
-  lat-near : (c : tie.After-near2) → let a = c .before .before .before .before .before .before .before .before .args in Held (a .work .now) (a .lines) m → a .from < length (m .nodes) → a .to < length (m .nodes) →
+  lat-near : (c : tie.After-near2) → let a = c .before .before .before .before .before .before .before .before .before .args in Held (a .work .now) (a .lines) m → a .from < length (m .nodes) → a .to < length (m .nodes) →
       Decides (Near (nodeAt m (a .from) .lat) (nodeAt m (a .to) .lat)) (c .near2 .result)
   lat-near c h f t = rw (c .before .before .coordinate3 .ensures m h f, c .before .coordinate4 .ensures m h t) at (c .near2 .ensures)
 
@@ -27,6 +30,12 @@ coordinate-requires c κs = search needs
 
 coordinate-requires-2 : tie.Need-coordinate-requires-2
 coordinate-requires-2 c κs = search needs
+
+longitude-difference-requires : tie.Need-longitude-difference-requires
+longitude-difference-requires c κs =
+    let p = c .before .before .before .pre in
+    let ok = p .1 .formed .node-ok in
+    (omega (arith, c .before .coordinate .ensures (p .0) (p .1) (p .2), ok _ (p .2) .lon), omega (arith, c .coordinate2 .ensures (p .0) (p .1) (p .3), ok _ (p .3) .lon))
 
 near-requires : tie.Need-near-requires
 near-requires c κs = search needs
@@ -54,6 +63,7 @@ fits-spec =
     (tie.spec
     coordinate-requires
     coordinate-requires-2
+    longitude-difference-requires
     near-requires
     returns
     coordinate-requires-3

@@ -1,7 +1,6 @@
 -- `is_sought` meets its contract: each of the two tests is asked of both coordinates.
 use mathlib.Core.Path.{sym, _∙_}
 use borrow.Author.Tests.{eq-eqb, ne-eqb}
-use Rattle.model.specs.Difference.{standsAt}
 use Rattle.model.specs.Locate.{hasCodes}
 use Rattle.references.specs.Node.{passes}
 use borrow.Author.Needs.{needs}
@@ -23,31 +22,27 @@ enum-known-sought-2 c = search needs
 moved-requires : tie.Need-moved-requires
 moved-requires c κs = search needs
 
-moved-requires-2 : tie.Need-moved-requires-2
-moved-requires-2 c κs = search needs
-
 returns : tie.Need-returns
-unfolding passes hasCodes standsAt
+unfolding passes hasCodes
 returns c a e f =
     let same-lon = sym (c .before .before .longitude-code .ensures a e) ∙ c .before .if1 .taken in
     simp (c .before .before .before .before .sought .given .1, eq-eqb _ _ same-lon, c .latitude-code .ensures a f)
 
 returns-2 : tie.Need-returns-2
-unfolding passes hasCodes standsAt
+unfolding passes hasCodes
 returns-2 c a e f =
     ne-eqb _ _ (c .if1 .left)
     ∙ sym (simp (c .before .before .before .sought .given .1, ne-eqb _ _ (λ q. c .if1 .left (c .before .longitude-code .ensures a e ∙ q))))
 
 returns-3 : tie.Need-returns-3
-unfolding passes hasCodes standsAt
+unfolding passes
 returns-3 c a e f =
-    let moved-lon = sym (c .before .before .moved .ensures) ∙ c .before .if2 .taken in
-    c .moved2 .ensures ∙ sym (simp (c .before .before .before .before .sought2 .given .1, e, f, moved-lon))
+    c .moved .ensures ∙ sym (simp (c .before .before .before .sought2 .given .1, f, eq-eqb _ _ (sym (e ∙ c .before .if2 .taken))))
 
 returns-4 : tie.Need-returns-4
-unfolding passes hasCodes standsAt
+unfolding passes
 returns-4 c a e f =
-    c .if2 .left ∙ sym (simp (c .before .before .before .sought2 .given .1, e, sym (c .before .moved .ensures) ∙ c .if2 .left))
+    ne-eqb _ _ (c .if2 .left) ∙ sym (simp (c .before .before .sought2 .given .1, ne-eqb _ _ (λ q. c .if2 .left (sym (q ∙ e)))))
 
 pub is-sought-spec : {M : Type 1} → statement M
 is-sought-spec =
@@ -58,7 +53,6 @@ is-sought-spec =
     latitude-code-requires
     enum-known-sought-2
     moved-requires
-    moved-requires-2
     returns
     returns-2
     returns-3

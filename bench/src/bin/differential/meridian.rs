@@ -1,0 +1,134 @@
+//! How many calls had to do with the 180th meridian.
+
+use plain::depot_map::{DepotMap, Node};
+use plain::maps::MapPlan;
+use plain::outcome::{Outcome, Reading, Refusal, WORK_AREA};
+use plain::writer::{write, Stretch};
+
+use crate::points::{steps, Step};
+
+/// How many calls went over the meridian eastward, and how many westward.
+type Ways = [u64; 2];
+const EAST: usize = 0;
+const WEST: usize = 1;
+
+/// The greatest difference of 16 bits each way, and the next one.
+const GREATEST: [i32; 2] = [32_767, -32_768];
+const TOO_GREAT: [i32; 2] = [32_768, -32_769];
+
+/// From the easternmost longitude of a map to its westernmost, and back.
+const LEAST: [i32; 2] = [2, -2];
+
+/// What lies between these two, before it is brought round.
+const NO_LONGITUDE: [i32; 2] = [17_999_999, -18_000_001];
+
+#[derive(Default)]
+pub struct Meridian {
+    /// Stretches with a leg over the meridian, and those of them with one of the greatest and of the
+    /// least difference.
+    written: Ways,
+    written_greatest: Ways,
+    written_least: Ways,
+    /// Stretches with refusal 10 for differences that are too great by one alone.
+    too_far: Ways,
+    /// References with a leg over the meridian.
+    read: Ways,
+    /// References with refusal 16 for a point over the meridian, and for one at 17,999,999.
+    no_node: Ways,
+    no_longitude: Ways,
+}
+
+impl Meridian {
+    pub fn count_written(&mut self, map: &DepotMap, reference: &[u8]) {
+        let steps = steps(map, reference);
+        for way in [EAST, WEST] {
+            let across = || steps.iter().filter(|step| is_across(step, way));
+            let has = |difference| across().any(|step| step.differences[0] == difference);
+            count(&mut self.written[way], across().next().is_some());
+            count(&mut self.written_greatest[way], has(GREATEST[way]));
+            count(&mut self.written_least[way], has(LEAST[way]));
+        }
+    }
+
+    /// Of what is left of a stretch with refusal 10.
+    pub fn count_too_far(&mut self, map: &DepotMap, left: &Stretch) {
+        for way in [EAST, WEST] {
+            let is_too_far = has_nodes_apart(map, left, TOO_GREAT[way]);
+            let is_alone = is_too_far && is_written_with_sides_nearer(map, left);
+            count(&mut self.too_far[way], is_alone);
+        }
+    }
+
+    pub fn count_read(&mut self, map: &DepotMap, reference: &[u8], outcome: &Outcome<Reading>) {
+        let steps = match outcome {
+            Ok(_) | Err(Refusal::PointWithoutNode(1..)) => steps(map, reference),
+            Err(_) => return,
+        };
+        for way in [EAST, WEST] {
+            if outcome.is_ok() {
+                let mut all = steps.iter();
+                count(&mut self.read[way], all.any(|step| is_across(step, way)));
+            } else if let Some(last) = steps.last() {
+                count(&mut self.no_node[way], is_across(last, way));
+                let has_none = last.plain_longitude() == NO_LONGITUDE[way];
+                count(&mut self.no_longitude[way], has_none);
+            }
+        }
+    }
+
+    /// Prints the counts. Nothing must be missing.
+    pub fn report(&self) -> Result<(), String> {
+        let rows = [
+            ("written", self.written),
+            ("written, greatest difference", self.written_greatest),
+            ("written, least difference", self.written_least),
+            ("refused 10, one past 16 bits", self.too_far),
+            ("read", self.read),
+            ("refused 16", self.no_node),
+            ("refused 16 at 17,999,999", self.no_longitude),
+        ];
+        println!("over the 180th meridian, eastward and westward:");
+        for (what, [east, west]) in rows {
+            println!("  {what}: {east} {west}");
+        }
+        let missing = |(_, ways): &&(&str, Ways)| ways.contains(&0);
+        match rows.iter().find(missing) {
+            Some((what, _)) => Err(format!("no call over the 180th meridian: {what}")),
+            None => Ok(()),
+        }
+    }
+}
+
+fn count(calls: &mut u64, is_one: bool) {
+    *calls += u64::from(is_one);
+}
+
+fn is_across(step: &Step, way: usize) -> bool {
+    match way {
+        EAST => step.plain_longitude() >= 18_000_000,
+        _ => step.plain_longitude() < -18_000_000,
+    }
+}
+
+/// Whether two nodes on the way are so far apart, with the meridian between them.
+fn has_nodes_apart(map: &DepotMap, stretch: &Stretch, difference: i32) -> bool {
+    let starts = stretch.lines.iter().map(|&line| map.line(line).start);
+    let ends = stretch.lines.iter().map(|&line| map.line(line).end);
+    let is_apart = |from: Node, to: Node| {
+        let is_across = to.longitude - from.longitude != difference;
+        is_across && from.differences_to(to)[0] == difference
+    };
+    starts.enumerate().any(|(place, start)| {
+        let mut later = ends.clone().skip(place);
+        later.any(|end| is_apart(map.node(start), map.node(end)))
+    })
+}
+
+/// Whether the stretch is written where all nodes on one side of the meridian are one nearer to it.
+fn is_written_with_sides_nearer(map: &DepotMap, stretch: &Stretch) -> bool {
+    let mut plan = MapPlan::of(map);
+    let west_of_greenwich = plan.nodes.iter_mut().filter(|node| node.longitude < 0);
+    west_of_greenwich.for_each(|node| node.longitude -= 1);
+    let (pos, neg) = (stretch.positive, stretch.negative);
+    write(&plan.encode(), stretch.lines, pos, neg, WORK_AREA, 459).is_ok()
+}

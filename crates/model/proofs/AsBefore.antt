@@ -1,0 +1,156 @@
+-- "A stretch none of whose nodes lie 18,000,000 or more apart in plain longitude gives the bytes it gave" (paper 02, W2).
+use Prim.Native.Nat.{ℕ, _+_, _-_, _%_, _<_}
+use mathlib.Core.Path.{_≡_, refl, sym, ap, ap₂, subst}
+use mathlib.Core.Logic.{⊎-elim}
+use mathlib.Core.Bool.{Bool, true, false}
+use mathlib.Core.List.{List, [], _∷_, reverse, reverse-cons, List·Memᴰ, List·Memᴰ·head, List·Memᴰ·tail, List·Memᴰ·append-cases, List·Memᴰ·eq-of-singleton}
+use native.Mathlib.Omega.{arith}
+use lib.Dec.{leb}
+use Rattle.model.specs.Map.{Map, whole}
+use Rattle.model.specs.Difference.{Near, difference, halfCircle, brought, lonDifference, DifferencesFit, differences}
+use Rattle.model.specs.Lines.{lineAt, nodeAt, Connected, single, linked, firstOf, lastOf}
+use Rattle.model.specs.Reading.{joined}
+use Rattle.model.specs.Stretch.{Stretch, StretchAnswer, remains, Skipped, skip, remaining, checkStretch}
+use Rattle.model.specs.Choice.{fromNode, toNode, good, Usable, final, before, Choice, pointOf, pointsOf, referenceOf, stretchBytes}
+use Rattle.model.specs.Outcome.{WriteOutcome, WriteOn, WriteStretch}
+use Rattle.model.specs.AsBefore.{plainDifferences, PlainFit, plainGood, plainPoint, plainPoints, plainReference, plainBytes, PlainStretch, NodeOf, Narrow, NarrowLeft, NarrowGiven, AsBefore}
+use Rattle.model.proofs.Skipping.{taken}
+use Rattle.model.proofs.Joining.{connected}
+use Rattle.model.proofs.Opened.{opens-by}
+use Rattle.model.proofs.Tested.{Inside, Passes, first-inside, rest-inside, choice-by, written-by}
+
+-- ---- two longitudes less than half a circle apart
+
+module _ (a b : ℕ) (back : a < b + halfCircle) (on : b < a + halfCircle) where
+  -- The difference is the plain one, held with half a circle added.
+  lon-plain : lonDifference a b ≡ b + halfCircle - a
+  unfolding lonDifference brought
+  lon-plain = omega arith
+
+  near-now : Near a b → Near halfCircle (lonDifference a b)
+  near-now n = record { back = omega (arith, lon-plain, n .back); on = omega (arith, lon-plain, n .on) }
+
+  near-then : Near halfCircle (lonDifference a b) → Near a b
+  near-then n = record { back = omega (arith, lon-plain, n .back); on = omega (arith, lon-plain, n .on) }
+
+  same-difference : difference a b ≡ difference halfCircle (lonDifference a b)
+  unfolding difference
+  same-difference =
+      let inner : b + 65_536 - a ≡ lonDifference a b + 65_536 - halfCircle = omega (arith, lon-plain) in
+      ap (λ (x : ℕ). x % 65_536) inner
+
+-- ---- the same legs of narrow lines are good, and have the same points
+
+ends-inside : {m : Map} {ls : List ℕ} → Connected m ls → List·Memᴰ (firstOf ls) ls × List·Memᴰ (lastOf ls) ls
+unfolding firstOf lastOf
+ends-inside (single h) = (List·Memᴰ·head refl, List·Memᴰ·head refl)
+ends-inside (linked h f c) = (List·Memᴰ·head refl, List·Memᴰ·tail (ends-inside c .1))
+
+module _ {m : Map} {lines : List ℕ} (narrow : Narrow m lines) where
+  module _ {ls : List ℕ} (inside : Inside ls lines) (c : Connected m ls) where
+    from-of : NodeOf m lines (fromNode m ls)
+    unfolding fromNode
+    from-of = NodeOf.starts (inside _ (ends-inside c .0))
+
+    to-of : NodeOf m lines (toNode m ls)
+    unfolding toNode
+    to-of = NodeOf.ends (inside _ (ends-inside c .1))
+
+    fit-now : PlainFit (nodeAt m (fromNode m ls)) (nodeAt m (toNode m ls)) → DifferencesFit (nodeAt m (fromNode m ls)) (nodeAt m (toNode m ls))
+    fit-now f = record { lon = near-now _ _ (narrow _ _ to-of from-of) (narrow _ _ from-of to-of) (f .lon); lat = f .lat }
+
+    fit-then : DifferencesFit (nodeAt m (fromNode m ls)) (nodeAt m (toNode m ls)) → PlainFit (nodeAt m (fromNode m ls)) (nodeAt m (toNode m ls))
+    fit-then f = record { lon = near-then _ _ (narrow _ _ to-of from-of) (narrow _ _ from-of to-of) (f .lon); lat = f .lat }
+
+    same-point : plainPoint m ls ≡ pointOf m ls
+    unfolding plainPoint plainDifferences pointOf differences
+    same-point = rw (same-difference _ _ (narrow _ _ to-of from-of) (narrow _ _ from-of to-of))
+
+  good-now : Passes (plainGood m) (good m) lines
+  good-now at last ls i g = record { fit = fit-now i (g .only .reading .allowed .connected) (g .fit); only = g .only }
+
+  good-then : Passes (good m) (plainGood m) lines
+  good-then at last ls i g = record { fit = fit-then i (connected g) (g .fit); only = g .only }
+
+  same-points : {at : ℕ} {lss : List (List ℕ)} → Inside (joined lss) lines → Usable (good m) at lss → plainPoints m lss ≡ pointsOf m lss
+  unfolding plainPoints pointsOf
+  same-points i (final {ls = ls} g) = ap₂ _∷_ (same-point (first-inside ls [] i) (connected g)) refl
+  same-points i (before {ls = ls} {ks = ks} {lss = lss} g u) =
+      ap₂ _∷_ (same-point (first-inside ls (ks ∷ lss) i) (connected g)) (same-points (rest-inside ls (ks ∷ lss) i) u)
+
+-- ---- so what remains of a stretch has the outcome that it had
+
+module _ (m : Map) (s : Stretch) (narrow : Narrow m (s .lines)) where
+  same-bytes : (lss : List (List ℕ)) → Choice (good m) (s .lines) lss → stretchBytes m lss s ≡ plainBytes m lss s
+  unfolding plainBytes plainReference stretchBytes referenceOf
+  same-bytes lss c = rw (same-points narrow (λ l j. subst (λ (x : List ℕ). List·Memᴰ l x) (c .whole) j) (c .usable))
+
+  on-now : (room : ℕ) (o : WriteOutcome) → PlainStretch m (remains s) room o → WriteOn m s room o
+  on-now room o h =
+      written-by (good-now narrow) (good-then narrow) (λ lss. plainBytes m lss s) (λ lss. stretchBytes m lss s)
+      (λ lss c. sym (same-bytes lss (choice-by (good-now narrow) c))) room h
+
+  on-then : (room : ℕ) (o : WriteOutcome) → WriteOn m s room o → PlainStretch m (remains s) room o
+  on-then room o h =
+      written-by (good-then narrow) (good-now narrow) (λ lss. stretchBytes m lss s) (λ lss. plainBytes m lss s) same-bytes room h
+
+module _ (m : Map) (room : ℕ) (o : WriteOutcome) where
+  stretch-now : (a : StretchAnswer) → ((r : Stretch) → a ≡ remains r → Narrow m (r .lines)) → PlainStretch m a room o → WriteStretch m a room o
+  stretch-now (remains r) narrow h = on-now m r (narrow r refl) room o h
+  stretch-now (StretchAnswer.refused r) narrow h = h
+
+  stretch-then : (a : StretchAnswer) → ((r : Stretch) → a ≡ remains r → Narrow m (r .lines)) → WriteStretch m a room o → PlainStretch m a room o
+  stretch-then (remains r) narrow h = on-then m r (narrow r refl) room o h
+  stretch-then (StretchAnswer.refused r) narrow h = h
+
+-- "Gives the bytes it gave": of the nodes of what remains.
+pub as-before : AsBefore NarrowLeft
+as-before =
+    record {
+      gives = λ mb s work room o narrow h.
+          opens-by WriteOutcome.refused (λ m. PlainStretch m (checkStretch m s) room) (λ m. WriteStretch m (checkStretch m s) room) mb
+          (λ m d. stretch-now m room o (checkStretch m s) (λ r e. narrow m r d e)) work h;
+      gave = λ mb s work room o narrow h.
+          opens-by WriteOutcome.refused (λ m. WriteStretch m (checkStretch m s) room) (λ m. PlainStretch m (checkStretch m s) room) mb
+          (λ m d. stretch-then m room o (checkStretch m s) (λ r e. narrow m r d e)) work h;
+    }
+
+-- ---- the nodes of what remains are nodes of the stretch as given
+
+skip-inside : (m : Map) (offset : ℕ) (ls : List ℕ) → Inside (skip m offset ls .lines) ls
+unfolding skip
+skip-inside m offset [] l i = i
+skip-inside m offset (x ∷ ls) l i = go (leb (lineAt m x .length) offset) (skip-inside m (offset - lineAt m x .length) ls l) i
+  where
+    go : (t : Bool) → (List·Memᴰ l (skip m (offset - lineAt m x .length) ls .lines) → List·Memᴰ l ls) →
+        List·Memᴰ l (Skipped.lines (elim t [ true ↦ skip m (offset - lineAt m x .length) ls | false ↦ record { lines = x ∷ ls; offset = offset } ])) →
+        List·Memᴰ l (x ∷ ls)
+    go true rest i = List·Memᴰ·tail (rest i)
+    go false rest i = i
+
+reverse-inside : (xs : List ℕ) → Inside (reverse xs) xs
+reverse-inside [] l i = i
+reverse-inside (x ∷ xs) l i =
+    ⊎-elim (λ j. List·Memᴰ·tail (reverse-inside xs l j)) (λ j. List·Memᴰ·head (List·Memᴰ·eq-of-singleton j))
+    (List·Memᴰ·append-cases (reverse xs) (rw reverse-cons at i))
+
+remaining-inside : (m : Map) (s : Stretch) → Inside (remaining m s .lines) (s .lines)
+unfolding remaining
+remaining-inside m s l i = skip-inside m (s .pos) (s .lines) l (reverse-inside _ l (skip-inside m (s .neg) _ l (reverse-inside _ l i)))
+
+node-inside : {m : Map} {ls ks : List ℕ} {v : ℕ} → Inside ls ks → NodeOf m ls v → NodeOf m ks v
+node-inside i (NodeOf.starts j) = NodeOf.starts (i _ j)
+node-inside i (NodeOf.ends j) = NodeOf.ends (i _ j)
+
+narrow-left : (mb : List ℕ) (s : Stretch) → NarrowGiven mb s → NarrowLeft mb s
+narrow-left mb s given m r d e v w p q =
+    let inside : Inside (r .lines) (s .lines) = λ l i. remaining-inside m s l (subst (λ (x : Stretch). List·Memᴰ l (x .lines)) (taken m s r e .0) i) in
+    given m d v w (node-inside inside p) (node-inside inside q)
+
+-- So it is so of the stretch as given.
+pub as-given : AsBefore NarrowGiven
+as-given =
+    record {
+      gives = λ mb s work room o given. as-before .gives mb s work room o (narrow-left mb s given);
+      gave = λ mb s work room o given. as-before .gave mb s work room o (narrow-left mb s given);
+    }

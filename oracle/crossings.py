@@ -1,0 +1,41 @@
+"""Where readings and stretches cross the 180th meridian, for tests that ask whether its edges occur."""
+
+from typing import NamedTuple
+
+from depot_map import Node
+from fields import brought_round, code_pair
+from reference import take_apart
+
+HALF_CIRCLE = 18_000_000
+
+
+class Step(NamedTuple):
+    """From a node by a difference of longitudes to where it leads, and whether a node is there."""
+    start: Node
+    difference: int
+    end: Node
+    found: bool
+
+    def crosses(self):
+        """Whether it leads over the meridian: the plain longitudes are half a circle apart then, or more."""
+        return abs(self.end.longitude - self.start.longitude) >= HALF_CIRCLE
+
+
+def reading_steps(depot_map, reference):
+    """The steps from point to point, up to the first point with no node."""
+    nodes = set(depot_map.nodes)
+    first, *later = take_apart(reference).points
+    start = next((node for node in nodes if code_pair(node) == (first.longitude, first.latitude)), None)
+    for point in later:
+        if start not in nodes:
+            return
+        end = Node(brought_round(start.longitude + point.longitude), start.latitude + point.latitude)
+        yield Step(start, point.longitude, end, end in nodes)
+        start = end
+
+
+def stretch_steps(depot_map, lines):
+    """A step along each line."""
+    for line in lines:
+        start, end = depot_map.nodes[depot_map.lines[line].start_node], depot_map.nodes[depot_map.lines[line].end_node]
+        yield Step(start, brought_round(end.longitude - start.longitude), end, True)
