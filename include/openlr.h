@@ -25,7 +25,7 @@ extern "C" {
    Version 1: lengths and offsets are in decimetres, in the map's bytes as in the calls. A version with another unit has another OPENLR_UNITS_PER_METRE too.
    Version 2: banned turns. Every map has a count of bans after its lines, and so a map of version 1 is refused with 2; refusals 21 to 23 are new.
    Version 3: longitude differences go round the globe, and so a stretch across the 180th meridian is written and read; before, it was refused with 10, and its
-   bytes with 16. A stretch without nodes on both sides of that meridian has the bytes of version 2. */
+   bytes with 16. A stretch whose nodes lie less than 180 degrees of longitude apart, taken plainly, has the bytes of version 2. */
 #define OPENLR_VERSION 3
 #define OPENLR_UNITS_PER_METRE 10
 

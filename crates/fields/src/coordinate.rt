@@ -70,7 +70,7 @@ pub fn difference(from: u32, to: u32) -> Difference16
     Difference16::Fits(((b + 65_536 - a) % 65_536) as u32)
 }
 
-// The difference from one longitude to another, brought round. It is held as a longitude is stored, with `LONGITUDE_ADDED` added.
+// The difference from one longitude to another, brought round. It is held as a longitude is stored: `LONGITUDE_ADDED` stands for no difference.
 pub fn longitude_difference(from: u32, to: u32) -> u32
     requires { ⌜ (from < circle) × (to < circle) ⌝ }
     ensures { λ r. ⌜ r ≡ lonDifference from to ⌝ }

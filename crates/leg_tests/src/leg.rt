@@ -42,7 +42,7 @@ fn near(from: u32, to: u32) -> bool
     }
 }
 
-// Whether the differences between two nodes fit.
+// Whether the differences between two nodes fit, that of their longitudes brought round.
 fn fits(work: &[u32], lines: usize, from: usize, to: usize) -> bool
     requires { ⌜ ((m : Map) × Held (now work) lines m × (from < length (m .nodes)) × (to < length (m .nodes))) ⌝ }
     ensures { λ r. ⌜ ((m : Map) → Held (now (work .entry)) lines m → from < length (m .nodes) → to < length (m .nodes)

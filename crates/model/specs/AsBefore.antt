@@ -1,5 +1,6 @@
 -- "A stretch none of whose nodes lie 18,000,000 or more apart in plain longitude gives the bytes it gave" (paper 02, W2).
--- The writer as it was, with the plain longitude difference, stands here for this sentence alone: nothing else cites it.
+-- The writer as it was, with the plain longitude difference, stands here for this sentence alone. Nothing else cites it but the worked case of what it
+-- refused (Cases/Meridian).
 use Prim.Native.Nat.{ℕ, _+_, _<_}
 use mathlib.Core.Path.{_≡_}
 use mathlib.Core.Bool.{Bool}

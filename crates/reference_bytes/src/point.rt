@@ -49,7 +49,7 @@ fn near_difference(from: u32, to: u32) -> u32
     }
 }
 
-// The differences of a leg that may be used.
+// The differences of a leg that may be used, that of longitudes brought round.
 fn step_of(work: &[u32], lines: usize, leg: &[u32]) -> Step
     requires { ⌜ Known lines (now leg) ⌝ }
     requires { ⌜ ((m : Map) × (last : Bool) × Held (now work) lines m × Good m last (now leg)) ⌝ }

@@ -21,7 +21,7 @@ pub enum Places {
     NoNode(u32),
 }
 
-// What tells the node of the point after point `k`, whose node is `from`.
+// What tells the node of the point after point `k`, whose node is `from`. Its longitude is added up here, once for all nodes that are looked at.
 fn next_sought(bytes: &[u8], work: &[u32], k: usize, from: u32) -> Sought
     requires { ⌜ (14 + 7 * k ≤ length (now bytes)) × (k < 64) × (workLength ≤ length (now work)) × (from < greatestNodeCount) ⌝ }
     ensures { λ r. ⌜ r ≡ soughtAfter (now (bytes .entry)) (now (work .entry)) k from ⌝ }

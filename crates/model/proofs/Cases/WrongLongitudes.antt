@@ -30,12 +30,12 @@ module _ (work lines : List ℕ) (full : workLength ≤ length work) {work′ li
   no-shorter-circle c = no-list-where-refused (rowAt 16 1) (at-no-node (length work) (length lines) full) c
 
 module _ (work bytes : List ℕ) (full : workLength ≤ length work) {work′ bytes′ : List ℕ} where
-  -- A writer that takes the plain difference, or asks whether that fits: it would refuse, or take points on both sides of the meridian.
+  -- A writer that asks whether the plain difference fits: it would refuse with 10.
   pub no-plain-difference : {a : WriteAnswer} → 16 ≤ length bytes → WriteCall islandBytes road-over work bytes a work′ bytes′ →
       (a ≡ Writer.Written 16 → ⊥) → ⊥
   no-plain-difference enough c other = other (write-answer (write-as (is-written (length work) (length bytes) full enough) c .0))
 
-  -- One that takes the difference the long way round, or the wrong way.
+  -- One that writes the 16 bits of the plain difference, or those of the way back.
   pub no-other-way-round : {a : WriteAnswer} → 16 ≤ length bytes → WriteCall islandBytes road-over work bytes a work′ bytes′ →
       (bytes′ ≡ overBytes ++ drop 16 bytes → ⊥) → ⊥
   unfolding bytesAfter placed
