@@ -1,6 +1,6 @@
 #!/usr/bin/env bash
 # Counts the searches and the leg tests of the proved writer for each writing row of the benchmark, a stretch's mean. It needs gdb and takes half a
-# minute. `make count ALSO=search::relax::relax` counts the calls of another function too, for each search; with that one it takes some minutes.
+# minute. `make count ALSO=relaxation::relax` counts the calls of another function too, for each search; with that one it takes some minutes.
 #
 # In the archive that is measured, search and leg test stand inside the functions that call them. Here the same proved functions are compiled with no
 # optimization, so that each is called: by a copy of the toolchain (links to it) whose clang gets -O0 as its last word. No archive is left behind.

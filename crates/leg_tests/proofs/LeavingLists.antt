@@ -12,11 +12,11 @@ use lib.ListN.{length, getD, set, length-set}
 use lib.Seq.{getD-set-other}
 use Rattle.buffers.specs.Kept.{Kept, Filled}
 use Rattle.buffers.proofs.Kept.{kept-none, kept-within, at-set, kept-set}
-use Rattle.search.specs.Area.{Set, latest, lengthTo, listWeight, markWeight, noteWeight}
-use Rattle.search.proofs.Marking.{marked-same}
+use Rattle.search_cells.specs.Area.{Set, latest, lengthTo, listWeight, markWeight, noteWeight}
+use Rattle.search_cells.proofs.Keeping.{marked-same}
 use Rattle.work_area.specs.Mirror.{mirror}
-use Rattle.search.proofs.Leaving.{latest-same, latest-other, OnList, list-start, list-none, list-next, list-passed}
-use Rattle.search.proofs.Keeping.{chained-same}
+use Rattle.search_cells.proofs.Leaving.{latest-same, latest-other, OnList, list-start, list-none, list-next, list-passed}
+use Rattle.search_cells.proofs.Keeping.{chained-same}
 use Rattle.leg_tests.specs.LegTests.{Worked}
 use Rattle.leg_tests.specs.Leaving.{Listed}
 use Rattle.leg_tests.proofs.Sifting.{worked-then}

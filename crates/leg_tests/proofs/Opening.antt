@@ -14,10 +14,10 @@ use Rattle.model.specs.Reading.{Reading}
 use Rattle.model.proofs.Joining.{last-known}
 use Rattle.work_area.specs.Mirror.{mirror}
 use Rattle.work_area.proofs.Mirrored.{line-mirrored}
-use Rattle.search.specs.declared.Terminus.{Terminus}
-use Rattle.search.specs.Ways.{line, node}
-use Rattle.search.specs.Area.{latest}
-use Rattle.search.proofs.Leaving.{latest-all}
+use Rattle.way_lengths.specs.declared.Terminus.{Terminus}
+use Rattle.way_lengths.specs.Ways.{line, node}
+use Rattle.search_cells.specs.Area.{latest}
+use Rattle.search_cells.proofs.Leaving.{latest-all}
 use Rattle.legs.proofs.Lines.{none-yet, no-other, not-arriving}
 use Rattle.point_choice.specs.Cuts.{Tested}
 use Rattle.leg_tests.specs.LegTests.{legFrom, Marks, OwnRead, Sole, SoleFrom, Open, Sifted}

@@ -9,9 +9,9 @@ use lib.Seq.{slice}
 use Rattle.model.specs.Map.{Map}
 use Rattle.model.specs.Lines.{lineAt, total, lowest}
 use Rattle.buffers.proofs.Kept.{kept-none}
-use Rattle.search.specs.declared.Terminus.{Terminus}
-use Rattle.search.specs.Ways.{node}
-use Rattle.search.specs.Area.{Set}
+use Rattle.way_lengths.specs.declared.Terminus.{Terminus}
+use Rattle.way_lengths.specs.Ways.{node}
+use Rattle.search_cells.specs.Area.{Set}
 use Rattle.leg_tests.specs.declared.cells.OwnCell.{OwnCell}
 use Rattle.leg_tests.specs.declared.columns.Column.{Column}
 use Rattle.leg_tests.specs.LegTests.{mark, Marks, DoneFor, OwnRead, Measured, Worked, OwnTested, ColumnKept, ColumnOwned, ColumnTested}

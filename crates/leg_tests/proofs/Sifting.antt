@@ -9,8 +9,8 @@ use lib.Seq.{slice}
 use Rattle.model.specs.Map.{Map}
 use Rattle.model.specs.Lines.{total, lowest}
 use Rattle.buffers.proofs.Kept.{kept-none, kept-then, kept-set}
-use Rattle.search.specs.Ways.{line}
-use Rattle.search.specs.Area.{Set}
+use Rattle.way_lengths.specs.Ways.{line}
+use Rattle.search_cells.specs.Area.{Set}
 use Rattle.leg_tests.specs.declared.cells.Cell.{Cell}
 use Rattle.leg_tests.specs.LegTests.{mark, Marks, Alone, Noted, Sifted, DoneFor, ShortLegs, Measured, Worked, CellTested, ColumnKept, ColumnSifted}
 use Rattle.leg_tests.proofs.Slices.{total-slice-none, lowest-slice-none, same-column, other-column, column-set}

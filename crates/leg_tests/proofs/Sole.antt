@@ -6,8 +6,8 @@ use native.Mathlib.Omega.{arith}
 use Rattle.model.specs.Map.{Map}
 use Rattle.model.specs.Lines.{total, firstOf, lastOf}
 use Rattle.model.specs.Reading.{Leg, Reading}
-use Rattle.search.specs.declared.Terminus.{Terminus}
-use Rattle.search.specs.Ways.{Ends}
+use Rattle.way_lengths.specs.declared.Terminus.{Terminus}
+use Rattle.way_lengths.specs.Ways.{Ends}
 use Rattle.fields.specs.declared.leg.Verdict.the-variants.{Unread, One, Several}
 use Rattle.legs.specs.Verdict.{OneList, Says, Anywhere, unread, one, several, ReadingTo}
 use Rattle.legs.proofs.Readings.{end-of}

@@ -5,8 +5,8 @@ use mathlib.Core.List.{List}
 use native.Mathlib.Omega.{arith}
 use Rattle.model.specs.Map.{Map}
 use Rattle.model.specs.Lines.{Connected, total, lowest, firstOf, lastOf}
-use Rattle.search.specs.declared.Terminus.{Terminus}
-use Rattle.search.specs.Ways.{line, Ends, Way, Beyond}
+use Rattle.way_lengths.specs.declared.Terminus.{Terminus}
+use Rattle.way_lengths.specs.Ways.{line, Ends, Way, Beyond}
 use Rattle.ways.specs.Told.{Told, SeveralLeast, OneLeast}
 use Rattle.ways.specs.declared.Ways.{Ways}
 use Rattle.leg_tests.specs.LegTests.{SoleWay}

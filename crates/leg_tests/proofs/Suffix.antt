@@ -15,8 +15,8 @@ use Rattle.model.specs.Reading.{Leg, Allowed, SameEnds, Reading}
 use Rattle.model.specs.Choice.{legOf}
 use Rattle.model.proofs.Skipping.{total-append, first-append, last-append}
 use Rattle.model.proofs.Joining.{filled}
-use Rattle.search.specs.declared.Terminus.{Terminus}
-use Rattle.search.specs.Ways.{line, Ends, Way}
+use Rattle.way_lengths.specs.declared.Terminus.{Terminus}
+use Rattle.way_lengths.specs.Ways.{line, Ends, Way}
 use Rattle.legs.specs.Verdict.{TerminusOf}
 use Rattle.legs.proofs.Readings.{EndOf, end-of}
 use Rattle.leg_tests.specs.LegTests.{Own, Sole, SoleWay, OwnRead}

@@ -12,7 +12,7 @@ use Rattle.model.specs.Lines.{lineAt, lastOf, arriving}
 use Rattle.model.specs.Reading.{any, matching}
 use Rattle.model.specs.Choice.{arrivalOf, legOf}
 use Rattle.work_area.specs.Area.{Held}
-use Rattle.search.specs.Ways.{line, node}
+use Rattle.way_lengths.specs.Ways.{line, node}
 use Rattle.legs.specs.Verdict.{TerminusOf, at-node, at-line}
 use Rattle.stretches.specs.Stretch.{Known}
 use Rattle.leg_tests.specs.LegTests.{legFrom, Serves, Own}

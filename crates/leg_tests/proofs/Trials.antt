@@ -17,9 +17,9 @@ use Rattle.model.proofs.Joining.{first-known, lowest-small}
 use Rattle.buffers.proofs.Kept.{kept-none}
 use Rattle.work_area.specs.Mirror.{mirror}
 use Rattle.work_area.proofs.Holding.{held-kept}
-use Rattle.search.specs.declared.Terminus.{Terminus}
-use Rattle.search.specs.Ways.{Ends}
-use Rattle.search.specs.Area.{Searched, Set}
+use Rattle.way_lengths.specs.declared.Terminus.{Terminus}
+use Rattle.way_lengths.specs.Ways.{Ends}
+use Rattle.search_cells.specs.Area.{Searched, Set}
 use Rattle.search.specs.Promises.{Finished}
 use Rattle.fields.specs.Leg.{LongestLeg, legIn}
 use Rattle.fields.specs.declared.leg.Leg.{Leg}

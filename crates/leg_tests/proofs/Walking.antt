@@ -10,9 +10,9 @@ use Rattle.model.specs.Lines.{lineAt, Connected}
 use Rattle.model.specs.Choice.{good}
 use Rattle.work_area.specs.Mirror.{mirror}
 use Rattle.work_area.proofs.Mirrored.{line-mirrored}
-use Rattle.search.specs.Ways.{line}
-use Rattle.search.specs.Area.{latest}
-use Rattle.search.proofs.Leaving.{OnList, list-start, list-next}
+use Rattle.way_lengths.specs.Ways.{line}
+use Rattle.search_cells.specs.Area.{latest}
+use Rattle.search_cells.proofs.Leaving.{OnList, list-start, list-next}
 use Rattle.leg_tests.specs.declared.columns.Column.{Column}
 use Rattle.point_choice.specs.Cuts.{Tested}
 use Rattle.leg_tests.specs.LegTests.{mark, Marks, Open, Owned, Worked, ColumnKept, ColumnOwned, ColumnSifted, ColumnTested}

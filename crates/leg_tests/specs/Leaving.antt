@@ -6,7 +6,7 @@ use mathlib.Core.Path.{_≡_}
 use mathlib.Core.List.{List}
 use lib.ListN.{length, getD}
 use Rattle.model.specs.Lines.{lineAt}
-use Rattle.search.specs.Area.{latest}
+use Rattle.search_cells.specs.Area.{latest}
 use Rattle.leg_tests.specs.LegTests.{Worked}
 
 -- The lists of the lines below `i`: of each node 1 + its last line, from each line 1 + the one below it from the same node, and 0 where there is none.

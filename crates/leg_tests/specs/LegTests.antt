@@ -17,10 +17,10 @@ use Rattle.model.specs.Difference.{DifferencesFit}
 use Rattle.model.specs.Choice.{fromNode, toNode, legOf, good}
 use Rattle.buffers.specs.Decides.{Decides}
 use Rattle.buffers.specs.Kept.{Kept}
-use Rattle.search.specs.declared.Terminus.{Terminus}
-use Rattle.search.specs.Ways.{line, Ends, Way}
-use Rattle.search.specs.Area.{Searched, Set}
-use Rattle.search.specs.Steps.{Stands}
+use Rattle.way_lengths.specs.declared.Terminus.{Terminus}
+use Rattle.way_lengths.specs.Ways.{line, Ends, Way}
+use Rattle.search_cells.specs.Area.{Searched, Set}
+use Rattle.way_lengths.specs.Ways.{Stands}
 use Rattle.legs.specs.Verdict.{LimitFor, TerminusOf, ReadingTo, ToLines}
 use Rattle.stretches.specs.Stretch.{Known}
 use Rattle.point_choice.specs.Cuts.{Tested}

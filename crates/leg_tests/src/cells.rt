@@ -4,15 +4,15 @@ use crate::leg_search::end_after;
 use crate::leg_search::prepare;
 use crate::leg_search::test_other;
 use crate::leg_search::test_own;
-use search::Terminus;
+use way_lengths::Terminus;
 ghost use mathlib.Core.Path.{_≡_};
 ghost use Prim.Native.Nat.{_≤_};
 ghost use lib.ListN.{length};
 ghost use Rattle.model.specs.Map.{Map};
 ghost use Rattle.model.specs.Reading.{greatestLegLength};
 ghost use Rattle.buffers.specs.Decides.{Decides};
-ghost use Rattle.search.specs.Ways.{line};
-ghost use Rattle.search.specs.Area.{Set};
+ghost use Rattle.way_lengths.specs.Ways.{line};
+ghost use Rattle.search_cells.specs.Area.{Set};
 ghost use Rattle.leg_tests.specs.LegTests.{Alone, Own, Other, DoneFor, Trial, CellTested, OwnTested};
 
 // A leg's number in the table, and what the work area is searched for: 1 + the class, or 0, and the limit.

@@ -6,9 +6,9 @@ use crate::cells::test_own_cell;
 use buffers::wide;
 use fields::leg::Attributes;
 use legs::attributes::arrives_as;
-use search::Terminus;
 use stretches::lines::field_of;
 use stretches::lines::greater;
+use way_lengths::Terminus;
 use work_area::FRC;
 use work_area::LENGTH;
 ghost use mathlib.Core.Path.{_≡_};
@@ -17,7 +17,7 @@ ghost use lib.ListN.{length, getD};
 ghost use Rattle.model.specs.Map.{Map};
 ghost use Rattle.model.specs.Lines.{lineAt, Connected, arriving};
 ghost use Rattle.fields.specs.Leg.{attributesIn};
-ghost use Rattle.search.specs.Area.{Set};
+ghost use Rattle.search_cells.specs.Area.{Set};
 ghost use Rattle.leg_tests.specs.LegTests.{Noted, Own, Other, ShortLegs, Owned, ColumnCleared, ColumnOwned, ColumnSifted};
 
 // The greatest count of a stretch's positions: one more than of its lines.

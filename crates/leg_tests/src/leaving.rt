@@ -13,7 +13,7 @@ ghost use lib.ListN.{length};
 ghost use Rattle.model.specs.Map.{Map};
 ghost use Rattle.model.specs.Lines.{lineAt};
 ghost use Rattle.work_area.specs.Area.{Held};
-ghost use Rattle.search.specs.Area.{Set, latest};
+ghost use Rattle.search_cells.specs.Area.{Set, latest};
 ghost use Rattle.leg_tests.specs.Leaving.{Leaving, Listed};
 
 // The cells: for each node 1 + the first line of its list, and for each line 1 + the next, or 0.

@@ -9,16 +9,16 @@ use lib.ListN.{length}
 use Rattle.model.specs.Map.{Line, Map}
 use Rattle.work_area.specs.Mirror.{mirror}
 use Rattle.work_area.proofs.Mirrored.{line-mirrored}
-use Rattle.search.specs.declared.Terminus.{Terminus}
+use Rattle.way_lengths.specs.declared.Terminus.{Terminus}
 use Rattle.model.specs.Field.{sector}
 use Rattle.model.specs.Lines.{LineAttributes, lineAt, total, firstOf, lastOf, arriving, leaving}
 use Rattle.model.specs.Reading.{Leg, matching, Reading}
 use Rattle.model.proofs.Joining.{first-known, last-known}
-use Rattle.search.specs.Ways.{line, node, Way}
+use Rattle.way_lengths.specs.Ways.{line, node, Way}
 use Rattle.work_area.specs.Area.{Held}
-use Rattle.search.specs.Area.{Searched, Listing, Among, listed, latest}
-use Rattle.search.proofs.Leaving.{latest-le, latest-all}
-use Rattle.search.proofs.Places.{none-among, among-here, among-more, among-split, among-all}
+use Rattle.search_cells.specs.Area.{Searched, Listing, Among, listed, latest}
+use Rattle.search_cells.proofs.Leaving.{latest-le, latest-all}
+use Rattle.search_cells.proofs.Places.{none-among, among-here, among-more, among-split, among-all}
 use Rattle.ways.proofs.Back.{short-way}
 use Rattle.legs.specs.Verdict.{attributesAt, ReadingTo, ReadingFrom, ReadingAmong, ToLines, LimitFor}
 use Rattle.legs.proofs.Joining.{Either}

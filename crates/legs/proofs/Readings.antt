@@ -12,9 +12,9 @@ use Rattle.model.specs.Map.{Map}
 use Rattle.model.specs.Field.{distance}
 use Rattle.model.specs.Lines.{lineAt, total, firstOf, lastOf, leaving, arriving}
 use Rattle.model.specs.Reading.{Leg, Arrives, Allowed, SameEnds, Reading, greatestLegLength}
-use Rattle.search.specs.declared.Terminus.{Terminus}
-use Rattle.search.specs.Ways.{line, Ends, Way, Least, OnlyWay, Two, Beyond}
-use Rattle.search.specs.Area.{predecessor, linesFrom}
+use Rattle.way_lengths.specs.declared.Terminus.{Terminus}
+use Rattle.way_lengths.specs.Ways.{line, Ends, Way, Least, OnlyWay, Two, Beyond}
+use Rattle.search_cells.specs.Area.{predecessor, linesFrom}
 use Rattle.ways.specs.Told.{Told}
 use Rattle.ways.specs.declared.Ways.{Ways}
 use Rattle.ways.specs.declared.Ways.the-variants.{Nothing, Several, One}

@@ -7,12 +7,12 @@ use mathlib.Core.List.{List}
 use native.Mathlib.Omega.{arith}
 use Rattle.model.specs.Lines.{arriving}
 use Rattle.work_area.specs.Mirror.{mirror}
-use Rattle.search.specs.declared.Terminus.{Terminus}
-use Rattle.search.specs.Ways.{line}
+use Rattle.way_lengths.specs.declared.Terminus.{Terminus}
+use Rattle.way_lengths.specs.Ways.{line}
 use Rattle.fields.specs.declared.leg.Attributes.{Attributes}
 use Rattle.fields.specs.Leg.{LongestLeg, attributesIn, arrivalIn, legIn}
 use Rattle.buffers.specs.Kept.{Kept}
-use Rattle.search.specs.Area.{Set}
+use Rattle.search_cells.specs.Area.{Set}
 use Rattle.search.specs.Promises.{Finished}
 use Rattle.buffers.proofs.Kept.{kept-none, kept-within}
 use Rattle.work_area.proofs.Holding.{held-kept}

@@ -6,8 +6,8 @@ use mathlib.Core.Logic.{⊎-elim}
 use Rattle.model.specs.Field.{distance}
 use Rattle.model.specs.Map.{Map}
 use Rattle.model.specs.Lines.{lineAt, leaving}
-use Rattle.search.specs.declared.Terminus.{Terminus}
-use Rattle.search.specs.Area.{Listing, Among, listed, lengthTo}
+use Rattle.way_lengths.specs.declared.Terminus.{Terminus}
+use Rattle.search_cells.specs.Area.{Listing, Among, listed, lengthTo}
 use Rattle.ways.specs.Told.{Told}
 use Rattle.ways.specs.declared.Ways.{Ways}
 use Rattle.fields.specs.declared.leg.Leg.{Leg}

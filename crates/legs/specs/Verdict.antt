@@ -12,10 +12,10 @@ use Rattle.model.specs.Field.{sector, distance}
 use Rattle.model.specs.Lines.{LineAttributes, lineAt, total, firstOf, lastOf, leaving, arriving}
 use Rattle.buffers.specs.Kept.{Kept}
 use Rattle.work_area.specs.Mirror.{mirror}
-use Rattle.search.specs.declared.Terminus.{Terminus}
-use Rattle.search.specs.declared.Terminus.the-variants.{Line, Node}
-use Rattle.search.specs.Ways.{Ends}
-use Rattle.search.specs.Area.{Searched, linesFrom, Set}
+use Rattle.way_lengths.specs.declared.Terminus.{Terminus}
+use Rattle.way_lengths.specs.declared.Terminus.the-variants.{Line, Node}
+use Rattle.way_lengths.specs.Ways.{Ends}
+use Rattle.search_cells.specs.Area.{Searched, linesFrom, Set}
 use Rattle.ways.specs.declared.Ways.{Ways}
 use Rattle.fields.specs.declared.leg.Leg.{Leg}
 use Rattle.fields.specs.declared.leg.Reading.{Reading}

@@ -4,13 +4,13 @@ use fields::leg::Leg;
 use fields::leg::Verdict;
 use fields::leg::longest_leg;
 use first_lines::from_lines;
-use search::Terminus;
 use search::search;
+use way_lengths::Terminus;
 ghost use Rattle.model.specs.Map.{Map};
 ghost use Rattle.fields.specs.Leg.{legIn};
 ghost use Rattle.legs.specs.Verdict.{TerminusOf, ReadingTo, StandsIn, Judged};
-ghost use Rattle.search.specs.Area.{Set};
-ghost use Rattle.search.specs.Steps.{Stands};
+ghost use Rattle.search_cells.specs.Area.{Set};
+ghost use Rattle.way_lengths.specs.Ways.{Stands};
 
 pub mod attributes;
 pub mod first_lines;

@@ -10,13 +10,13 @@ use model::number_of;
 use opening::Opened;
 use opening::open_map;
 use reader::read;
-use search::Terminus;
 use search::search;
+use way_lengths::Terminus;
 use writer::write;
 ghost use mathlib.Core.Path.{_≡_};
 ghost use lib.ListN.{length};
 ghost use Rattle.model.specs.Map.{Map};
-ghost use Rattle.search.specs.Area.{Set};
+ghost use Rattle.search_cells.specs.Area.{Set};
 ghost use Rattle.model.specs.Stretch.{stretchOf};
 ghost use Rattle.measured.specs.Refusal.{mapRefusal, ReadNumber, WriteNumber};
 

@@ -9,12 +9,12 @@ use Rattle.model.specs.Map.{Map, refused, decode}
 use Rattle.buffers.specs.Kept.{Kept}
 use Rattle.buffers.proofs.Kept.{kept-over}
 use Rattle.work_area.specs.Mirror.{mirror}
-use Rattle.search.specs.Area.{Mirrored}
-use Rattle.search.proofs.Holding.{mirrored}
+use Rattle.search_cells.specs.Area.{Mirrored}
+use Rattle.search_cells.proofs.Holding.{mirrored}
 use Rattle.model.specs.Work.{workLength}
 use Rattle.work_area.proofs.Holding.{held, held-kept}
 use Rattle.depot_map.specs.Answer.{WholeMap}
-use Rattle.search.specs.Promises.{Linked}
+use Rattle.search_cells.specs.Promises.{Linked}
 use Rattle.opening.specs.declared.Opened.{Opened}
 use Rattle.opening.specs.declared.Opened.the-variants.{Ready, Refused}
 use Rattle.opening.specs.Opened.{ReadyMap, OpenAnswers, MapOpened}

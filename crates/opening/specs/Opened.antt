@@ -7,7 +7,7 @@ use Rattle.model.specs.Refusal.{refusalOf}
 use Rattle.model.specs.Map.{Map, whole, refused, decode}
 use Rattle.buffers.specs.Kept.{Kept}
 use Rattle.model.specs.Work.{workLength}
-use Rattle.search.specs.Area.{Set}
+use Rattle.search_cells.specs.Area.{Set}
 use Rattle.opening.specs.declared.Opened.{Opened}
 use Rattle.opening.specs.declared.Opened.the-variants.{Ready, Refused}
 

@@ -2,7 +2,7 @@
 use depot_map::MapRead;
 use depot_map::read_map;
 use model::Refusal;
-use search::adjacency::link;
+use search_cells::adjacency::link;
 ghost use Prim.Native.Nat.{_≤_};
 ghost use lib.ListN.{length};
 ghost use Rattle.model.specs.Work.{workLength};

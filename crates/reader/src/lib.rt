@@ -24,7 +24,7 @@ ghost use Rattle.model.specs.Outcome.{LegsRead, every, ReadOn, ReadParsed, Read
 ghost use Rattle.model.specs.Locate.{located};
 ghost use Rattle.model.specs.Work.{workLength, placed};
 ghost use Rattle.model.specs.Call.{ReadAnswered, ReadCall};
-ghost use Rattle.search.specs.Area.{Set};
+ghost use Rattle.search_cells.specs.Area.{Set};
 ghost use Rattle.references.specs.Form.{SoundBytes};
 ghost use Rattle.references.specs.Legs.{legsAt};
 ghost use Rattle.reference_legs.specs.Legs.{PlacesIn};

@@ -6,8 +6,8 @@ use native.Mathlib.Omega.{arith}
 use lib.ListN.{length, getD}
 use Rattle.model.specs.Map.{Map}
 use Rattle.model.specs.Lines.{Connected}
-use Rattle.search.specs.declared.Terminus.{Terminus}
-use Rattle.search.specs.Area.{linesFrom}
+use Rattle.way_lengths.specs.declared.Terminus.{Terminus}
+use Rattle.search_cells.specs.Area.{linesFrom}
 use Rattle.fields.specs.declared.leg.Leg.{Leg}
 use Rattle.fields.specs.declared.leg.Reading.{Reading}
 use Rattle.fields.specs.declared.leg.Verdict.{Verdict}

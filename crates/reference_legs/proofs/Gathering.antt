@@ -19,7 +19,7 @@ use Rattle.model.proofs.Skipping.{total-append}
 use Rattle.model.proofs.Joining.{first-known}
 use Rattle.fields.specs.declared.leg.Reading.{Reading}
 use Rattle.legs.specs.Verdict.{OneList, TwoLists, Says}
-use Rattle.search.specs.Area.{Set}
+use Rattle.search_cells.specs.Area.{Set}
 use Rattle.reference_legs.specs.declared.Sums.{Sums}
 use Rattle.reference_legs.specs.Legs.{barredWith, sumsWith, SumsOf, Laid, AllRead}
 use Rattle.model.specs.Reading as definitions

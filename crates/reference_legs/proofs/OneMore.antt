@@ -8,13 +8,13 @@ use lib.ListN.{length}
 use Rattle.model.specs.Map.{Line, Map}
 use Rattle.model.specs.Lines.{LineAttributes, lineAt, arriving}
 use Rattle.fields.specs.Leg.{arrivalIn, legIn}
-use Rattle.search.specs.Ways.{line, node}
+use Rattle.way_lengths.specs.Ways.{line, node}
 use Rattle.model.specs.Reading.{Arrival, any, matching, Leg, Reading}
 use Rattle.model.proofs.Joining.{last-known}
 use Rattle.work_area.specs.Mirror.{mirror}
 use Rattle.work_area.proofs.Mirrored.{line-mirrored}
-use Rattle.search.specs.Area.{Set}
-use Rattle.search.proofs.Leaving.{latest-le, latest-hit, list-start}
+use Rattle.search_cells.specs.Area.{Set}
+use Rattle.search_cells.proofs.Leaving.{latest-le, latest-hit, list-start}
 use Rattle.buffers.proofs.Kept.{kept-none, kept-then}
 use Rattle.fields.specs.declared.leg.Verdict.{Verdict}
 use Rattle.legs.specs.Verdict.{bothOf, OneList, Says, Judged, TerminusOf, at-node, at-line, ReadingTo, ToLines}

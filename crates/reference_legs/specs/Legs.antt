@@ -11,7 +11,7 @@ use Rattle.model.specs.Choice.{firstLeg, lastLeg}
 use Rattle.model.specs.Reading.{Leg, joined, bannedMeeting}
 use Rattle.model.specs.Outcome.{LegsRead, every, failed}
 use Rattle.model.specs.Work.{placed}
-use Rattle.search.specs.Area.{linesFrom, Set}
+use Rattle.search_cells.specs.Area.{linesFrom, Set}
 use Rattle.fields.specs.declared.leg.Reading.{Reading}
 use Rattle.fields.specs.declared.leg.Verdict.{Verdict}
 use Rattle.reference_legs.specs.declared.Sums.{Sums}

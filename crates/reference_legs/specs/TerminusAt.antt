@@ -6,9 +6,9 @@ use Rattle.model.specs.Map.{Map}
 use Rattle.model.specs.Lines.{lineAt}
 use Rattle.model.specs.Reading.{Arrival, any, matching}
 use Rattle.work_area.specs.Mirror.{mirror}
-use Rattle.search.specs.declared.Terminus.{Terminus}
-use Rattle.search.specs.declared.Terminus.the-variants.{Line, Node}
-use Rattle.search.specs.Area.{latest}
+use Rattle.way_lengths.specs.declared.Terminus.{Terminus}
+use Rattle.way_lengths.specs.declared.Terminus.the-variants.{Line, Node}
+use Rattle.search_cells.specs.Area.{latest}
 
 -- Where it begins, for a leg to node `v`; where it goes on; and which terminus it is at.
 abbrev pub firstAt : Map → ℕ → Arrival → ℕ → ℕ

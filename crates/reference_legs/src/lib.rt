@@ -15,7 +15,7 @@ ghost use Rattle.model.specs.Map.{Map};
 ghost use Rattle.model.specs.Lines.{Connected};
 ghost use Rattle.model.specs.Reading.{greatestLegLength};
 ghost use Rattle.work_area.specs.Area.{Held};
-ghost use Rattle.search.specs.Area.{linesFrom, Set};
+ghost use Rattle.search_cells.specs.Area.{linesFrom, Set};
 ghost use Rattle.references.specs.Form.{SoundBytes};
 ghost use Rattle.references.specs.Legs.{legsAt};
 ghost use Rattle.reference_legs.specs.Legs.{barredWith, sumsWith, Put, PlacesIn, LegsDone};

@@ -1,23 +1,16 @@
 -- Where nothing waits the lengths are least, and the notes are right.
-use Rattle.model.specs.Map.{Map}
-use Rattle.search.specs.Area.{far, several, lengthTo, predecessor, Tie, Tied}
+use Rattle.search_cells.specs.Area.{several, lengthTo, predecessor, Tie, Tied}
 use Prim.Native.Nat.{ℕ, _+_, _-_, _≤_, _<_}
 use mathlib.Core.Path.{_≡_}
 use mathlib.Core.List.{List}
 use mathlib.Core.Logic.{⊎-elim}
 use native.Mathlib.Omega.{arith}
-use lib.ListN.{length}
 use Rattle.model.specs.Lines.{Follows, total}
-use Rattle.search.specs.declared.Terminus.{Terminus}
-use Rattle.search.specs.Ways.{line, Distance}
-use Rattle.search.specs.Steps.{Task, Counted, Underway, Based}
-use Rattle.search.proofs.Plain.{Grown, one, more, total-more, total-one, grown-of}
-use Rattle.search.proofs.Follows.{known}
+use Rattle.way_lengths.specs.Ways.{line, Distance}
+use Rattle.relaxation.specs.Underway.{Task, Counted, Underway}
+use Rattle.search.specs.Seeds.{Based}
+use Rattle.way_lengths.proofs.Plain.{Grown, one, more, total-more, total-one, grown-of, last-known}
 use Rattle.buffers.proofs.Cases.{le-or-lt}
-
-pub last-known : {m : Map} {c l : ℕ} {f : Terminus} {r : List ℕ} → Grown m c f l r → l < length (m .lines)
-last-known (one h s k) = h
-last-known (more g f k) = known f
 
 module _ {q : Task} {n c limit place count end : ℕ} {w : List ℕ} (g : Underway q n c limit place count end w)
     (b : Based (q .map) n c (q .from) limit w) (done : end ≤ place) where

@@ -2,27 +2,29 @@
 use Rattle.work_area.specs.Area.{linePlace, lineLength, lineFrc, searchFrom, lastBarredFrom}
 use Rattle.model.specs.Map.{greatestLineCount, Map}
 use Rattle.model.specs.Reading.{greatestLegLength}
-use Rattle.search.specs.Area.{Mirrored, far, latest, lengthTo, queued, lineOf, keyOf}
+use Rattle.search_cells.specs.Area.{Mirrored, far, latest, lengthTo, queued, lineOf, keyOf}
 use Prim.Native.Nat.{ℕ, _+_, _-_, _≤_, _<_}
 use mathlib.Core.Path.{_≡_, refl, sym, _∙_, ap, subst}
 use mathlib.Core.Bool.{Bool, true}
 use mathlib.Core.List.{List, [], _∷_}
 use mathlib.Core.Logic.{inl, inr, ⊎-elim, _≢_}
 use native.Mathlib.Omega.{arith}
-use lib.ListN.{length, getD}
+use lib.ListN.{getD}
 use Rattle.model.specs.Lines.{lineAt}
-use Rattle.search.specs.declared.Terminus.{Terminus}
-use Rattle.search.specs.Ways.{line, node, Begins}
-use Rattle.search.specs.Steps.{Task, task, Underway, Reset, Seeding, Seeded, SeededNode, BasedAt, Begun, Put, Sent, InsertedSeed}
+use Rattle.way_lengths.specs.declared.Terminus.{Terminus}
+use Rattle.way_lengths.specs.Ways.{line, node, Begins}
+use Rattle.relaxation.specs.Underway.{Task, task, Underway}
+use Rattle.search_cells.specs.Promises.{Reset, Put, Sent}
+use Rattle.search.specs.Seeds.{Seeding, Seeded, SeededNode, BasedAt, Begun, InsertedSeed}
 use Rattle.buffers.specs.Kept.{Kept}
 use Rattle.buffers.proofs.Kept.{kept-none, kept-then, kept-within}
 use Rattle.buffers.proofs.Cases.{le-or-lt, here-or}
-use Rattle.search.proofs.Holding.{held-kept, few, line-ok}
-use Rattle.search.proofs.Plain.{way-one, total-one}
-use Rattle.search.proofs.Reached.{count-le, room-left}
-use Rattle.search.proofs.Queueing.{ordered-same}
-use Rattle.search.proofs.Leaving.{OnList, list-start, list-none, list-less, list-next, list-passed}
-use Rattle.search.proofs.Arriving.{Entered, Levelled, entered, found-now, lengths-now, enter, queue-same, enter-unsent}
+use Rattle.search_cells.proofs.Holding.{held-kept, few, line-ok}
+use Rattle.way_lengths.proofs.Plain.{way-one, total-one}
+use Rattle.search_cells.proofs.Reached.{count-le, room-left}
+use Rattle.relaxation.proofs.Queueing.{ordered-same}
+use Rattle.search_cells.proofs.Leaving.{OnList, list-start, list-none, list-less, list-next, list-passed}
+use Rattle.relaxation.proofs.Arriving.{Entered, Levelled, entered, found-now, lengths-now, enter, queue-same, enter-unsent}
 
 -- No line is reached.
 module _ {m : Map} {from : Terminus} {n limit : ℕ} {w v : List ℕ} (h : Mirrored w n m) (small : limit ≤ greatestLegLength) (k : Reset m n w v) where

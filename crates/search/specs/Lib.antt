@@ -1,5 +1,3 @@
--- What the search means, and what its functions keep in the work area.
-pub mod Ways
-pub mod Area
+-- What a search promises, and how it begins.
 pub mod Promises
-pub mod Steps
+pub mod Seeds

@@ -1,32 +1,22 @@
 // The search for ways of least length, over a map that stands in the work area.
-// It goes back from where the ways end, along the mirrored map, on which every line leads from its end to its start. What this crate says of lines that
-// leave a node, of predecessors and of lengths to a line is said of that map. The crate `ways` reads it as ways of the map itself.
-// `adjacency::link` is called once a map, then `search` for each terminus, class and limit.
-use expand::expand;
-use list::ReachedLines;
-use list::reset;
+// It goes back from where the ways end, along the mirrored map, on which every line leads from its end to its start. What is said of lines that leave a
+// node, of predecessors and of lengths to a line, here and down to `search_cells`, is said of that map. The crate `ways` reads it as ways of the map itself.
+// `search_cells::adjacency::link` is called once a map, then `search` for each terminus, class and limit.
+use expansion::expand;
+use search_cells::list::ReachedLines;
+use search_cells::list::reset;
 use seeds::seed;
 use seeds::seed_node;
+use way_lengths::Terminus;
 ghost use Prim.Native.Nat.{_≤_};
 ghost use Rattle.model.specs.Map.{Map};
 ghost use Rattle.model.specs.Reading.{greatestLegLength};
-ghost use Rattle.search.specs.Area.{Mirrored, Chained};
-ghost use Rattle.search.specs.Steps.{Begun, Stands};
+ghost use Rattle.search_cells.specs.Area.{Mirrored, Chained};
+ghost use Rattle.search.specs.Seeds.{Begun};
+ghost use Rattle.way_lengths.specs.Ways.{Stands};
 ghost use Rattle.search.specs.Promises.{Finished};
 
-pub mod adjacency;
-pub mod cells;
-mod expand;
-mod list;
-mod nearest;
-mod relax;
 mod seeds;
-
-// Where ways begin or end: with a line, or at a node, whatever the line.
-pub enum Terminus {
-    Line(usize),
-    Node(usize),
-}
 
 // Resets the last search and reaches the lines that ways may begin with: the list and the queue now.
 fn begin(work: &mut [u32], lines: usize, from: Terminus, class: u32, limit: u32) -> ReachedLines

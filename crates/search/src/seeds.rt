@@ -1,11 +1,11 @@
 // How a search begins: the lines that ways may begin with are reached, each at its own length.
-use crate::adjacency::first_leaving;
-use crate::adjacency::next_leaving;
-use crate::cells::key_of;
-use crate::list::ReachedLines;
-use crate::list::insert;
-use crate::list::put;
-use crate::list::sends;
+use search_cells::adjacency::first_leaving;
+use search_cells::adjacency::next_leaving;
+use search_cells::cells::key_of;
+use search_cells::list::ReachedLines;
+use search_cells::list::insert;
+use search_cells::list::put;
+use search_cells::list::sends;
 use work_area::FRC;
 use work_area::LENGTH;
 use work_area::QUEUE;
@@ -15,9 +15,10 @@ ghost use Prim.Native.Nat.{ℕ, _≤_, _<_};
 ghost use lib.ListN.{length};
 ghost use Rattle.model.specs.Map.{greatestLineCount, Map};
 ghost use Rattle.model.specs.Work.{workLength};
-ghost use Rattle.search.specs.Area.{far, lengthTo, queued};
-ghost use Rattle.search.specs.Ways.{node, Begins};
-ghost use Rattle.search.specs.Steps.{Task, Seeding, Seeded, InsertedSeed, SeededNode, task};
+ghost use Rattle.search_cells.specs.Area.{far, lengthTo, queued};
+ghost use Rattle.way_lengths.specs.Ways.{node, Begins};
+ghost use Rattle.relaxation.specs.Underway.{Task, task};
+ghost use Rattle.search.specs.Seeds.{Seeding, Seeded, InsertedSeed, SeededNode};
 
 // Puts a line into the queue that ends at `end`, by its length, before all that are farther. The first of them may be.
 fn insert_seed(work: &mut [u32], end: usize, key: u32)

@@ -1,7 +1,7 @@
 -- The way back from a line, by the predecessor of each: where that is always one, the way is the only one of its length.
 use Rattle.model.specs.Map.{Map}
-use Rattle.search.specs.declared.Terminus.{Terminus}
-use Rattle.search.specs.Area.{far, several, lengthTo, linesFrom, Tie, Predecessors, Searched, predecessor}
+use Rattle.way_lengths.specs.declared.Terminus.{Terminus}
+use Rattle.search_cells.specs.Area.{far, several, lengthTo, linesFrom, Tie, Predecessors, Searched, predecessor}
 use Prim.Native.Nat.{ℕ, zero, suc, _+_, _-_, _≤_, _<_}
 use mathlib.Core.Path.{_≡_, refl, sym, _∙_, ap, subst}
 use mathlib.Core.Bool.{cond}
@@ -12,15 +12,15 @@ use native.Mathlib.Omega.{arith}
 use borrow.Author.Tests.{ltb-true, ltb-false}
 use lib.Dec.{ltb}
 use Rattle.model.specs.Lines.{lineAt, total, lastOf}
-use Rattle.search.specs.Ways.{line, Way, Reached, Least, OnlyWay, Two, Beyond}
-use Rattle.search.proofs.Plain.{Grown, one, more, class-last, total-more, total-one, way-more, way-of, grown-of, same-before}
-use Rattle.search.proofs.Follows.{known}
+use Rattle.way_lengths.specs.Ways.{line, Way, Reached, Least, OnlyWay, Two, Beyond}
+use Rattle.way_lengths.proofs.Plain.{Grown, one, more, class-last, total-more, total-one, way-more, way-of, grown-of, same-before}
+use Rattle.way_lengths.proofs.Follows.{known}
 use Rattle.buffers.proofs.Cases.{le-or-lt, picked}
 use Rattle.work_area.specs.Mirror.{mirror}
 use Rattle.ways.specs.Told.{SeveralLeast, OneLeast}
 use Rattle.ways.proofs.Mirroring.{backwards, backwards-more, total-mirrored, way-mirrored, beyond-back, least-back, only-back, two-back}
-use Rattle.search.proofs.Holding.{line-ok}
-use Rattle.search.proofs.Lengths.{last-known}
+use Rattle.search_cells.proofs.Holding.{line-ok}
+use Rattle.way_lengths.proofs.Plain.{last-known}
 
 -- The `count` lines up to line `last`, on the mirrored map, by the predecessor of each that stands in the area.
 abbrev pub linesTo : List ℕ → ℕ → ℕ → List ℕ

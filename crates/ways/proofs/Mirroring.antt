@@ -9,10 +9,10 @@ use native.Mathlib.Omega.{arith}
 use lib.ListN.{length}
 use Rattle.work_area.specs.Mirror.{mirror}
 use Rattle.work_area.proofs.Mirrored.{line-mirrored, lines-mirrored, follows-mirrored, follows-back}
-use Rattle.search.specs.declared.Terminus.{Terminus}
-use Rattle.search.specs.Ways.{Begins, Ends, Way, Reached, Least, OnlyWay, Two, Beyond}
-use Rattle.search.proofs.Plain.{connected-more}
-use Rattle.search.specs.declared.Terminus.the-variants as at
+use Rattle.way_lengths.specs.declared.Terminus.{Terminus}
+use Rattle.way_lengths.specs.Ways.{Begins, Ends, Way, Reached, Least, OnlyWay, Two, Beyond}
+use Rattle.way_lengths.proofs.Plain.{connected-more}
+use Rattle.way_lengths.specs.declared.Terminus.the-variants as at
 
 -- ---- a list backwards
 

@@ -1,7 +1,7 @@
 -- The lines of a way, written from the first to the last.
 use Rattle.work_area.specs.Area.{Held}
 use Rattle.model.specs.Map.{greatestLineCount, Map}
-use Rattle.search.specs.Area.{linesFrom, predecessor}
+use Rattle.search_cells.specs.Area.{linesFrom, predecessor}
 use Prim.Native.Nat.{ℕ, zero, suc, _+_, _-_, _≤_, _<_}
 use mathlib.Core.Path.{_≡_, refl, sym, _∙_, ap}
 use mathlib.Core.List.{List, [], _∷_, _++_, append-nil}

@@ -1,12 +1,12 @@
 -- What is asked of a finished search.
 use Rattle.model.specs.Map.{Map}
 use Rattle.model.specs.Lines.{lastOf}
-use Rattle.search.specs.declared.Terminus.{Terminus}
-use Rattle.search.specs.Area.{linesFrom}
+use Rattle.way_lengths.specs.declared.Terminus.{Terminus}
+use Rattle.search_cells.specs.Area.{linesFrom}
 use Prim.Native.Nat.{ℕ, _≤_, _<_}
 use mathlib.Core.Path.{_≡_}
 use mathlib.Core.List.{List}
-use Rattle.search.specs.Ways.{line, Least, OnlyWay, Two, Beyond}
+use Rattle.way_lengths.specs.Ways.{line, Least, OnlyWay, Two, Beyond}
 use Rattle.ways.specs.declared.Ways.{Ways}
 use Rattle.ways.specs.declared.Ways.the-variants.{Nothing, Several, One}
 

@@ -1,15 +1,15 @@
 // What a search back from a terminus has found: the ways of least length from a line to it. The search went along the mirrored map; here the ways are
 // those of the map itself.
 use buffers::wide;
-use search::cells::SEVERAL;
-use search::cells::length_to;
-use search::cells::predecessor_at;
+use search_cells::cells::SEVERAL;
+use search_cells::cells::length_to;
+use search_cells::cells::predecessor_at;
 ghost use Rattle.work_area.specs.Area.{Held};
 ghost use Rattle.work_area.specs.Mirror.{mirror};
 ghost use Rattle.model.specs.Map.{greatestLineCount, Map};
 ghost use Rattle.model.specs.Work.{workLength};
-ghost use Rattle.search.specs.declared.Terminus.{Terminus};
-ghost use Rattle.search.specs.Area.{Searched, predecessor, linesFrom};
+ghost use Rattle.way_lengths.specs.declared.Terminus.{Terminus};
+ghost use Rattle.search_cells.specs.Area.{Searched, predecessor, linesFrom};
 ghost use mathlib.Core.Path.{_≡_};
 ghost use Prim.Native.Nat.{ℕ, _-_, _≤_, _<_};
 ghost use lib.ListN.{length};

@@ -19,7 +19,7 @@ ghost use Rattle.model.specs.Stretch.{checkStretch, stretchOf};
 ghost use Rattle.model.specs.Outcome.{WriteOn, WriteStretch, WriteMap};
 ghost use Rattle.model.specs.Work.{workLength};
 ghost use Rattle.model.specs.Call.{WriteAnswered, WriteCall};
-ghost use Rattle.search.specs.Area.{Set};
+ghost use Rattle.search_cells.specs.Area.{Set};
 ghost use Rattle.reference_bytes.specs.Put.{Inside};
 
 // A number for each leg of a stretch of up to 64 lines, and one for each of its positions.

@@ -7,10 +7,10 @@ use Rattle.leg_tests.proofs.Termini.{own-line}
 use Rattle.leg_tests.specs.LegTests.{Own, Noted, ColumnOwned, ColumnSifted}
 use Rattle.stretches.specs.Attributes.{attributesBy}
 use Rattle.fields.specs.Leg.{attributesIn}
-use Rattle.search.proofs.Holding.{mirrored}
-use Rattle.search.proofs.Leaving.{latest-le}
-use Rattle.search.specs.Area.{Set, latest}
-use Rattle.search.specs.Ways.{line}
+use Rattle.search_cells.proofs.Holding.{mirrored}
+use Rattle.search_cells.proofs.Leaving.{latest-le}
+use Rattle.search_cells.specs.Area.{Set, latest}
+use Rattle.way_lengths.specs.Ways.{line}
 use Rattle.work_area.specs.Mirror.{mirror}
 use Rattle.model.specs.Lines.{lineAt, Connected, arriving}
 use Rattle.model.specs.Map.{Map}

@@ -4,7 +4,7 @@ use Rattle.leg_tests.proofs.Sifting.{worked-then, noted-kept}
 use Rattle.leg_tests.proofs.Trials.{all-known}
 use Rattle.leg_tests.specs.LegTests.{mark, Marks, Noted, Worked}
 use Rattle.point_choice.specs.Cuts.{Tested}
-use Rattle.search.specs.Area.{Set}
+use Rattle.search_cells.specs.Area.{Set}
 use Rattle.buffers.proofs.Kept.{kept-none, kept-then, kept-within}
 use Rattle.buffers.specs.Kept.{Kept}
 use Rattle.model.specs.Choice.{good}

@@ -3,8 +3,8 @@ use Rattle.leg_tests.proofs.OwnColumns.{owned-all}
 use Rattle.leg_tests.proofs.Trials.{all-known}
 use Rattle.leg_tests.proofs.Termini.{own-node}
 use Rattle.leg_tests.specs.LegTests.{Own}
-use Rattle.search.specs.Area.{Set}
-use Rattle.search.specs.Ways.{node}
+use Rattle.search_cells.specs.Area.{Set}
+use Rattle.way_lengths.specs.Ways.{node}
 use Rattle.model.specs.Lines.{Connected}
 use Rattle.model.specs.Map.{Map}
 use native.Mathlib.Omega.{arith}

@@ -1,6 +1,6 @@
 -- `read_to` meets its contract: after a search back from the terminus, all first lines are judged.
 use Rattle.work_area.specs.Mirror.{mirror}
-use Rattle.search.proofs.Holding.{mirrored, stands-mirrored}
+use Rattle.search_cells.proofs.Holding.{mirrored, stands-mirrored}
 use Rattle.legs.proofs.Searched.{searched, judged-by}
 use borrow.Author.Needs.{needs}
 use Rattle.legs.proofs.read_to.Statement.{statement}

@@ -5,10 +5,10 @@ use Prim.Native.Nat.{_-_}
 use mathlib.Core.Path.{_≡_, refl}
 use lib.ListN.{length}
 use Rattle.model.specs.Map.{Map}
-use Rattle.search.specs.Area.{Set}
+use Rattle.search_cells.specs.Area.{Set}
 use Rattle.work_area.specs.Mirror.{mirror}
 use Rattle.work_area.proofs.Holding.{held-kept}
-use Rattle.search.proofs.Holding.{mirrored}
+use Rattle.search_cells.proofs.Holding.{mirrored}
 use Rattle.measured.proofs.search_again.Statement.{statement}
 use Rattle.measured.proofs.search_again.Tie as tie
 

@@ -2,7 +2,7 @@
 use borrow.Author.Needs.{needs}
 use Rattle.work_area.specs.Mirror.{mirror}
 use Rattle.work_area.proofs.Holding.{held}
-use Rattle.search.proofs.Holding.{mirrored}
+use Rattle.search_cells.proofs.Holding.{mirrored}
 use Rattle.depot_map.proofs.Whole.{read-whole, read-refused}
 use Rattle.opening.proofs.Told.{opened}
 use Rattle.opening.proofs.open_map.Statement.{statement}

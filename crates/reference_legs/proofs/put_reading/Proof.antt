@@ -9,7 +9,7 @@ use lib.ListN.{length, take, drop, length-drop}
 use lib.Seq.{length-take-le, drop-drop}
 use Rattle.model.specs.Map.{Map}
 use Rattle.model.specs.Lines.{Connected}
-use Rattle.search.specs.Area.{linesFrom}
+use Rattle.search_cells.specs.Area.{linesFrom}
 use Rattle.fields.specs.declared.leg.Reading.{Reading}
 use Rattle.fields.specs.declared.leg.Verdict.{Verdict}
 use Rattle.fields.specs.declared.leg.Verdict.the-variants.{Unread, One, Several}

@@ -7,7 +7,7 @@ use mathlib.Core.List.{_∷_}
 use mathlib.Core.Logic.{⊎-elim}
 use lib.ListN.{length}
 use Rattle.model.specs.Map.{Map}
-use Rattle.search.specs.Area.{Set}
+use Rattle.search_cells.specs.Area.{Set}
 use Rattle.fields.specs.declared.leg.Leg.{Leg}
 use Rattle.fields.specs.declared.leg.Verdict.the-variants.{Unread, Several}
 use Rattle.fields.specs.Leg.{arrivalIn, legIn}

@@ -1,14 +1,14 @@
 -- `begin` meets its contract: the last search is reset, and the lines that ways may begin with are reached.
 use mathlib.Core.Path.{refl}
-use Rattle.search.specs.Ways.{line}
-use Rattle.search.specs.Steps.{task}
+use Rattle.way_lengths.specs.Ways.{line}
+use Rattle.relaxation.specs.Underway.{task}
 use Rattle.search.proofs.Seeding.{seeding-none, begun-line, begun-node}
 use borrow.Author.Needs.{needs}
 use Rattle.search.proofs.begin.Statement.{statement}
 use Rattle.search.proofs.begin.Tie as tie
 use Rattle.search.proofs.begin.Reads as reads
 use Rattle.search.proofs.begin.Lts as lts
-use Rattle.search.proofs.list.reset.Reads as reset-reads
+use Rattle.search_cells.proofs.list.reset.Reads as reset-reads
 use Rattle.search.proofs.seeds.seed.Reads as seed-reads
 use Rattle.search.proofs.seeds.seed_node.Reads as seed-node-reads
 

@@ -1,11 +1,12 @@
 -- `search` meets its contract: place by place of the queue, until none is left.
 use Prim.Native.Nat.{_-_}
 use mathlib.Core.Path.{_∙_}
-use Rattle.search.specs.Steps.{Task, task, Underway, Based}
+use Rattle.relaxation.specs.Underway.{Task, task, Underway}
+use Rattle.search.specs.Seeds.{Based}
 use Rattle.buffers.proofs.Kept.{kept-then, kept-within}
-use Rattle.search.proofs.Holding.{few}
-use Rattle.search.proofs.Reached.{count-le}
-use Rattle.search.proofs.Passing.{Searching, searching-start, searching-step}
+use Rattle.search_cells.proofs.Holding.{few}
+use Rattle.search_cells.proofs.Reached.{count-le}
+use Rattle.search.proofs.Searching.{Searching, searching-start, searching-step}
 use Rattle.search.proofs.Lengths.{settled, tied}
 use native.Mathlib.Omega.{arith}
 use borrow.Author.Needs.{needs}
@@ -14,7 +15,7 @@ use Rattle.search.proofs.search.Tie as tie
 use Rattle.search.proofs.search.Reads as reads
 use Rattle.search.proofs.search.Lts as lts
 use Rattle.search.proofs.begin.Reads as begin-reads
-use Rattle.search.proofs.expand.expand.Reads as expand-reads
+use Rattle.expansion.proofs.expand.Reads as expand-reads
 
 abbrev Inv-loop : tie.InvT-loop
 Inv-loop work₀ lines class limit list₀ place₀ work list place =

@@ -5,7 +5,7 @@ use Prim.Native.Nat.{_<_}
 use mathlib.Core.Path.{_≡_, refl}
 use lib.ListN.{length}
 use Rattle.model.specs.Map.{Map}
-use Rattle.search.specs.Area.{Set}
+use Rattle.search_cells.specs.Area.{Set}
 use Rattle.fields.specs.Leg.{arrivalIn, legIn}
 use Rattle.legs.specs.Verdict.{Anywhere}
 use Rattle.reference_legs.proofs.OneMore.{Walked, next-less, walk-start, walk-on, walk-end}

@@ -9,9 +9,9 @@ use Rattle.model.specs.Map.{greatestLineCount, Map}
 use Rattle.model.specs.Lines.{Connected}
 use Rattle.work_area.specs.Mirror.{mirror}
 use Rattle.work_area.proofs.Holding.{few, held-kept}
-use Rattle.search.specs.Area.{linesFrom, Set}
+use Rattle.search_cells.specs.Area.{linesFrom, Set}
 use Rattle.search.specs.Promises.{Finished}
-use Rattle.search.proofs.Holding.{mirrored, stands-mirrored}
+use Rattle.search_cells.proofs.Holding.{mirrored, stands-mirrored}
 use Rattle.ways.specs.Told.{Told}
 use Rattle.ways.specs.declared.Ways.the-variants.{One}
 use Rattle.test_legs.proofs.write_reading.Statement.{statement}

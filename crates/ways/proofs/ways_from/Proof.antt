@@ -1,9 +1,9 @@
 -- `ways_from` meets its contract: the walk from the first line on, by the predecessor of each on the mirrored map.
 use Rattle.model.specs.Map.{Map}
 use Rattle.work_area.specs.Mirror.{mirror}
-use Rattle.search.specs.declared.Terminus.{Terminus}
-use Rattle.search.specs.Area.{several, Searched, lengthTo, predecessor}
-use Rattle.search.proofs.Holding.{few}
+use Rattle.way_lengths.specs.declared.Terminus.{Terminus}
+use Rattle.search_cells.specs.Area.{several, Searched, lengthTo, predecessor}
+use Rattle.search_cells.proofs.Holding.{few}
 use Rattle.ways.proofs.Mirroring.{beyond-back}
 use Rattle.ways.proofs.Back.{Walked, walked-start, walked-less, walked-step, walked-few, walked-last, told-several, told-one}
 use Prim.Native.Nat.{ℕ, _≤_, _<_}
@@ -15,8 +15,8 @@ use Rattle.ways.proofs.ways_from.Tie as tie
 use Rattle.ways.proofs.ways_from.Reads as reads
 use Rattle.ways.proofs.ways_from.Lts as lts
 use Rattle.buffers.proofs.wide.Reads as wide-reads
-use Rattle.search.proofs.cells.length_to.Reads as length-to-reads
-use Rattle.search.proofs.cells.predecessor_at.Reads as predecessor-at-reads
+use Rattle.search_cells.proofs.cells.length_to.Reads as length-to-reads
+use Rattle.search_cells.proofs.cells.predecessor_at.Reads as predecessor-at-reads
 
 abbrev Inv-loop : tie.InvT-loop
 Inv-loop work lines first limit length at₀ count₀ x₀ at count x =

@@ -1,6 +1,6 @@
 -- `write_lines` meets its contract: what is written, and then what is still to be, make up the whole.
 use Rattle.model.specs.Map.{greatestLineCount}
-use Rattle.search.specs.Area.{linesFrom}
+use Rattle.search_cells.specs.Area.{linesFrom}
 use Rattle.ways.proofs.Written.{Numbers, numbers, numbers-first, write-step, write-end}
 use mathlib.Core.List.{_++_}
 use lib.ListN.{length, take, length-set}

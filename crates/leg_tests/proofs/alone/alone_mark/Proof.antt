@@ -2,7 +2,7 @@
 use Rattle.leg_tests.specs.Leaving.{Leaving}
 use Rattle.leg_tests.proofs.LeavingLists.{Along, along-start, along-on}
 use Rattle.stretches.specs.Attributes.{attributesBy}
-use Rattle.search.proofs.Leaving.{list-less}
+use Rattle.search_cells.proofs.Leaving.{list-less}
 use Rattle.fields.specs.Leg.{attributesIn}
 use Rattle.work_area.specs.Area.{Held}
 use Rattle.model.specs.Lines.{lineAt, leaving}

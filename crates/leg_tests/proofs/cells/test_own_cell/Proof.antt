@@ -2,7 +2,7 @@
 use Rattle.leg_tests.proofs.Trials.{class-small, done-for}
 use Rattle.leg_tests.proofs.Marks.{mark-sound, mark-complete, marks-yes, marks-no}
 use Rattle.leg_tests.specs.LegTests.{Usual, Trial}
-use Rattle.search.specs.Area.{Set}
+use Rattle.search_cells.specs.Area.{Set}
 use Rattle.buffers.proofs.Kept.{kept-none}
 use Rattle.model.specs.Reading.{greatestLegLength}
 use Rattle.model.specs.Map.{Map}

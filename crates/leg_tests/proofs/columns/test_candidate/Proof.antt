@@ -5,7 +5,7 @@ use Rattle.leg_tests.proofs.Trials.{all-known}
 use Rattle.leg_tests.proofs.Termini.{serves-line}
 use Rattle.leg_tests.specs.LegTests.{Other}
 use Rattle.fields.specs.Leg.{attributesIn}
-use Rattle.search.specs.Area.{Set}
+use Rattle.search_cells.specs.Area.{Set}
 use Rattle.buffers.proofs.Kept.{kept-none}
 use Rattle.model.proofs.Joining.{filled}
 use Rattle.model.specs.Lines.{lineAt, Connected, arriving}

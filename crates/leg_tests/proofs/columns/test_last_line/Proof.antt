@@ -2,7 +2,7 @@
 use Rattle.leg_tests.proofs.Sifting.{column-none, column-store, noted-kept, Sifting, sifting-start, sifting-on, sifting-end, earlier-set}
 use Rattle.leg_tests.proofs.Trials.{measured-back, all-known, trial-of}
 use Rattle.leg_tests.specs.LegTests.{mark, Marks, Alone, Noted, Other, ShortLegs, Measured, ColumnKept}
-use Rattle.search.specs.Area.{Set}
+use Rattle.search_cells.specs.Area.{Set}
 use Rattle.model.specs.Lines.{Connected}
 use Rattle.model.specs.Map.{Map}
 use lib.ListN.{length, getD, length-set}

@@ -5,7 +5,7 @@ use Rattle.leg_tests.proofs.Slices.{first-of-slice}
 use Rattle.ways.specs.Told.{Told}
 use Rattle.ways.specs.declared.Ways.{Ways}
 use Rattle.leg_tests.specs.LegTests.{DoneUpTo, Trial, Measured}
-use Rattle.search.specs.declared.Terminus.{Terminus}
+use Rattle.way_lengths.specs.declared.Terminus.{Terminus}
 use Rattle.model.specs.Reading.{greatestLegLength}
 use Rattle.model.specs.Lines.{total}
 use Rattle.model.specs.Map.{Map}

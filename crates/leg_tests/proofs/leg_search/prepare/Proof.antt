@@ -1,6 +1,6 @@
 -- `prepare` meets its contract: the search that was done serves, or one is done now.
 use Rattle.leg_tests.proofs.Trials.{not-again, anew}
-use Rattle.search.proofs.Holding.{mirrored}
+use Rattle.search_cells.proofs.Holding.{mirrored}
 use Rattle.work_area.specs.Mirror.{mirror}
 use native.Mathlib.Omega.{arith}
 use borrow.Author.Needs.{needs}

@@ -1,7 +1,7 @@
 -- `test_other` meets its contract, by the verdict on the readings that end with the other line.
 use Rattle.leg_tests.proofs.Slices.{last-of-slice}
 use Rattle.leg_tests.specs.LegTests.{legFrom}
-use Rattle.search.specs.Ways.{line}
+use Rattle.way_lengths.specs.Ways.{line}
 use lib.Seq.{slice}
 use lib.ListN.{length}
 use mathlib.Core.Path.{sym, _∙_}

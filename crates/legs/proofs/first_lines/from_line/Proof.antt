@@ -15,7 +15,7 @@ use Rattle.buffers.proofs.wide.Reads as wide-reads
 use Rattle.fields.proofs.leg.distance.Reads as distance-reads
 use Rattle.legs.proofs.attributes.leaves_as.Reads as leaves-as-reads
 use Rattle.legs.proofs.first_lines.judge.Reads as judge-reads
-use Rattle.search.proofs.cells.length_to.Reads as length-to-reads
+use Rattle.search_cells.proofs.cells.length_to.Reads as length-to-reads
 use Rattle.ways.proofs.ways_from.Reads as ways-from-reads
 use Rattle.work_area.proofs.field.Reads as field-reads
 

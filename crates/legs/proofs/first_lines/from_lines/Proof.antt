@@ -3,11 +3,11 @@ use Prim.Native.Nat.{_+_, _-_, _≤_}
 use mathlib.Core.Path.{_≡_}
 use Rattle.model.specs.Map.{Map}
 use Rattle.work_area.specs.Mirror.{mirror}
-use Rattle.search.specs.declared.Terminus.{Terminus}
-use Rattle.search.specs.Area.{Chained, Among, listed}
+use Rattle.way_lengths.specs.declared.Terminus.{Terminus}
+use Rattle.search_cells.specs.Area.{Chained, Among, listed}
 use Rattle.work_area.proofs.Holding.{few}
-use Rattle.search.proofs.Reached.{count-le}
-use Rattle.search.proofs.Places.{past, line-there, new-there}
+use Rattle.search_cells.proofs.Reached.{count-le}
+use Rattle.search_cells.proofs.Places.{past, line-there, new-there}
 use Rattle.fields.specs.Leg.{legIn}
 use Rattle.legs.specs.Verdict.{Ready, Says, StandsIn, ReadingAmong}
 use Rattle.legs.proofs.Verdicts.{lines-none, lines-more, lines-all, lines-several}
@@ -19,7 +19,7 @@ use Rattle.legs.proofs.first_lines.from_lines.Reads as reads
 use Rattle.legs.proofs.first_lines.from_lines.Lts as lts
 use Rattle.legs.proofs.first_lines.both.Reads as both-reads
 use Rattle.legs.proofs.first_lines.from_line.Reads as from-line-reads
-use Rattle.search.proofs.cells.line_at.Reads as line-at-reads
+use Rattle.search_cells.proofs.cells.line_at.Reads as line-at-reads
 
 abbrev Inv-loop : tie.InvT-loop
 Inv-loop work lines leg limit found₀ i₀ found i =

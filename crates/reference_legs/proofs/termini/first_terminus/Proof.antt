@@ -1,13 +1,13 @@
 -- `first_terminus` meets its contract: by how the leg ends.
 use Rattle.fields.specs.Leg.{arrivalIn}
 use Rattle.work_area.specs.Mirror.{mirror}
-use Rattle.search.proofs.Holding.{mirrored}
+use Rattle.search_cells.proofs.Holding.{mirrored}
 use borrow.Author.Needs.{needs}
 use Rattle.reference_legs.proofs.termini.first_terminus.Statement.{statement}
 use Rattle.reference_legs.proofs.termini.first_terminus.Tie as tie
 use Rattle.reference_legs.proofs.termini.first_terminus.Reads as reads
 use Rattle.reference_legs.proofs.termini.first_terminus.Lts as lts
-use Rattle.search.proofs.adjacency.first_leaving.Reads as first-leaving-reads
+use Rattle.search_cells.proofs.adjacency.first_leaving.Reads as first-leaving-reads
 
 enum-told : tie.Need-enum-told
 enum-told c = search needs

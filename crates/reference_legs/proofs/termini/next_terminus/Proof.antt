@@ -1,13 +1,13 @@
 -- `next_terminus` meets its contract: by how the leg ends.
 use Rattle.fields.specs.Leg.{arrivalIn}
 use Rattle.work_area.specs.Mirror.{mirror}
-use Rattle.search.proofs.Holding.{mirrored}
+use Rattle.search_cells.proofs.Holding.{mirrored}
 use borrow.Author.Needs.{needs}
 use Rattle.reference_legs.proofs.termini.next_terminus.Statement.{statement}
 use Rattle.reference_legs.proofs.termini.next_terminus.Tie as tie
 use Rattle.reference_legs.proofs.termini.next_terminus.Reads as reads
 use Rattle.reference_legs.proofs.termini.next_terminus.Lts as lts
-use Rattle.search.proofs.adjacency.next_leaving.Reads as next-leaving-reads
+use Rattle.search_cells.proofs.adjacency.next_leaving.Reads as next-leaving-reads
 
 enum-told : tie.Need-enum-told
 enum-told c = search needs

@@ -3,14 +3,14 @@ use mathlib.Core.Path.{_∙_, _≡_}
 use Rattle.work_area.specs.Area.{queueFrom}
 use lib.ListN.{length-set}
 use lib.Seq.{getD-set-same}
-use Rattle.search.proofs.Queueing.{seed-first, seed-behind, seed-before}
+use Rattle.search.proofs.SeedQueue.{seed-first, seed-behind, seed-before}
 use native.Mathlib.Omega.{arith}
 use borrow.Author.Needs.{needs}
 use Rattle.search.proofs.seeds.insert_seed.Statement.{statement}
 use Rattle.search.proofs.seeds.insert_seed.Tie as tie
 use Rattle.search.proofs.seeds.insert_seed.Reads as reads
 use Rattle.search.proofs.seeds.insert_seed.Lts as lts
-use Rattle.search.proofs.list.insert.Reads as insert-reads
+use Rattle.search_cells.proofs.list.insert.Reads as insert-reads
 
 slice-write-work : tie.Need-slice-write-work
 slice-write-work c = search needs

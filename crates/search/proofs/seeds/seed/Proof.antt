@@ -2,8 +2,8 @@
 use Prim.Native.Nat.{ℕ}
 use mathlib.Core.Path.{_≡_, sym}
 use borrow.Author.Tests.{not-true}
-use Rattle.search.proofs.Holding.{held-kept, few}
-use Rattle.search.proofs.Reached.{room-left}
+use Rattle.search_cells.proofs.Holding.{held-kept, few}
+use Rattle.search_cells.proofs.Reached.{room-left}
 use Rattle.search.proofs.Seeding.{seed-shut, seed-far, seeded-off, seeded-on}
 use native.Mathlib.Omega.{arith}
 use borrow.Author.Needs.{needs}
@@ -11,9 +11,9 @@ use Rattle.search.proofs.seeds.seed.Statement.{statement}
 use Rattle.search.proofs.seeds.seed.Tie as tie
 use Rattle.search.proofs.seeds.seed.Reads as reads
 use Rattle.search.proofs.seeds.seed.Lts as lts
-use Rattle.search.proofs.cells.key_of.Reads as key-of-reads
-use Rattle.search.proofs.list.put.Reads as put-reads
-use Rattle.search.proofs.list.sends.Reads as sends-reads
+use Rattle.search_cells.proofs.cells.key_of.Reads as key-of-reads
+use Rattle.search_cells.proofs.list.put.Reads as put-reads
+use Rattle.search_cells.proofs.list.sends.Reads as sends-reads
 use Rattle.search.proofs.seeds.insert_seed.Reads as insert-seed-reads
 use Rattle.work_area.proofs.field.Reads as field-reads
 

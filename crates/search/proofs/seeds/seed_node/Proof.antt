@@ -3,9 +3,10 @@ use Prim.Native.Nat.{_-_, _<_}
 use lib.ListN.{length}
 use Rattle.model.specs.Map.{Map}
 use Rattle.model.specs.Lines.{lineAt}
-use Rattle.search.specs.Ways.{node}
-use Rattle.search.specs.Steps.{task, Seeding}
-use Rattle.search.proofs.Leaving.{list-less}
+use Rattle.way_lengths.specs.Ways.{node}
+use Rattle.relaxation.specs.Underway.{task}
+use Rattle.search.specs.Seeds.{Seeding}
+use Rattle.search_cells.proofs.Leaving.{list-less}
 use Rattle.search.proofs.Seeding.{SeedingNode, node-start, node-step, node-done}
 use native.Mathlib.Omega.{arith}
 use borrow.Author.Needs.{needs}
@@ -13,8 +14,8 @@ use Rattle.search.proofs.seeds.seed_node.Statement.{statement}
 use Rattle.search.proofs.seeds.seed_node.Tie as tie
 use Rattle.search.proofs.seeds.seed_node.Reads as reads
 use Rattle.search.proofs.seeds.seed_node.Lts as lts
-use Rattle.search.proofs.adjacency.first_leaving.Reads as first-leaving-reads
-use Rattle.search.proofs.adjacency.next_leaving.Reads as next-leaving-reads
+use Rattle.search_cells.proofs.adjacency.first_leaving.Reads as first-leaving-reads
+use Rattle.search_cells.proofs.adjacency.next_leaving.Reads as next-leaving-reads
 use Rattle.search.proofs.seeds.seed.Reads as seed-reads
 
 abbrev Inv-loop : tie.InvT-loop

@@ -1,0 +1,3 @@
+-- A search that is under way, and what its smallest step promises.
+pub mod Underway
+pub mod Relaxed

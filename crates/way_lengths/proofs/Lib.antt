@@ -1,0 +1,3 @@
+-- Laws of lines that can follow, and of ways.
+pub mod Follows
+pub mod Plain
