@@ -63,6 +63,16 @@ class CaseTests(unittest.TestCase):
                 self.assertIsInstance(case.expected, Refused, case.label)
                 self.assertEqual(case.expected.number, promised, case.label)
 
+    def check_differences(self, made, fitting):
+        """One or two lines take one leg where the difference of their ends fits. One past 16 bits, one line is refused and two are cut."""
+        seen = {}
+        for detail, case in made:
+            outcome = case.expected.number if isinstance(case.expected, Refused) else len(case.expected.reference)
+            seen.setdefault(int(detail.split()[1]), set()).add((len(case.given.lines), outcome))
+        for difference in (-32_769, 32_768):
+            self.assertEqual(seen.pop(difference), {(1, 10), (2, 23)}, difference)
+        self.assertEqual(seen, {difference: {(1, 16), (2, 16)} for difference in fitting})
+
 
 class Coverage(CaseTests):
     @classmethod
@@ -178,14 +188,7 @@ class Coverage(CaseTests):
         return labelled(self.write_cases, recipe)
 
     def test_differences_one_past_are_refused_or_cut(self):
-        seen = {}
-        for detail, case in self.write_details("differences at the ends of 16 bits"):
-            outcome = case.expected.number if isinstance(case.expected, Refused) else len(case.expected.reference)
-            seen.setdefault(int(detail.split()[1]), set()).add((len(case.given.lines), outcome))
-        for difference in (-32_769, 32_768):
-            self.assertEqual(seen[difference], {(1, 10), (2, 23)}, difference)
-        for difference in (-32_768, -32_767, 32_766, 32_767):
-            self.assertEqual(seen[difference], {(1, 16), (2, 16)}, difference)
+        self.check_differences(self.write_details("differences at the ends of 16 bits"), (-32_768, -32_767, 32_766, 32_767))
 
     def test_two_equal_ways_need_a_point_between(self):
         made = self.write_details("point in mid-leg")
@@ -437,13 +440,8 @@ class Meridian(CaseTests):
             self.assertIn(64, {int(detail.split()[0]) for detail, _ in labelled(made, "back and forth across the meridian")})
 
     def test_differences_one_past_are_refused_or_cut(self):
-        seen = {}
-        for detail, case in labelled(self.write_cases, "differences at the ends of 16 bits, across the meridian"):
-            outcome = case.expected.number if isinstance(case.expected, Refused) else len(case.expected.reference)
-            seen.setdefault(int(detail.split()[1]), set()).add((len(case.given.lines), outcome))
-        for difference in (-32_769, 32_768):
-            self.assertEqual(seen.pop(difference), {(1, 10), (2, 23)}, difference)
-        self.assertEqual(seen, {difference: {(1, 16), (2, 16)} for difference in (-32_768, -32_767, -2, 2, 32_766, 32_767)})
+        made = labelled(self.write_cases, "differences at the ends of 16 bits, across the meridian")
+        self.check_differences(made, (-32_768, -32_767, -2, 2, 32_766, 32_767))
 
     def test_far_lines_that_are_skipped(self):
         crossings = set()

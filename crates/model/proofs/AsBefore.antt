@@ -1,23 +1,20 @@
 -- "A stretch none of whose nodes lie 18,000,000 or more apart in plain longitude gives the bytes it gave" (paper 02, W2).
 use Prim.Native.Nat.{ℕ, _+_, _-_, _%_, _<_}
 use mathlib.Core.Path.{_≡_, refl, sym, ap, ap₂, subst}
-use mathlib.Core.Logic.{⊎-elim}
-use mathlib.Core.Bool.{Bool, true, false}
-use mathlib.Core.List.{List, [], _∷_, reverse, reverse-cons, List·Memᴰ, List·Memᴰ·head, List·Memᴰ·tail, List·Memᴰ·append-cases, List·Memᴰ·eq-of-singleton}
+use mathlib.Core.List.{List, [], _∷_, List·Memᴰ, List·Memᴰ·head, List·Memᴰ·tail, Memᴰ·append-left, Memᴰ·append-right}
 use native.Mathlib.Omega.{arith}
-use lib.Dec.{leb}
 use Rattle.model.specs.Map.{Map, whole}
 use Rattle.model.specs.Difference.{Near, difference, halfCircle, brought, lonDifference, DifferencesFit, differences}
-use Rattle.model.specs.Lines.{lineAt, nodeAt, Connected, single, linked, firstOf, lastOf}
+use Rattle.model.specs.Lines.{nodeAt, Connected, single, linked, firstOf, lastOf}
 use Rattle.model.specs.Reading.{joined}
-use Rattle.model.specs.Stretch.{Stretch, StretchAnswer, remains, Skipped, skip, remaining, checkStretch}
+use Rattle.model.specs.Stretch.{Stretch, StretchAnswer, remains, checkStretch}
 use Rattle.model.specs.Choice.{fromNode, toNode, good, Usable, final, before, Choice, pointOf, pointsOf, referenceOf, stretchBytes}
 use Rattle.model.specs.Outcome.{WriteOutcome, WriteOn, WriteStretch}
 use Rattle.model.specs.AsBefore.{plainDifferences, PlainFit, plainGood, plainPoint, plainPoints, plainReference, plainBytes, PlainStretch, NodeOf, Narrow, NarrowLeft, NarrowGiven, AsBefore}
-use Rattle.model.proofs.Skipping.{taken}
+use Rattle.model.proofs.Skipping.{Part, taken}
 use Rattle.model.proofs.Joining.{connected}
 use Rattle.model.proofs.Opened.{opens-by}
-use Rattle.model.proofs.Tested.{Inside, Passes, first-inside, rest-inside, choice-by, written-by}
+use Rattle.model.proofs.SameChoice.{Inside, Passes, first-inside, rest-inside, choice-by, written-by}
 
 -- ---- two longitudes less than half a circle apart
 
@@ -117,26 +114,8 @@ as-before =
 
 -- ---- the nodes of what remains are nodes of the stretch as given
 
-skip-inside : (m : Map) (offset : ℕ) (ls : List ℕ) → Inside (skip m offset ls .lines) ls
-unfolding skip
-skip-inside m offset [] l i = i
-skip-inside m offset (x ∷ ls) l i = go (leb (lineAt m x .length) offset) (skip-inside m (offset - lineAt m x .length) ls l) i
-  where
-    go : (t : Bool) → (List·Memᴰ l (skip m (offset - lineAt m x .length) ls .lines) → List·Memᴰ l ls) →
-        List·Memᴰ l (Skipped.lines (elim t [ true ↦ skip m (offset - lineAt m x .length) ls | false ↦ record { lines = x ∷ ls; offset = offset } ])) →
-        List·Memᴰ l (x ∷ ls)
-    go true rest i = List·Memᴰ·tail (rest i)
-    go false rest i = i
-
-reverse-inside : (xs : List ℕ) → Inside (reverse xs) xs
-reverse-inside [] l i = i
-reverse-inside (x ∷ xs) l i =
-    ⊎-elim (λ j. List·Memᴰ·tail (reverse-inside xs l j)) (λ j. List·Memᴰ·head (List·Memᴰ·eq-of-singleton j))
-    (List·Memᴰ·append-cases (reverse xs) (rw reverse-cons at i))
-
-remaining-inside : (m : Map) (s : Stretch) → Inside (remaining m s .lines) (s .lines)
-unfolding remaining
-remaining-inside m s l i = skip-inside m (s .pos) (s .lines) l (reverse-inside _ l (skip-inside m (s .neg) _ l (reverse-inside _ l i)))
+part-inside : {ls ks : List ℕ} → Part ls ks → Inside ls ks
+part-inside {ls} p l i = subst (λ (x : List ℕ). List·Memᴰ l x) (p .whole) (Memᴰ·append-right (p .before) (Memᴰ·append-left (p .behind) i))
 
 node-inside : {m : Map} {ls ks : List ℕ} {v : ℕ} → Inside ls ks → NodeOf m ls v → NodeOf m ks v
 node-inside i (NodeOf.starts j) = NodeOf.starts (i _ j)
@@ -144,7 +123,7 @@ node-inside i (NodeOf.ends j) = NodeOf.ends (i _ j)
 
 narrow-left : (mb : List ℕ) (s : Stretch) → NarrowGiven mb s → NarrowLeft mb s
 narrow-left mb s given m r d e v w p q =
-    let inside : Inside (r .lines) (s .lines) = λ l i. remaining-inside m s l (subst (λ (x : Stretch). List·Memᴰ l (x .lines)) (taken m s r e .0) i) in
+    let inside = part-inside (taken m s r e .2) in
     given m d v w (node-inside inside p) (node-inside inside q)
 
 -- So it is so of the stretch as given.

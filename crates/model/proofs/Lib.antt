@@ -27,6 +27,6 @@ pub mod Text
 pub mod Demand3
 pub mod CallsOnce
 pub mod HostDemand3
-pub mod Tested
+pub mod SameChoice
 pub mod AsBefore
 pub mod Cases

@@ -101,6 +101,12 @@ skips m offset (l ∷ ls) h = go (leb (lineAt m l .length) offset) refl (skips m
     go true t later = longer _ (leb-true _ _ t) (later (omega (arith, leb-true)))
     go false t later = record { dropped = []; whole = refl; first = leb-false _ _ t; sum = refl }
 
+-- Some lines are a part of others.
+pub record Part (ls ks : List ℕ) : Type 0 where
+  pub before : List ℕ
+  pub behind : List ℕ
+  pub whole : before ++ (ls ++ behind) ≡ ks
+
 -- What the proof needs of a stretch that is left.
 pub record Left (m : Map) (s : Stretch) : Type 0 where
   pub first : s .pos < lineAt m (firstOf (s .lines)) .length
@@ -145,11 +151,12 @@ module _ (m : Map) (s : Stretch) (below : s .pos + s .neg < total m (s .lines)) 
           few = omega (arith, simp length-append at (ap length split));
         }
 
-  left-of : Left m (remaining m s)
+  left-of : Left m (remaining m s) × Part (remaining m s .lines) (s .lines)
   unfolding remaining
   left-of =
       let front = skips m (s .pos) (s .lines) (omega arith) in
-      skipped _ _ front (skips m (s .neg) _ (rw total-reverse (omega (arith, front .sum))))
+      let back = skips m (s .neg) (reverse (skip m (s .pos) (s .lines) .lines)) (rw total-reverse (omega (arith, front .sum))) in
+      (skipped _ _ front back, record { before = front .dropped; behind = reverse (back .dropped); whole = split _ _ front back })
 
 -- A stretch that is not refused.
 passed : (t : Bool) (n : Refused) {rest : StretchAnswer} {r : Stretch} → cond t (StretchAnswer.refused n) rest ≡ remains r →
@@ -157,7 +164,7 @@ passed : (t : Bool) (n : Refused) {rest : StretchAnswer} {r : Stretch} → cond 
 passed true n e = absurd (let z : _≡_ {A = ℕ} 0 1 = cc in omega arith)
 passed false n e = (refl, e)
 
-pub taken : (m : Map) (s r : Stretch) → checkStretch m s ≡ remains r → (r ≡ remaining m s) × Left m r
+pub taken : (m : Map) (s r : Stretch) → checkStretch m s ≡ remains r → (r ≡ remaining m s) × Left m r × Part (r .lines) (s .lines)
 unfolding checkStretch
 taken m s r e =
     let count = length (s .lines) in
@@ -168,4 +175,5 @@ taken m s r e =
     let many = neither (eqb count 0 || ltb greatestStretch count) (unknown m (s .lines)) (r₇ .0) in
     let few : count ≤ greatestStretch = ltb-false _ _ (neither (eqb count 0) (ltb greatestStretch count) (many .0) .1) in
     let same : remaining m s ≡ r = cc (r₉ .1) in
-    (sym same, rw same at (left-of m s (leb-false _ _ (r₉ .0)) (r₈ .0) (r₂₁ .0) few))
+    let left = left-of m s (leb-false _ _ (r₉ .0)) (r₈ .0) (r₂₁ .0) few in
+    (sym same, rw same at (left .0), rw same at (left .1))

@@ -33,8 +33,8 @@ abbrev stretch : List ℕ → ℕ → ℕ → Stretch
 stretch lines pos neg = record { lines = lines; pos = pos; neg = neg }
 
 -- A node at a longitude as the map stores it, on the equator.
-abbrev pub at : ℕ → Node
-at lon = record { lon = lon; lat = 9_000_000 }
+abbrev pub equator : ℕ → Node
+equator lon = record { lon = lon; lat = 9_000_000 }
 
 -- To and fro so many times.
 abbrev pub laps : ℕ → List ℕ
@@ -78,11 +78,11 @@ pub record FieldCases : Type 0 where
   pub sums : lonSum 35_999_998 (signed 2) ∷ lonSum 0 (signed 0xFFFE) ∷ lonSum 35_999_998 (signed 0x7FFF) ∷ lonSum 32_765 (signed 0x8000)
       ∷ lonSum 35_999_998 (signed 1) ∷ lonSum 18_000_005 (signed 0xFFFE) ∷ [] ≡ 0 ∷ 35_999_998 ∷ 32_765 ∷ 35_999_997 ∷ 35_999_999 ∷ 18_000_003 ∷ []
   -- In 16 bits; and just inside and just outside them across the meridian, both ways.
-  pub round-bits : differences (at 35_999_998) (at 0) .lon ∷ differences (at 0) (at 35_999_998) .lon ∷ [] ≡ 2 ∷ 0xFFFE ∷ []
-  pub fits-round : DifferencesFit (at 35_999_998) (at 0) × DifferencesFit (at 0) (at 35_999_998)
-      × DifferencesFit (at 35_999_998) (at 32_765) × DifferencesFit (at 32_765) (at 35_999_997)
-  pub not-round : (DifferencesFit (at 35_999_998) (at 32_766) → ⊥) × (DifferencesFit (at 32_765) (at 35_999_996) → ⊥)
-      × (DifferencesFit (at 0) (at 18_000_000) → ⊥) × (DifferencesFit (at 18_000_000) (at 0) → ⊥)
+  pub round-bits : differences (equator 35_999_998) (equator 0) .lon ∷ differences (equator 0) (equator 35_999_998) .lon ∷ [] ≡ 2 ∷ 0xFFFE ∷ []
+  pub fits-round : DifferencesFit (equator 35_999_998) (equator 0) × DifferencesFit (equator 0) (equator 35_999_998)
+      × DifferencesFit (equator 35_999_998) (equator 32_765) × DifferencesFit (equator 32_765) (equator 35_999_997)
+  pub not-round : (DifferencesFit (equator 35_999_998) (equator 32_766) → ⊥) × (DifferencesFit (equator 32_765) (equator 35_999_996) → ⊥)
+      × (DifferencesFit (equator 0) (equator 18_000_000) → ⊥) × (DifferencesFit (equator 18_000_000) (equator 0) → ⊥)
   -- Latitudes do not go round: there is no way over a pole.
   pub no-pole : (DifferencesFit (record { lon = 0; lat = 18_000_000 }) (record { lon = 0; lat = 0 }) → ⊥)
       × (DifferencesFit (record { lon = 0; lat = 0 }) (record { lon = 0; lat = 18_000_000 }) → ⊥)

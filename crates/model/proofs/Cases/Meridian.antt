@@ -5,24 +5,30 @@ use mathlib.Core.Path.{_≡_, refl}
 use mathlib.Core.Bool.{true}
 use mathlib.Core.List.{List, [], _∷_}
 use native.Mathlib.Omega.{arith}
+use lib.ListN.{length}
 use borrow.Author.Tests.{le-ltb}
-use Rattle.model.specs.Map.{Node, Map}
-use Rattle.model.specs.Stretch.{Stretch, stretchOf}
-use Rattle.model.specs.Reading.{Leg, matching, Only}
-use Rattle.model.specs.Choice.{Good, good, final, Usable, before, Choice, Preferred, Chosen}
+use Rattle.model.specs.Map.{Node, Map, whole, decode}
+use Rattle.model.specs.Difference.{DifferencesFit}
+use Rattle.model.specs.Lines.{lineAt, total}
+use Rattle.model.specs.Stretch.{Stretch, remains, checkStretch, stretchOf}
+use Rattle.model.specs.Reference.{absent, Reference, parsed, parse}
+use Rattle.model.specs.Reading.{Leg, matching, Only, joined, bannedMeeting}
+use Rattle.model.specs.Choice.{Good, good, final, Usable, before, Choice, Preferred, Chosen, stretchBytes}
+use Rattle.model.specs.Locate.{located, no-node, locate}
 use Rattle.model.specs.Refusal.{row, rowAt}
 use Rattle.model.specs.Span.{unflagged}
 use Rattle.model.specs.Work.{workLength}
 use Rattle.model.specs.Outcome.{LegsRead, ReadOutcome, read, ReadEnd, ReadOn, Reads, WriteOutcome, written, WriteBy, Writes}
 use Rattle.model.specs.AsBefore.{plainGood, PlainWrites}
+use Rattle.model.proofs.Outcomes.{on-reads}
 use Rattle.model.proofs.Cases.Computing.{computing}
 use Rattle.model.proofs.Cases.Encoded.{encoded, encoding}
 use Rattle.model.proofs.Cases.Ways.{finding, connects}
 use Rattle.model.proofs.Cases.Legs.{sole}
 use Rattle.model.proofs.Cases.Cuts.{cutting, each-cut, chosen, no-choice, passed}
 use Rattle.model.proofs.Cases.Tie.{none}
-use Rattle.model.proofs.Cases.Ridge.{line, road, leg}
-use Rattle.model.proofs.Cases.Fields.{at}
+use Rattle.model.proofs.Cases.Ridge.{line, road, point, leg}
+use Rattle.model.proofs.Cases.Fields.{equator}
 
 -- ---- a road over the islands, on the parallel of -1,680,000: examples/islands has its bytes
 
@@ -120,9 +126,64 @@ is-read work room full enough =
 
 -- ---- "from 17,999,998 to -18,000,000 the difference is 2", and the way back is -2
 
--- One line from the one longitude to the other, on the equator.
+-- One line from the one longitude to the other, on the equator, and the stretch of it.
 abbrev pub across : ℕ → ℕ → Map
-across from to = record { nodes = at from ∷ at to ∷ []; lines = line 0 1 1_000 90 270 ∷ []; bans = [] }
+across from to = record { nodes = equator from ∷ equator to ∷ []; lines = line 0 1 1_000 90 270 ∷ []; bans = [] }
+
+abbrev pub line-across : Stretch
+line-across = stretchOf (0 ∷ []) 0 0
+
+abbrev across-leg : Leg
+across-leg = leg 0 1 1 (matching (road 24))
+
+-- Its reference: the code of the longitude that it starts at, and the difference.
+abbrev acrossReference : ℕ → ℕ → Reference
+acrossReference code difference = record { lon = code; lat = 0; points = point 1 difference ∷ []; arrives = road 24; pos = absent; neg = absent }
+
+-- The line is its leg's only reading, so that its difference alone decides, with every full work area.
+module _ (from to : ℕ) where
+  across-only : Only (across from to) across-leg (0 ∷ [])
+  unfolding computing finding
+  across-only = sole (across from to) across-leg refl (0 ∷ []) (search (connects, arith)) refl refl
+
+  across-chosen : DifferencesFit (equator from) (equator to) → Chosen (good (across from to)) (0 ∷ []) ((0 ∷ []) ∷ [])
+  unfolding computing cutting
+  across-chosen fit =
+      chosen (across from to) (0 ∷ []) ((0 ∷ []) ∷ []) (record { usable = final (record { fit = fit; only = across-only }); whole = refl })
+      (λ c. Preferred.same, tt)
+
+  no-choice-across : (DifferencesFit (equator from) (equator to) → ⊥) → (lss : List (List ℕ)) → Choice (good (across from to)) (0 ∷ []) lss → ⊥
+  unfolding computing cutting
+  no-choice-across far = no-choice (across from to) (0 ∷ []) (λ c. far (passed (c .usable) .fit), tt)
+
+  whole-line : checkStretch (across from to) line-across ≡ remains line-across
+  unfolding computing
+  whole-line = refl
+
+  module _ (decodes : decode (encoded (across from to)) ≡ whole (across from to)) (work room : ℕ) (full : workLength ≤ work) where
+    across-written : DifferencesFit (equator from) (equator to) → length (stretchBytes (across from to) ((0 ∷ []) ∷ []) line-across) ≤ room →
+        Writes (encoded (across from to)) line-across work room (written (stretchBytes (across from to) ((0 ∷ []) ∷ []) line-across))
+    across-written fit enough = rw (le-ltb work workLength full, decodes, whole-line) (WriteBy.accepted (across-chosen fit) enough)
+
+    across-refused : (DifferencesFit (equator from) (equator to) → ⊥) → Writes (encoded (across from to)) line-across work room (WriteOutcome.refused (row 10))
+    across-refused far = rw (le-ltb work workLength full, decodes, whole-line) (WriteBy.no-choice (no-choice-across far))
+
+    across-read : (bytes : List ℕ) (code difference : ℕ) → parse bytes ≡ parsed (acrossReference code difference) →
+        locate (across from to) (acrossReference code difference) ≡ located (across-leg ∷ []) → 1 ≤ room →
+        Reads (encoded (across from to)) bytes work room (read (0 ∷ []) none none)
+    unfolding joined bannedMeeting total lineAt
+    across-read bytes code difference parses locates enough =
+        on-reads (encoded (across from to)) bytes work room _ full decodes parses
+        (ReadOn.every-leg locates (LegsRead.only across-only LegsRead.none)
+        (ReadEnd.accepted (record { pos-read = unflagged; neg-read = unflagged }) (omega arith) (omega arith)))
+
+    across-nowhere : (bytes : List ℕ) (code difference : ℕ) → parse bytes ≡ parsed (acrossReference code difference) →
+        locate (across from to) (acrossReference code difference) ≡ no-node 1 → Reads (encoded (across from to)) bytes work room (ReadOutcome.refused (rowAt 16 1))
+    across-nowhere bytes code difference parses nowhere = on-reads (encoded (across from to)) bytes work room _ full decodes parses (ReadOn.no-point nowhere)
+
+-- The reference of such a line: the code of its longitude, and the difference.
+abbrev pub acrossBytes : ℕ → ℕ → ℕ → ℕ → ℕ → List ℕ
+acrossBytes a b c d e = 0x0B ∷ a ∷ b ∷ c ∷ 0 ∷ 0 ∷ 0 ∷ 0x1B ∷ 0x68 ∷ 0x01 ∷ d ∷ e ∷ 0 ∷ 0 ∷ 0x1B ∷ 0x18 ∷ []
 
 abbrev pub eastward : Map
 eastward = across 35_999_998 0
@@ -130,80 +191,42 @@ eastward = across 35_999_998 0
 abbrev pub westward : Map
 westward = across 0 35_999_998
 
-abbrev across-leg : Leg
-across-leg = leg 0 1 1 (matching (road 24))
-
--- The reference of such a line: the code of its longitude, and the difference.
-abbrev pub acrossBytes : ℕ → ℕ → ℕ → ℕ → ℕ → List ℕ
-acrossBytes a b c d e = 0x0B ∷ a ∷ b ∷ c ∷ 0 ∷ 0 ∷ 0 ∷ 0x1B ∷ 0x68 ∷ 0x01 ∷ d ∷ e ∷ 0 ∷ 0 ∷ 0x1B ∷ 0x18 ∷ []
-
 -- It is written so and read back.
 pub record Across (m : Map) (bytes : List ℕ) : Type 0 where
-  pub writes : Writes (encoded m) (stretchOf (0 ∷ []) 0 0) 14_336 16 (written bytes)
-  pub reads : Reads (encoded m) bytes 14_336 1 (read (0 ∷ []) none none)
-
-eastward-only : Only eastward across-leg (0 ∷ [])
-unfolding computing finding
-eastward-only = sole eastward across-leg refl (0 ∷ []) (search (connects, arith)) refl refl
-
-eastward-chosen : Chosen (good eastward) (0 ∷ []) ((0 ∷ []) ∷ [])
-unfolding computing cutting
-eastward-chosen =
-    chosen eastward (0 ∷ []) ((0 ∷ []) ∷ []) (record { usable = final (record { fit = omega arith; only = eastward-only }); whole = refl })
-    (λ c. Preferred.same, tt)
+  pub writes : (work room : ℕ) → workLength ≤ work → 16 ≤ room → Writes (encoded m) line-across work room (written bytes)
+  pub reads : (work room : ℕ) → workLength ≤ work → 1 ≤ room → Reads (encoded m) bytes work room (read (0 ∷ []) none none)
 
 pub two-eastward : Across eastward (acrossBytes 0x7F 0xFF 0xFF 0x00 0x02)
 unfolding computing encoding
 two-eastward =
     record {
-      writes = WriteBy.accepted eastward-chosen (omega arith);
-      reads =
-          ReadOn.every-leg {legs = across-leg ∷ []} refl (LegsRead.only eastward-only LegsRead.none)
-          (ReadEnd.accepted (record { pos-read = unflagged; neg-read = unflagged }) (omega arith) (omega arith));
+      writes = λ work room full enough. across-written 35_999_998 0 refl work room full (omega arith) enough;
+      reads = λ work room full enough. across-read 35_999_998 0 refl work room full (acrossBytes 0x7F 0xFF 0xFF 0x00 0x02) 0x7F_FF_FF 2 refl refl enough;
     }
-
-westward-only : Only westward across-leg (0 ∷ [])
-unfolding computing finding
-westward-only = sole westward across-leg refl (0 ∷ []) (search (connects, arith)) refl refl
-
-westward-chosen : Chosen (good westward) (0 ∷ []) ((0 ∷ []) ∷ [])
-unfolding computing cutting
-westward-chosen =
-    chosen westward (0 ∷ []) ((0 ∷ []) ∷ []) (record { usable = final (record { fit = omega arith; only = westward-only }); whole = refl })
-    (λ c. Preferred.same, tt)
 
 pub two-westward : Across westward (acrossBytes 0x80 0x00 0x00 0xFF 0xFE)
 unfolding computing encoding
 two-westward =
     record {
-      writes = WriteBy.accepted westward-chosen (omega arith);
-      reads =
-          ReadOn.every-leg {legs = across-leg ∷ []} refl (LegsRead.only westward-only LegsRead.none)
-          (ReadEnd.accepted (record { pos-read = unflagged; neg-read = unflagged }) (omega arith) (omega arith));
+      writes = λ work room full enough. across-written 0 35_999_998 refl work room full (omega arith) enough;
+      reads = λ work room full enough. across-read 0 35_999_998 refl work room full (acrossBytes 0x80 0x00 0x00 0xFF 0xFE) 0x80_00_00 0xFFFE refl refl enough;
     }
 
--- A difference of 1 comes to 17,999,999, where no node is; and one of 3 comes past the node at -18,000,000.
 module _ (work room : ℕ) (full : workLength ≤ work) where
+  -- A difference of 1 comes to 17,999,999, where no node is; and one of 3 comes past the node at -18,000,000.
   pub at-no-node : Reads (encoded eastward) (acrossBytes 0x7F 0xFF 0xFF 0x00 0x01) work room (ReadOutcome.refused (rowAt 16 1))
   unfolding computing encoding
-  at-no-node = rw (le-ltb work workLength full) (ReadOn.no-point refl)
+  at-no-node = across-nowhere 35_999_998 0 refl work room full (acrossBytes 0x7F 0xFF 0xFF 0x00 0x01) 0x7F_FF_FF 1 refl refl
 
   pub past-the-node : Reads (encoded eastward) (acrossBytes 0x7F 0xFF 0xFF 0x00 0x03) work room (ReadOutcome.refused (rowAt 16 1))
   unfolding computing encoding
-  past-the-node = rw (le-ltb work workLength full) (ReadOn.no-point refl)
+  past-the-node = across-nowhere 35_999_998 0 refl work room full (acrossBytes 0x7F 0xFF 0xFF 0x00 0x03) 0x7F_FF_FF 3 refl refl
 
--- ---- differences one past the ends of 16 bits across the meridian
-
-too-far : (m : Map) → (Good m true (0 ∷ []) → ⊥) → (lss : List (List ℕ)) → Choice (good m) (0 ∷ []) lss → ⊥
-unfolding cutting
-too-far m not = no-choice m (0 ∷ []) (λ c. not (passed (c .usable)), tt)
-
--- From 17,999,998 32,768 eastward, and from -17,967,235 32,769 westward.
-module _ (work room : ℕ) (full : workLength ≤ work) where
-  pub too-far-east : Writes (encoded (across 35_999_998 32_766)) (stretchOf (0 ∷ []) 0 0) work room (WriteOutcome.refused (row 10))
+  -- One past the ends of 16 bits: from 17,999,998 32,768 eastward, and from -17,967,235 32,769 westward.
+  pub too-far-east : Writes (encoded (across 35_999_998 32_766)) line-across work room (WriteOutcome.refused (row 10))
   unfolding computing encoding
-  too-far-east = rw (le-ltb work workLength full) (WriteBy.no-choice (too-far (across 35_999_998 32_766) λ g. omega (arith, g .fit .lon .on)))
+  too-far-east = across-refused 35_999_998 32_766 refl work room full λ f. omega (arith, f .lon .on)
 
-  pub too-far-west : Writes (encoded (across 32_765 35_999_996)) (stretchOf (0 ∷ []) 0 0) work room (WriteOutcome.refused (row 10))
+  pub too-far-west : Writes (encoded (across 32_765 35_999_996)) line-across work room (WriteOutcome.refused (row 10))
   unfolding computing encoding
-  too-far-west = rw (le-ltb work workLength full) (WriteBy.no-choice (too-far (across 32_765 35_999_996) λ g. omega (arith, g .fit .lon .back)))
+  too-far-west = across-refused 32_765 35_999_996 refl work room full λ f. omega (arith, f .lon .back)

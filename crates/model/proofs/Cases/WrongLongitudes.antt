@@ -7,15 +7,14 @@ use Rattle.model.specs.declared.Span.{Span}
 use Rattle.model.specs.declared.ReadAnswer.{ReadAnswer}
 use Rattle.model.specs.declared.WriteAnswer.{WriteAnswer}
 use Rattle.model.specs.Refusal.{row, rowAt}
-use Rattle.model.specs.Stretch.{stretchOf}
-use Rattle.model.specs.Work.{workLength, placed}
-use Rattle.model.specs.Call.{bytesAfter, ReadCall, WriteCall}
+use Rattle.model.specs.Work.{workLength}
+use Rattle.model.specs.Call.{ReadCall, WriteCall}
 use Rattle.model.proofs.Cases.Encoded.{encoded}
 use Rattle.model.proofs.Cases.Tie.{none}
-use Rattle.model.proofs.Cases.RidgeCalls.{write-as, write-answer}
 use Rattle.model.proofs.Cases.WrongReaders.{counted, no-list-where-refused}
-use Rattle.model.proofs.Cases.WrongTurns.{no-bytes-where-refused}
-use Rattle.model.proofs.Cases.Meridian.{islandBytes, road-over, overBytes, is-written, is-read, across, eastward, acrossBytes, at-no-node, too-far-east, too-far-west}
+use Rattle.model.proofs.Cases.WrongWriters.{left, no-bytes-where-refused}
+use Rattle.model.proofs.Cases.Meridian.{islandBytes, road-over, overBytes, is-written, is-read, across, line-across, eastward, acrossBytes, at-no-node, too-far-east, too-far-west}
+use Rattle.model.proofs.Cases.WrongWriters as Writing
 use Rattle.model.specs.declared.ReadAnswer.the-variants as Reader
 use Rattle.model.specs.declared.WriteAnswer.the-variants as Writer
 
@@ -33,17 +32,16 @@ module _ (work bytes : List ℕ) (full : workLength ≤ length work) {work′ by
   -- A writer that asks whether the plain difference fits: it would refuse with 10.
   pub no-plain-difference : {a : WriteAnswer} → 16 ≤ length bytes → WriteCall islandBytes road-over work bytes a work′ bytes′ →
       (a ≡ Writer.Written 16 → ⊥) → ⊥
-  no-plain-difference enough c other = other (write-answer (write-as (is-written (length work) (length bytes) full enough) c .0))
+  no-plain-difference enough c other = other (Writing.counted overBytes (is-written (length work) (length bytes) full enough) c)
 
   -- One that writes the 16 bits of the plain difference, or those of the way back.
   pub no-other-way-round : {a : WriteAnswer} → 16 ≤ length bytes → WriteCall islandBytes road-over work bytes a work′ bytes′ →
       (bytes′ ≡ overBytes ++ drop 16 bytes → ⊥) → ⊥
-  unfolding bytesAfter placed
-  no-other-way-round enough c other = other (write-as (is-written (length work) (length bytes) full enough) c .1)
+  no-other-way-round enough c other = other (left overBytes (is-written (length work) (length bytes) full enough) c)
 
   -- One that takes differences across the meridian that do not fit 16 bits, as if they did.
-  pub none-too-far-east : {n : ℕ} → WriteCall (encoded (across 35_999_998 32_766)) (stretchOf (0 ∷ []) 0 0) work bytes (Writer.Written n) work′ bytes′ → ⊥
+  pub none-too-far-east : {n : ℕ} → WriteCall (encoded (across 35_999_998 32_766)) line-across work bytes (Writer.Written n) work′ bytes′ → ⊥
   none-too-far-east c = no-bytes-where-refused (row 10) (too-far-east (length work) (length bytes) full) c
 
-  pub none-too-far-west : {n : ℕ} → WriteCall (encoded (across 32_765 35_999_996)) (stretchOf (0 ∷ []) 0 0) work bytes (Writer.Written n) work′ bytes′ → ⊥
+  pub none-too-far-west : {n : ℕ} → WriteCall (encoded (across 32_765 35_999_996)) line-across work bytes (Writer.Written n) work′ bytes′ → ⊥
   none-too-far-west c = no-bytes-where-refused (row 10) (too-far-west (length work) (length bytes) full) c

@@ -5,24 +5,23 @@ use mathlib.Core.List.{List, [], _∷_}
 use native.Mathlib.Omega.{arith}
 use lib.ListN.{length}
 use borrow.Author.Tests.{le-ltb}
-use Rattle.model.specs.declared.Refusal.{Refusal}
 use Rattle.model.specs.declared.Span.{Span}
 use Rattle.model.specs.declared.ReadAnswer.{ReadAnswer}
 use Rattle.model.specs.declared.WriteAnswer.{WriteAnswer}
-use Rattle.model.specs.Refusal.{Refused, row}
+use Rattle.model.specs.Refusal.{row}
 use Rattle.model.specs.Reference.{absent, bytesOf}
 use Rattle.model.specs.Span.{unflagged}
-use Rattle.model.specs.Stretch.{Stretch, stretchOf}
+use Rattle.model.specs.Stretch.{stretchOf}
 use Rattle.model.specs.Work.{workLength}
 use Rattle.model.specs.Outcome.{LegsRead, ReadOutcome, read, ReadEnd, ReadOn, Reads, WriteOutcome, Writes}
-use Rattle.model.specs.Call.{WriteAnswers, ReadCall, WriteCall}
+use Rattle.model.specs.Call.{ReadCall, WriteCall}
 use Rattle.model.proofs.Outcomes.{on-reads}
 use Rattle.model.proofs.Cases.Computing.{computing}
 use Rattle.model.proofs.Cases.Encoded.{encoded, encoding}
 use Rattle.model.proofs.Cases.Tie.{none}
 use Rattle.model.proofs.Cases.Ridge.{twoPoints, tie}
-use Rattle.model.proofs.Cases.RidgeCalls.{write-as}
 use Rattle.model.proofs.Cases.WrongReaders.{counted, no-list-where-refused}
+use Rattle.model.proofs.Cases.WrongWriters.{no-bytes-where-refused}
 use Rattle.model.proofs.Cases.Bans.{barred, northward, tie-north, meeting, meeting-refused}
 use Rattle.model.specs.declared.ReadAnswer.the-variants as Reader
 use Rattle.model.specs.declared.WriteAnswer.the-variants as Writer
@@ -54,17 +53,6 @@ module _ (work lines : List ℕ) (full : workLength ≤ length work) {work′ li
   pub no-other-way : {a : ReadAnswer} → 3 ≤ length lines → ReadCall (encoded northward) twoPoints work lines a work′ lines′ →
       (a ≡ Reader.Read 3 none none → ⊥) → ⊥
   no-other-way enough c other = other (counted (0 ∷ 2 ∷ 3 ∷ []) none none (north-read (length work) (length lines) full enough) c)
-
-refused-answer : {a : WriteAnswer} {r : Refused} → WriteAnswers a (WriteOutcome.refused r) → (why : Refusal) × (a ≡ Writer.Refused why)
-refused-answer (WriteAnswers.refusal {why = why}) = (why, refl)
-
-pub no-bytes-where-refused : (r : Refused) {mb work bytes work′ bytes′ : List ℕ} {s : Stretch} {n : ℕ} →
-    Writes mb s (length work) (length bytes) (WriteOutcome.refused r) → WriteCall mb s work bytes (Writer.Written n) work′ bytes′ → ⊥
-no-bytes-where-refused r h c =
-    let told = refused-answer (write-as h c .0) in
-    let e = told .1 in
-    let z : _≡_ {A = ℕ} 0 1 = cc in
-    omega arith
 
 -- A writer that looks for bans in what an offset leaves: it would write lines 2, 3.
 pub no-skipped-ban : (work bytes : List ℕ) {work′ bytes′ : List ℕ} {n : ℕ} → workLength ≤ length work →

@@ -1,15 +1,16 @@
 -- Wrong answers of a writer that its promise shuts out: no call on the ridge, whatever its work area and its byte buffer hold, can be answered so.
 use Prim.Native.Nat.{ℕ, _≤_}
-use mathlib.Core.Path.{_≡_, ap}
+use mathlib.Core.Path.{_≡_, refl, sym, ap}
 use mathlib.Core.List.{List, _++_}
 use native.Mathlib.Omega.{arith}
 use lib.ListN.{length, drop, getD}
 use Rattle.model.specs.declared.Refusal.{Refusal}
 use Rattle.model.specs.declared.WriteAnswer.{WriteAnswer}
+use Rattle.model.specs.Refusal.{Refused}
 use Rattle.model.specs.Stretch.{Stretch}
 use Rattle.model.specs.Work.{workLength, placed}
-use Rattle.model.specs.Outcome.{written, Writes}
-use Rattle.model.specs.Call.{bytesAfter, WriteCall}
+use Rattle.model.specs.Outcome.{written, WriteOutcome, Writes}
+use Rattle.model.specs.Call.{bytesAfter, WriteAnswers, WriteCall}
 use Rattle.model.proofs.Cases.Ridge.{mapBytes, threePoints, threeFrom500, stretch}
 use Rattle.model.proofs.Cases.RidgeCalls.{write-as, write-answer, stretch-written, stretch-written-from-500}
 use Rattle.model.specs.declared.Refusal.the-variants as Why
@@ -17,15 +18,23 @@ use Rattle.model.specs.declared.WriteAnswer.the-variants as Writer
 
 -- Where these bytes are the outcome, every call answers their count and leaves them in its buffer.
 module _ (bs : List ℕ) {mb work bytes work′ bytes′ : List ℕ} {s : Stretch} {a : WriteAnswer} where
-  counted : Writes mb s (length work) (length bytes) (written bs) → WriteCall mb s work bytes a work′ bytes′ → a ≡ Writer.Written (length bs)
+  pub counted : Writes mb s (length work) (length bytes) (written bs) → WriteCall mb s work bytes a work′ bytes′ → a ≡ Writer.Written (length bs)
   counted h c = write-answer (write-as h c .0)
 
-  left : Writes mb s (length work) (length bytes) (written bs) → WriteCall mb s work bytes a work′ bytes′ → bytes′ ≡ bs ++ drop (length bs) bytes
+  pub left : Writes mb s (length work) (length bytes) (written bs) → WriteCall mb s work bytes a work′ bytes′ → bytes′ ≡ bs ++ drop (length bs) bytes
   unfolding bytesAfter placed
   left h c = write-as h c .1
 
 refused-or-written : {why : Refusal} {n : ℕ} → Writer.Refused why ≡ Writer.Written n → ⊥
 refused-or-written e = let z : _≡_ {A = ℕ} 0 1 = cc in omega arith
+
+-- Where a refusal is the outcome, no call answers a count.
+refused-answer : {a : WriteAnswer} {r : Refused} → WriteAnswers a (WriteOutcome.refused r) → (why : Refusal) × (a ≡ Writer.Refused why)
+refused-answer (WriteAnswers.refusal {why = why}) = (why, refl)
+
+pub no-bytes-where-refused : (r : Refused) {mb work bytes work′ bytes′ : List ℕ} {s : Stretch} {n : ℕ} →
+    Writes mb s (length work) (length bytes) (WriteOutcome.refused r) → WriteCall mb s work bytes (Writer.Written n) work′ bytes′ → ⊥
+no-bytes-where-refused r h c = refused-or-written (sym (refused-answer (write-as h c .0) .1))
 
 -- Calls with a full work area and a byte buffer that is just long enough, or longer.
 module _ (work bytes : List ℕ) (full : workLength ≤ length work) (enough : 23 ≤ length bytes) where
