@@ -26,6 +26,7 @@ Each row is the mean over up to eight inputs of the best of many rounds, in micr
 have 512 nodes and about 1,024 lines. Those of "random" go one way, two from each node and any number to it; "random roads" have a line each way. There are no
 banned turns but where a row names them: 512 spread over the map, or all at the junction with most turns, where they are listed many times. Plain Rust is
 that of `bench/src`, written for speed. A ratio below 1 says that the proved function is faster.
+One row decodes 100 maps one after another, so that the processor has learnt none of them; its times are of all 100.
 Readings of over 2,304 lines are made twice; a C host's lists have 1,024 at most, so those rows are left out of the aim of 1.2.
 """
 

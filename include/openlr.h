@@ -25,19 +25,25 @@ extern "C" {
    Version 1: lengths and offsets are in decimetres, in the map's bytes as in the calls. A version with another unit has another OPENLR_UNITS_PER_METRE too.
    Version 2: banned turns. Every map has a count of bans after its lines, and so a map of version 1 is refused with 2; refusals 21 to 23 are new.
    Version 3: longitude differences go round the globe, and so a stretch across the 180th meridian is written and read; before, it was refused with 10, and its
-   bytes with 16. A stretch whose nodes lie less than 180 degrees of longitude apart, taken plainly, has the bytes of version 2. */
-#define OPENLR_VERSION 3
+   bytes with 16. A stretch whose nodes lie less than 180 degrees of longitude apart, taken plainly, has the bytes of version 2.
+   Version 4: bearings from the drawing. In place of its two bearings a line of the map has four steps, and so a map of version 3 is not read as it was meant:
+   draw it anew. Refusal 24 is new. A reference has the bytes of version 3 wherever the steps lie in the sectors that the bearings had.
+
+   What a map drawer delivers of a line: its two nodes, its length, class and form of way; and at each end the point 20 m along the line from there, as two
+   steps in whole decimetres, east and north, each -250 to 250, not both 0. The steps out are seen from the start node, the steps back from the end node: a line
+   that runs due east has the steps (200, 0) out and (-200, 0) back. Nothing asks that the point is 20 m off: only its direction counts. */
+#define OPENLR_VERSION 4
 #define OPENLR_UNITS_PER_METRE 10
 
 /* The most that there can be, for buffers that are never too short. */
-#define OPENLR_LONGEST_MAP 19462     /* Bytes of a map that is not refused: 512 nodes of 8, 1,024 lines of 13, 512 bans of 4, and three counts of 2. */
+#define OPENLR_LONGEST_MAP 23558     /* Bytes of a map that is not refused: 512 nodes of 8, 1,024 lines of 17, 512 bans of 4, and three counts of 2. */
 #define OPENLR_LONGEST_REFERENCE 459 /* Bytes of a reference: 1 and a first point of 9, 63 middle points of 7, a last one of 6, and two offsets of 1. */
 #define OPENLR_MOST_LINES 1024       /* Lines that openlr_read hands back, each in four bytes. */
 
 /* Bytes of stack that a thread needs for a call of either function: 104 KiB, of which a call takes up to 77. */
 #define OPENLR_LEAST_STACK 106496
 
-/* Why a call is refused. Each is given when its condition holds and none above it does; for 2 to 5 the first faulty number in the map decides instead.
+/* Why a call is refused. Each is given when its condition holds and none above it does; for 2 to 5 and 24 the first faulty number in the map decides instead.
    openlr_refusal_sentence below has the conditions, and docs/FORMAT.md an example of each. A later version may have further numbers. */
 enum openlr_refusal {
     OPENLR_WORK_AREA_SHORT = 1, /* Never given by these functions, which have a work area of their own. */
@@ -46,6 +52,7 @@ enum openlr_refusal {
     OPENLR_MAP_COUNT = 3,
     OPENLR_MAP_COORDINATE = 4,
     OPENLR_MAP_LINE = 5,
+    OPENLR_MAP_STEP = 24,
     OPENLR_EQUAL_CODES = 6,
     OPENLR_MAP_BAN = 23,
     /* The writer. */
@@ -112,6 +119,7 @@ static inline const char *openlr_refusal_sentence(uint32_t refusal) {
     case OPENLR_MAP_COUNT: return "the map's count of nodes is not 2 to 512, its count of lines is not 1 to 1,024, or its count of bans is over 512";
     case OPENLR_MAP_COORDINATE: return "a coordinate of the map is outside its range";
     case OPENLR_MAP_LINE: return "a field of one of the map's lines is outside its range, or a line ends at the node where it starts";
+    case OPENLR_MAP_STEP: return "a step of one of the map's lines is not -250 to 250 decimetres, or its steps at one end are both 0";
     case OPENLR_EQUAL_CODES: return "two nodes of the map have the same pair of codes";
     case OPENLR_MAP_BAN: return "a ban of the map names no line, or its second line does not start where its first ends";
     case OPENLR_STRETCH_LINES: return "the stretch has no line, over 64 lines or a line that the map has not, or its count of bytes is no multiple of four";

@@ -12,14 +12,14 @@ from meridian_recipes import MERIDIAN_READ_RECIPES, MERIDIAN_WRITE_RECIPES, READ
 from outcome import RefusedCall
 from read_recipes import READ_RECIPES, read_outcome
 from recipes import any_sample
-from sample_maps import (FIRST_BEHIND, LAST_BEFORE, MapBuilder, Sample, across_meridian, chain_of_blocks, chain_of_ties, full_size_sample,
+from sample_maps import (FIRST_BEHIND, LAST_BEFORE, MapBuilder, Sample, across_meridian, chain_of_blocks, chain_of_ties, edge_sample, full_size_sample,
                          other_first_line_sample, other_way, pairs_of, random_walk, sample_across)
 from write_recipes import WRITE_RECIPES, write_outcome
 
 
 @dataclass(frozen=True)
 class MapCase:
-    """Expected: the map itself, or a refusal from 2 to 6, or 23."""
+    """Expected: the map itself, or a refusal from 2 to 6, 23 or 24."""
     label: str
     map_bytes: bytes
     expected: object
@@ -88,6 +88,7 @@ MAP_RECIPES = {
     "refusal 5": damaged_map(5),
     "refusal 6": damaged_map(6),
     "refusal 23": damaged_map(23),
+    "refusal 24": damaged_map(24),
 }
 
 
@@ -193,6 +194,11 @@ def leg_around_the_block(rng, turn):
     return Sample("block", depot_map, legs[0]), describe_leg(depot_map, legs[0], rng.random() < 0.5)
 
 
+def leg_at_an_edge(rng, turn):
+    sample = edge_sample(rng, turn)
+    return sample, describe_leg(sample.depot_map, sample.stretch, True)
+
+
 LEG_RECIPES = {
     "leg": leg_as_it_is,
     "lowest class changed": leg_with_other_class,
@@ -202,6 +208,7 @@ LEG_RECIPES = {
     "full size": leg_on_full_map,
     "turn banned": leg_with_other_way_banned,
     "around the block": leg_around_the_block,
+    "sides of an edge": leg_at_an_edge,
 }
 
 

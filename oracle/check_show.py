@@ -10,14 +10,17 @@ import tempfile
 from dataclasses import replace
 from pathlib import Path
 
-from depot_map import (GREATEST_LATITUDE, GREATEST_LONGITUDE, LARGEST_NUMBER, MOST_BANS, MOST_LINES, MOST_NODES, DepotMap, Line, Node, map_numbers,
-                       map_to_bytes, numbers_to_bytes)
+from depot_map import (GREATEST_LATITUDE, GREATEST_LONGITUDE, LARGEST_NUMBER, MOST_BANS, MOST_LINES, MOST_NODES, DepotMap, Line, Node, Steps,
+                       map_numbers, map_to_bytes, numbers_to_bytes)
+from fields import GREATEST_STEP
 from read_recipes import around, bytes_of_legs, longest_reference
 from sample_maps import ridge_map
 from show import shown
 from test_meridian import RIDGE_ACROSS, from_the_ridge_across
 from test_scope_paper import RIDGE, THREE_POINTS, THREE_POINTS_OFFSET_500, TWO_POINTS
 
+# Each takes two bytes.
+LONGEST_STEPS = Steps(GREATEST_STEP, GREATEST_STEP)
 # More than any buffer that the program could keep for a map or a reference.
 FAR = 200_000
 
@@ -26,11 +29,17 @@ def ridge_with_count_of_bans(number, *pairs):
     return numbers_to_bytes(map_numbers(ridge_map())[:-1] + [number, *pairs])
 
 
+def ridge_with_last_steps(*numbers):
+    """The ridge with other numbers for the steps back of line 3."""
+    return numbers_to_bytes(map_numbers(ridge_map())[:-3] + [*numbers, 0])
+
+
 def longest_map():
     """Every number as long as it can be in a map that is accepted. Up to three lines join the same two nodes; D tells them apart."""
     nodes = tuple(Node(GREATEST_LONGITUDE - 100 * number, GREATEST_LATITUDE) for number in range(MOST_NODES))
     ring = 384
-    lines = tuple(Line(128 + number % ring, 128 + (number + 1) % ring, 150_000 - 586 * (number // ring), 7, 7, 359, 359) for number in range(MOST_LINES))
+    lines = tuple(Line(128 + number % ring, 128 + (number + 1) % ring, 150_000 - 586 * (number // ring), 7, 7, LONGEST_STEPS, LONGEST_STEPS)
+                  for number in range(MOST_LINES))
     bans = tuple((first, first + 1) for first in range(128, 128 + MOST_BANS))
     return DepotMap(nodes, lines, bans)
 
@@ -74,6 +83,9 @@ def folders():
     yield "the ridge with a turn banned, two points", {"map.bin": map_to_bytes(ridge_map((0, 2))), "ref.bin": TWO_POINTS}
     yield "legs that meet in a banned turn", {"map.bin": map_to_bytes(ridge_map((0, 1))), "ref.bin": THREE_POINTS}
     yield "a line banned after itself", {"map.bin": map_to_bytes(ridge_map((0, 0))), "ref.bin": THREE_POINTS}
+    yield "a step out of range", {"map.bin": ridge_with_last_steps(50, 501), "ref.bin": THREE_POINTS}
+    yield "both steps zero", {"map.bin": ridge_with_last_steps(250, 250), "ref.bin": THREE_POINTS}
+    yield "steps of another sector, two points", {"map.bin": ridge_with_last_steps(50, 290), "ref.bin": TWO_POINTS}
     yield "the ridge across the meridian", {"map.bin": RIDGE_ACROSS, "ref.bin": from_the_ridge_across(THREE_POINTS_OFFSET_500)}
     yield "a point at 17,999,999", {"map.bin": RIDGE_ACROSS, "ref.bin": from_the_ridge_across(THREE_POINTS).replace(b"\x03\xe8", b"\x03\xe7")}
     yield from longest_maps()

@@ -9,7 +9,7 @@ from reference import take_apart
 HALF_CIRCLE = 18_000_000
 
 
-class Step(NamedTuple):
+class Move(NamedTuple):
     """From a node by a difference of longitudes to where it leads, and whether a node is there."""
     start: Node
     difference: int
@@ -21,8 +21,8 @@ class Step(NamedTuple):
         return abs(self.end.longitude - self.start.longitude) >= HALF_CIRCLE
 
 
-def reading_steps(depot_map, reference):
-    """The steps from point to point, up to the first point with no node."""
+def reading_moves(depot_map, reference):
+    """The moves from point to point, up to the first point with no node."""
     nodes = set(depot_map.nodes)
     first, *later = take_apart(reference).points
     start = next((node for node in nodes if code_pair(node) == (first.longitude, first.latitude)), None)
@@ -30,12 +30,12 @@ def reading_steps(depot_map, reference):
         if start not in nodes:
             return
         end = Node(brought_round(start.longitude + point.longitude), start.latitude + point.latitude)
-        yield Step(start, point.longitude, end, end in nodes)
+        yield Move(start, point.longitude, end, end in nodes)
         start = end
 
 
-def stretch_steps(depot_map, lines):
-    """A step along each line."""
+def stretch_moves(depot_map, lines):
+    """A move along each line."""
     for line in lines:
         start, end = depot_map.nodes[depot_map.lines[line].start_node], depot_map.nodes[depot_map.lines[line].end_node]
-        yield Step(start, brought_round(end.longitude - start.longitude), end, True)
+        yield Move(start, brought_round(end.longitude - start.longitude), end, True)

@@ -1,16 +1,24 @@
 """Ways to damage a good map or a good reference, each with the refusal that must follow from the table."""
 
 from dataclasses import dataclass, field, replace
+from itertools import product
 from typing import Optional
 
 from depot_map import (GREATEST_LATITUDE, GREATEST_LONGITUDE, LARGEST_NUMBER, LATITUDE_SHIFT, LONGITUDE_SHIFT, MOST_BANS, MOST_LINES,
-                       joins, map_numbers, numbers_to_bytes, write_number)
-from fields import coordinate_code, differences
+                       STEP_SHIFT, joins, map_numbers, numbers_to_bytes, write_number)
+from fields import GREATEST_STEP, coordinate_code, differences
 from legs import Marks, marks_arriving, marks_leaving
 from reader import point_nodes
 from reference import last_point_position, p_byte_positions, take_apart
 
-LINE_FIELDS = ("start node", "end node", "length", "FRC", "FOW", "bearing out", "bearing back")
+# The numbers of a line in byte order: those whose faults are refusal 5, and the steps, whose faults are 24.
+LINE_FIELDS = ("start node", "end node", "length", "FRC", "FOW")
+STEP_PAIRS = {"out": ("step out east", "step out north"), "back": ("step back east", "step back north")}
+STEP_FIELDS = tuple(name for pair in STEP_PAIRS.values() for name in pair)
+LINE_NUMBERS = LINE_FIELDS + STEP_FIELDS
+# What a step of 0 and the greatest one are stored as, and some that are out of range.
+ZERO_STEP, GREATEST_STORED_STEP = STEP_SHIFT, STEP_SHIFT + GREATEST_STEP
+STEPS_OUT_OF_RANGE = (501, 5_000, LARGEST_NUMBER)
 
 
 @dataclass(frozen=True)
@@ -46,7 +54,7 @@ def line_count_index(depot_map):
 
 
 def line_field_index(depot_map, line, line_field):
-    return line_count_index(depot_map) + 1 + 7 * line + LINE_FIELDS.index(line_field)
+    return line_count_index(depot_map) + 1 + len(LINE_NUMBERS) * line + LINE_NUMBERS.index(line_field)
 
 
 def ban_count_index(depot_map):
@@ -100,12 +108,70 @@ def coordinate_damages(depot_map):
     return damages
 
 
+def ends_of_lines(depot_map):
+    return ("first", 0), ("last", len(depot_map.lines) - 1)
+
+
+def step_pairs(depot_map):
+    """Each pair of steps of the first and of the last line: its name, and the places of its east and of its north step among the map's numbers."""
+    for place, line in ends_of_lines(depot_map):
+        for name, pair in STEP_PAIRS.items():
+            east, north = (line_field_index(depot_map, line, step) for step in pair)
+            yield f"{name} of the {place} line", east, north
+
+
+def step_damages(depot_map):
+    """Refusal 24: each step out of range, and both of a pair zero."""
+    damages = [MapDamage(24, f"both steps {pair} zero", {east: ZERO_STEP, north: ZERO_STEP}) for pair, east, north in step_pairs(depot_map)]
+    for value, (place, line), name in product(STEPS_OUT_OF_RANGE, ends_of_lines(depot_map), STEP_FIELDS):
+        damages.append(MapDamage(24, f"{name} of the {place} line {value}", {line_field_index(depot_map, line, name): value}))
+    return damages
+
+
+def step_form_damages(depot_map):
+    """Refusal 2 in a step of the last line: the map ends before it or inside it, or it is in a wrong form, though it would be good or out of range."""
+    numbers = map_numbers(depot_map)
+    damages = []
+    for name in STEP_FIELDS:
+        index = line_field_index(depot_map, len(depot_map.lines) - 1, name)
+        behind = len(numbers_to_bytes(numbers[index + 1:]))
+        # The greatest step has two bytes.
+        damages += [
+            MapDamage(2, f"ends before the last {name}", {index: GREATEST_STORED_STEP}, cut_bytes=behind + 2),
+            MapDamage(2, f"ends inside the last {name}", {index: GREATEST_STORED_STEP}, cut_bytes=behind + 1),
+            MapDamage(2, f"last {name} not shortest", {index: not_shortest(numbers[index])}),
+            MapDamage(2, f"last {name} not shortest and out of range", {index: not_shortest(GREATEST_STORED_STEP + 1)}),
+            MapDamage(2, f"last {name} too large", {index: write_number(LARGEST_NUMBER + 1)}),
+        ]
+    return damages
+
+
+def two_step_damages(depot_map):
+    """A faulty step and another fault. An east step out of range decides whatever comes after it, and both zero is found at the north step."""
+    numbers = map_numbers(depot_map)
+    damages = []
+    for pair, east, north in step_pairs(depot_map):
+        behind_east = len(numbers_to_bytes(numbers[north:]))
+        zeros = {east: ZERO_STEP, north: ZERO_STEP}
+        damages += [
+            MapDamage(24, f"ends after an east step {pair} out of range", {east: 501}, cut_bytes=behind_east),
+            MapDamage(24, f"east step {pair} out of range before a wrong form", {east: 501, north: not_shortest(numbers[north])}),
+            MapDamage(24, f"both steps {pair} out of range", {east: 501, north: LARGEST_NUMBER}),
+            MapDamage(24, f"north step {pair} out of range behind an east step of zero", {east: ZERO_STEP, north: 501}),
+            MapDamage(2, f"both steps {pair} zero, the north step in a wrong form", {east: ZERO_STEP, north: not_shortest(ZERO_STEP)}),
+            MapDamage(2, f"both steps {pair} zero, the east step in a wrong form", {east: not_shortest(ZERO_STEP), north: ZERO_STEP}),
+            MapDamage(2, f"ends after an east step {pair} of zero", {east: ZERO_STEP}, cut_bytes=behind_east),
+            MapDamage(24, f"both steps {pair} zero before a wrong form", {**zeros, north + 1: not_shortest(numbers[north + 1])}),
+        ]
+    return damages
+
+
 def line_damages(depot_map):
     node_count = len(depot_map.nodes)
     wrong_values = {"start node": (node_count,), "end node": (node_count,), "length": (0, 150_001),
-                    "FRC": (8,), "FOW": (8,), "bearing out": (360,), "bearing back": (360,)}
+                    "FRC": (8,), "FOW": (8,)}
     damages = []
-    for place, line in (("first", 0), ("last", len(depot_map.lines) - 1)):
+    for place, line in ends_of_lines(depot_map):
         for name in LINE_FIELDS:
             index = line_field_index(depot_map, line, name)
             for value in wrong_values[name] + (LARGEST_NUMBER,):
@@ -176,8 +242,9 @@ def two_map_damages(depot_map):
     numbers = map_numbers(depot_map)
     first_end = line_field_index(depot_map, 0, "end node")
     first_length = line_field_index(depot_map, 0, "length")
-    last_bearing = ban_count_index(depot_map) - 1
-    ban_count = last_bearing + 1
+    ban_count = ban_count_index(depot_map)
+    last_form, last_step = line_field_index(depot_map, len(depot_map.lines) - 1, "FOW"), ban_count - 1
+    first_form, first_step = line_field_index(depot_map, 0, "FOW"), line_field_index(depot_map, 0, "step out east")
     equal_ends = depot_map.lines[0].start_node
     same_nodes = same_code_damages(depot_map)[0].changes
     return [
@@ -192,11 +259,11 @@ def two_map_damages(depot_map):
                   {first_end: equal_ends, first_length: not_shortest(numbers[first_length])}),
         MapDamage(2, "end node in a wrong form with equal ends", {first_end: not_shortest(equal_ends)}),
         MapDamage(2, "count in a wrong form and outside its range", {0: b"\x80\x00"}),
-        MapDamage(5, "wrong line field and a byte left over", {last_bearing: 360}, left_over=b"\x00"),
+        MapDamage(5, "wrong line field and a byte left over", {last_form: 8}, left_over=b"\x00"),
         MapDamage(3, "no lines and bytes left over", {line_count_index(depot_map): 0}, left_over=b"\x00"),
         MapDamage(2, "equal nodes and a byte left over", same_nodes, left_over=b"\x00"),
-        MapDamage(5, "equal nodes and a wrong line field", {**same_nodes, last_bearing: 360}),
-        MapDamage(5, "wrong line field before a wrong count of bans", {last_bearing: 360, ban_count: 513}),
+        MapDamage(5, "equal nodes and a wrong line field", {**same_nodes, last_form: 8}),
+        MapDamage(5, "wrong line field before a wrong count of bans", {last_form: 8, ban_count: 513}),
         MapDamage(3, "wrong count of bans before a wrong form", {ban_count: 513, ban_count + 1: b"\x80\x00"}, bans=((0, 0),)),
         MapDamage(2, "count of bans in a wrong form and outside its range", {ban_count: b"\x81\x84\x00"}),
         MapDamage(2, "wrong pair before a wrong form", {ban_count + 3: b"\x80\x00"}, bans=((0, 0), (0, 0))),
@@ -204,13 +271,33 @@ def two_map_damages(depot_map):
         MapDamage(2, "wrong pair and an early end", {ban_count: 2}, bans=((0, 0),)),
         MapDamage(2, "wrong pair and a byte left over", left_over=b"\x00", bans=((0, 0),)),
         MapDamage(6, "equal nodes and a wrong pair", same_nodes, bans=((0, 0),)),
+        MapDamage(5, "wrong line field before a wrong step", {first_form: 8, first_step: 501}),
+        MapDamage(24, "wrong step before a wrong count of bans", {last_step: 501, ban_count: 513}),
+        MapDamage(24, "wrong step and a byte left over", {last_step: 501}, left_over=b"\x00"),
+        MapDamage(24, "equal nodes and a wrong step", {**same_nodes, last_step: 501}),
+        MapDamage(24, "wrong step and a wrong pair", {last_step: 501}, bans=((0, 0),)),
+        MapDamage(4, "wrong coordinate before a wrong step", {latitude_index(1): LARGEST_NUMBER, first_step: 501}),
+    ]
+
+
+def steps_of_two_lines(depot_map):
+    """With two lines or more: a wrong step of the first line, and a fault of another kind in the last."""
+    if len(depot_map.lines) == 1:
+        return []
+    first_step = line_field_index(depot_map, 0, "step back north")
+    last_form, last_step = (line_field_index(depot_map, len(depot_map.lines) - 1, name) for name in ("FOW", "step out east"))
+    return [
+        MapDamage(24, "wrong step before a wrong line field", {first_step: 501, last_form: 8}),
+        MapDamage(24, "wrong step before a wrong form", {first_step: 501, last_step: b"\x80\x00"}),
+        MapDamage(2, "wrong form before a wrong step", {first_step: b"\x80\x00", last_step: 501}),
     ]
 
 
 def map_damages(depot_map):
-    """All damages that are known for a map, refusals 2 to 6 and 23."""
+    """All damages that are known for a map, refusals 2 to 6, 23 and 24."""
     return (form_damages(depot_map) + count_damages(depot_map) + coordinate_damages(depot_map) + line_damages(depot_map)
-            + same_code_damages(depot_map) + ban_damages(depot_map) + two_map_damages(depot_map))
+            + same_code_damages(depot_map) + ban_damages(depot_map) + two_map_damages(depot_map) + step_damages(depot_map)
+            + step_form_damages(depot_map) + two_step_damages(depot_map) + steps_of_two_lines(depot_map))
 
 
 def map_damage(depot_map, refusal, turn):

@@ -1,14 +1,19 @@
-"""The depot map: its bytes and refusals 2 to 6 and 23 (scope paper, "The depot map", "Refused, by place"; paper 02, "Banned turns")."""
+"""The depot map: its bytes and refusals 2 to 6, 23 and 24.
+
+Scope paper, "The depot map", "Refused, by place"; paper 02, "Banned turns", "Bearings from the drawing".
+"""
 
 from dataclasses import dataclass
 from functools import lru_cache
+from typing import NamedTuple
 
-from fields import LONGEST_LEG, code_pair
+from fields import GREATEST_STEP, LONGEST_LEG, code_pair
 from outcome import RefusedCall
 
 LARGEST_NUMBER = 4_294_967_295
 LONGITUDE_SHIFT = 18_000_000
 LATITUDE_SHIFT = 9_000_000
+STEP_SHIFT = 250
 GREATEST_LONGITUDE = 17_999_998
 GREATEST_LATITUDE = 9_000_000
 FEWEST_NODES, MOST_NODES = 2, 512
@@ -23,16 +28,25 @@ class Node:
     latitude: int
 
 
+class Steps(NamedTuple):
+    """Two steps from a node to a point of a line's drawing, in whole decimetres. Not both are 0."""
+    east: int
+    north: int
+
+
 @dataclass(frozen=True)
 class Line:
-    """A line runs one way only, from its start node to its end node. The length is in decimetres."""
+    """A line runs one way only, from its start node to its end node. The length is in decimetres.
+
+    The steps out are those from the start node along the line, the steps back those from the end node back along it.
+    """
     start_node: int
     end_node: int
     length: int
     frc: int
     fow: int
-    bearing_out: int
-    bearing_back: int
+    steps_out: Steps
+    steps_back: Steps
 
 
 @dataclass(frozen=True)
@@ -80,8 +94,8 @@ def map_numbers(depot_map):
         numbers += [node.longitude + LONGITUDE_SHIFT, node.latitude + LATITUDE_SHIFT]
     numbers.append(len(depot_map.lines))
     for line in depot_map.lines:
-        numbers += [line.start_node, line.end_node, line.length, line.frc, line.fow,
-                    line.bearing_out, line.bearing_back]
+        numbers += [line.start_node, line.end_node, line.length, line.frc, line.fow]
+        numbers += [step + STEP_SHIFT for step in (*line.steps_out, *line.steps_back)]
     numbers.append(len(depot_map.bans))
     for ban in depot_map.bans:
         numbers += ban
@@ -101,7 +115,7 @@ class _NumbersInOrder:
     """Takes numbers from map bytes one after another; each is judged before the next is looked at.
 
     So the first faulty number decides. A number with a wrong form is refusal 2 whatever its value would be,
-    since 2 stands above 3 to 5 in the table.
+    since 2 stands above 3 to 5 in the table, and above 24.
     """
 
     def __init__(self, data):
@@ -121,6 +135,15 @@ def _take_node(numbers):
     return Node(longitude, latitude)
 
 
+def _take_steps(numbers):
+    """An east step out of range is refused before the north step is looked at. Both 0 is a fault of the north step."""
+    east = numbers.take(0, GREATEST_STEP + STEP_SHIFT, 24) - STEP_SHIFT
+    north = numbers.take(0, GREATEST_STEP + STEP_SHIFT, 24) - STEP_SHIFT
+    if east == 0 and north == 0:
+        raise RefusedCall(24)
+    return Steps(east, north)
+
+
 def _take_line(numbers, node_count):
     start_node = numbers.take(0, node_count - 1, 5)
     end_node = numbers.take(0, node_count - 1, 5)
@@ -129,9 +152,9 @@ def _take_line(numbers, node_count):
     length = numbers.take(1, LONGEST_LEG, 5)
     frc = numbers.take(0, 7, 5)
     fow = numbers.take(0, 7, 5)
-    bearing_out = numbers.take(0, 359, 5)
-    bearing_back = numbers.take(0, 359, 5)
-    return Line(start_node, end_node, length, frc, fow, bearing_out, bearing_back)
+    steps_out = _take_steps(numbers)
+    steps_back = _take_steps(numbers)
+    return Line(start_node, end_node, length, frc, fow, steps_out, steps_back)
 
 
 def _take_ban(numbers):
@@ -147,7 +170,7 @@ def joins(lines, first, second):
 
 @lru_cache(maxsize=64)
 def read_map(data):
-    """The map, or RefusedCall with 2 to 6 or 23. Maps read last are kept, since many calls are on the same map."""
+    """The map, or RefusedCall with 2 to 6, 23 or 24. Maps read last are kept, since many calls are on the same map."""
     numbers = _NumbersInOrder(data)
     node_count = numbers.take(FEWEST_NODES, MOST_NODES, 3)
     nodes = tuple(_take_node(numbers) for _ in range(node_count))

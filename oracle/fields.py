@@ -1,12 +1,21 @@
-"""The fields of a reference, as the scope paper's paragraph "The bytes" words them, and paper 02, "Depots on the 180th meridian"."""
+"""The fields of a reference, as the scope paper's paragraph "The bytes" words them.
 
+Longitude differences are paper 02's, "Depots on the 180th meridian", and sectors too, "Bearings from the drawing".
+"""
+
+from bisect import bisect_right
 from fractions import Fraction
 from functools import lru_cache
-from math import trunc
+from math import ceil, floor, isqrt, trunc
 
 LONGEST_LEG = 150_000
 # 360 degrees, in hundred-thousandths.
 WHOLE_CIRCLE = 36_000_000
+# A step leads 250 decimetres at most, east or west, north or south.
+GREATEST_STEP = 250
+QUARTER_SECTORS = 8
+# Bounds of a square root are one part of these apart.
+ROOT_PARTS = 10 ** 12
 
 
 @lru_cache(maxsize=None)
@@ -25,9 +34,58 @@ def code_pair(node):
     return coordinate_code(node.longitude), coordinate_code(node.latitude)
 
 
-def sector(bearing):
-    """The sector, 0 to 31, of a bearing in whole degrees."""
-    return bearing * 4 // 45
+def root_bounds(square):
+    """A fraction that is at most the square root, and one that is above it."""
+    parts = isqrt(floor(square * ROOT_PARTS ** 2))
+    return Fraction(parts, ROOT_PARTS), Fraction(parts + 1, ROOT_PARTS)
+
+
+def tangent_of_half(cotangent):
+    """Bounds of the tangent of half an angle, out of bounds of the cotangent c of the angle: the root of 1 + c x c, less c. It falls as c grows."""
+    low, high = cotangent
+    return root_bounds(1 + high * high)[0] - high, root_bounds(1 + low * low)[1] - low
+
+
+@lru_cache(maxsize=1)
+def edge_tangents():
+    """Bounds of the tangents of 11.25, 22.5, .. 78.75 degrees. That of 45 degrees is 1, and the others are no fractions.
+
+    The angles are halves of 22.5, 45, .. 157.5 degrees. Of these, the first three have the cotangents root 2 + 1, 1 and root 2 - 1, and the last three have the
+    same with a minus.
+    """
+    low, high = root_bounds(2)
+    cotangents = [(low + 1, high + 1), (1, 1), (low - 1, high - 1)]
+    mirrored = [(-high, -low) for low, high in reversed(cotangents)]
+    return [tangent_of_half(bounds) for bounds in cotangents] + [(1, 1)] + [tangent_of_half(bounds) for bounds in mirrored]
+
+
+def first_easts_of(north):
+    """For each edge inside the first quarter the least whole east that is at it or beyond it, at a whole north from 1 to 250.
+
+    East is at the edge or beyond it where it is not below north x tangent, and so not below that product rounded up. Between the bounds of the product lies the
+    product itself: where both are rounded up to one number, so is the product, and that number is the one sought. That it is so for each of the 250 norths is
+    asked here, and so the bounds tell every step from every edge.
+    """
+    bounds = [(ceil(north * low), ceil(north * high)) for low, high in edge_tangents()]
+    if any(low != high for low, high in bounds):
+        raise ArithmeticError(f"the edges are not known well enough for north {north}")
+    return [low for low, _ in bounds]
+
+
+FIRST_EASTS = {north: first_easts_of(north) for north in range(1, GREATEST_STEP + 1)}
+
+
+def sector(steps):
+    """The sector, 0 to 31, of the direction of two steps, east and north, that are not both 0: its whole 11.25 degrees, clockwise from north.
+
+    The direction is turned back by quarters until it lies from north to just before east. There the edges that it has reached are counted.
+    """
+    east, north = steps
+    for quarters in range(4):
+        if north > 0 and east >= 0:
+            return QUARTER_SECTORS * quarters + bisect_right(FIRST_EASTS[north], east)
+        east, north = -north, east
+    raise ValueError("no direction")
 
 
 def distance_byte(leg_length):

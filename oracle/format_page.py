@@ -5,7 +5,7 @@ from pathlib import Path
 from typing import NamedTuple, Optional
 
 from answers import hexadecimal
-from depot_map import Node, write_number
+from depot_map import STEP_SHIFT, Node, write_number
 from fields import coordinate_code, differences, differences_fit, distance_byte, offset_byte, offset_span, sector
 from host_calls import MOST_LINES, line_bytes, lines_of
 from outcome import Refused, ReferenceWritten, StretchRead
@@ -43,7 +43,7 @@ class Call(NamedTuple):
 
 
 class Formula(NamedTuple):
-    """A worked number, such as `sector 90 -> 8`: what the page says and what it is."""
+    """A worked number, such as `sector (5, 5) -> 4`: what the page says and what it is."""
     text: str
     said: str
     computed: str
@@ -73,18 +73,24 @@ FORMULAS = (
     (r"code (-?\d+)", lambda coordinate: signed_bytes(coordinate_code(int(coordinate)), 3)),
     (r"difference (-?\d+)", lambda difference: signed_bytes(int(difference), 2)),
     (r"longitudes (-?\d+) to (-?\d+)", lambda start, end: longitude_difference(Node(int(start), 0), Node(int(end), 0))),
-    (r"sector (\d+)", lambda bearing: str(sector(int(bearing)))),
+    (r"step (-?\d+)", lambda step: write_number(int(step) + STEP_SHIFT).hex(" ").upper()),
+    (r"sector \((-?\d+), (-?\d+)\)", lambda east, north: str(sector((int(east), int(north))))),
     (r"D (\d+)", lambda length: str(distance_byte(int(length)))),
     (r"offset (\d+) of (\d+)", lambda offset, length: f"{offset_byte(int(offset), int(length)):02X}"),
     (r"span ([0-9A-F]{2}) of (\d+)", lambda byte, length: span_text(int(byte, 16), int(length))),
 )
 
 
+PYTHON_BLOCK = re.compile(r"^```python\n(.*?)^```\n", re.DOTALL | re.MULTILINE)
+
+
 class Page:
-    """The page taken apart. Names hold from the line that gives them on, and before it."""
+    """The page taken apart. Names hold from the line that gives them on, and before it. Blocks of Python stand by themselves."""
 
     def __init__(self, text):
         self.names, self.calls, self.formulas, self.commands = {}, [], [], []
+        self.programs = PYTHON_BLOCK.findall(text)
+        text = PYTHON_BLOCK.sub("", text)
         rows = [line[4:] for line in text.splitlines() if line.startswith("    ")]
         rows = [row if row.startswith("$ ") else row.split("#")[0].rstrip() for row in rows]
         self._take_names(rows)

@@ -1,4 +1,4 @@
-"""A leg's readings (scope paper, "What counts as a reading"; paper 02, "Banned turns"), by counting and by enumeration."""
+"""A leg's readings (scope paper, "What counts as a reading"; paper 02, "Banned turns", "Bearings from the drawing"), by counting and by enumeration."""
 
 import heapq
 from dataclasses import dataclass
@@ -41,11 +41,11 @@ class LeastWay(NamedTuple):
 
 
 def marks_leaving(line):
-    return Marks(line.frc, line.fow, sector(line.bearing_out))
+    return Marks(line.frc, line.fow, sector(line.steps_out))
 
 
 def marks_arriving(line):
-    return Marks(line.frc, line.fow, sector(line.bearing_back))
+    return Marks(line.frc, line.fow, sector(line.steps_back))
 
 
 def list_length(depot_map, lines):

@@ -7,6 +7,7 @@ from dataclasses import replace
 
 from damages import replaced
 from depot_map import GREATEST_LATITUDE, map_to_bytes, read_map
+from drawn_steps import EASTWARD, WESTWARD
 from fields import brought_round, code_pair, coordinate_code
 from outcome import RefusedCall
 from read_recipes import AMPLE_LINES, READ_RECIPES, ReadInput, bytes_of_legs
@@ -86,7 +87,7 @@ def two_longitudes(rng, difference, place):
 def lines_there_and_back(builder, start, end, length=1_000):
     """A line from a node to another and one back, with different marks."""
     there = builder.line(start, end, length)
-    return there, builder.line(end, start, length, bearing_out=270, bearing_back=90)
+    return there, builder.line(end, start, length, steps_out=WESTWARD, steps_back=EASTWARD)
 
 
 def map_of_two_nodes(rng, difference, place):

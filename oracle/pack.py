@@ -10,14 +10,16 @@ from pathlib import Path
 
 from cases import (leg_cases, leg_cases_across, map_cases, meridian_map_cases, meridian_read_cases, meridian_write_cases, random_source, read_cases,
                    read_cases_across, stretch_leg, write_cases, write_cases_across)
-from depot_map import MOST_BANS, map_numbers, map_to_bytes
+from depot_map import LATITUDE_SHIFT, LONGITUDE_SHIFT, MOST_BANS, MOST_LINES, map_to_bytes
+from drawn_steps import ENDS_OF_RANGE, steps_at_edges
+from fields import sector
 from legs import LegSearch, list_length
 from meridian_recipes import ACROSS
 from outcome import Refused, outcome_text
 from read_recipes import changed_in_a_byte, composed_from, read_outcome
 from reader import LEAST_WORK_LENGTH, read
 from recipes import until_found
-from sample_maps import full_sample, full_size_sample, joining_pairs, sample_across
+from sample_maps import MapBuilder, full_sample, full_size_sample, joining_pairs, sample_across
 from write_recipes import many_on_a_map, write_outcome
 
 CRATES = Path(__file__).parent.parent / "crates"
@@ -47,11 +49,16 @@ def number_sum(numbers):
 def map_row(outcome):
     if isinstance(outcome, Refused):
         return outcome_text(outcome)
-    nodes, lines, bans = len(outcome.nodes), len(outcome.lines), bans_by_second_line(outcome.bans)
-    numbers = map_numbers(replace(outcome, bans=()))
-    del numbers[-1], numbers[1 + 2 * nodes], numbers[0]
+    bans = bans_by_second_line(outcome.bans)
+    numbers = [number for node in outcome.nodes for number in (node.longitude + LONGITUDE_SHIFT, node.latitude + LATITUDE_SHIFT)]
+    numbers += [number for line in outcome.lines for number in line_numbers(line)]
     numbers += [number for ban in bans for number in ban]
-    return f"nodes {nodes} lines {lines} bans {len(bans)} sum {number_sum(numbers)}"
+    return f"nodes {len(outcome.nodes)} lines {len(outcome.lines)} bans {len(bans)} sum {number_sum(numbers)}"
+
+
+def line_numbers(line):
+    """A line's numbers, with the sectors in place of the steps."""
+    return [line.start_node, line.end_node, line.length, line.frc, line.fow, sector(line.steps_out), sector(line.steps_back)]
 
 
 def bans_by_second_line(bans):
@@ -67,11 +74,25 @@ def map_of_different_bans():
     return replace(depot_map, bans=tuple(rng.sample(joining_pairs(depot_map.lines), MOST_BANS)))
 
 
+def maps_of_steps_at_edges():
+    """Maps of two nodes and up to 1,024 lines. All together they have every pair of steps at an edge of a sector, half of them out and half of them back,
+    and the ends of the range out and back."""
+    pairs = steps_at_edges()
+    lines = [*zip(pairs[::2], pairs[1::2]), *zip(ENDS_OF_RANGE, ENDS_OF_RANGE)]
+    for first in range(0, len(lines), MOST_LINES):
+        builder = MapBuilder()
+        start, end = builder.row_of_nodes(2)
+        for steps_out, steps_back in lines[first:first + MOST_LINES]:
+            builder.line(start, end, 1, steps_out=steps_out, steps_back=steps_back)
+        yield builder.build()
+
+
 def test_maps():
-    cases = [(case.map_bytes, case.expected) for case in map_cases(seed=1, count=640)]
+    cases = [(case.map_bytes, case.expected) for case in map_cases(seed=1, count=720)]
     full = map_of_different_bans()
     cases.append((map_to_bytes(full), full))
     cases += [(case.map_bytes, case.expected) for case in meridian_map_cases(seed=1, count=60)]
+    cases += [(map_to_bytes(depot_map), depot_map) for depot_map in maps_of_steps_at_edges()]
     return packed(map_bytes for map_bytes, _ in cases), [map_row(expected) for _, expected in cases]
 
 
@@ -119,7 +140,7 @@ def full_map_legs(plain, across, legs):
 
 def test_legs():
     parts, rows = full_map_legs(plain=12, across=0, legs=40)
-    for case in [*leg_cases(seed=1, count=1_280, left_out=FULL_SIZE), *leg_cases_across(seed=1, count=64, left_out=FULL_SIZE_ACROSS)]:
+    for case in [*leg_cases(seed=1, count=1_440, left_out=FULL_SIZE), *leg_cases_across(seed=1, count=72, left_out=FULL_SIZE_ACROSS)]:
         parts += [case.map_bytes, leg_words(case.leg)]
         rows.append(leg_row(case.depot_map, case.expected))
     return packed(parts), rows
@@ -186,8 +207,8 @@ def packed_calls(calls, subject, numbers, row):
 
 def test_reads():
     """The subject is a reference; the numbers are the lengths of the work area and of the line buffer."""
-    calls = [*on_small_maps(read_cases, 3_008), *full_map_reads(plain=10, across=1, references=40),
-             *on_small_maps(read_cases_across, 96, FULL_SIZE_ACROSS), *on_small_maps(meridian_read_cases, 120)]
+    calls = [*on_small_maps(read_cases, 3_100), *full_map_reads(plain=8, across=1, references=49),
+             *on_small_maps(read_cases_across, 100, FULL_SIZE_ACROSS), *on_small_maps(meridian_read_cases, 120)]
     check_room(calls, lambda given: given.line_room <= READS_LINE_ROOM)
     return packed_calls(calls, lambda given: given.reference,
                         lambda given: [given.work_length, given.line_room], read_row)
@@ -212,8 +233,8 @@ def full_map_writes(plain, across, stretches):
 def test_writes():
     """The subject is a stretch, four bytes a line; the numbers are the offsets, and the lengths of the work area and of
     the byte buffer."""
-    calls = [*on_small_maps(write_cases, 2_560), *full_map_writes(plain=10, across=2, stretches=20),
-             *on_small_maps(write_cases_across, 96, FULL_SIZE_ACROSS), *on_small_maps(meridian_write_cases, 128)]
+    calls = [*on_small_maps(write_cases, 2_640), *full_map_writes(plain=8, across=2, stretches=24),
+             *on_small_maps(write_cases_across, 99, FULL_SIZE_ACROSS), *on_small_maps(meridian_write_cases, 128)]
     check_room(calls, lambda given: len(given.lines) <= WRITES_LINE_ROOM and given.byte_room <= WRITES_BYTE_ROOM)
     return packed_calls(calls, lambda given: words(given.lines),
                         lambda given: [given.pos, given.neg, given.work_length, given.byte_room], write_row)

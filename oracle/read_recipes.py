@@ -10,7 +10,7 @@ from legs import list_length
 from reader import LEAST_WORK_LENGTH, read
 from recipes import any_sample, until_found, work_area_exactly_enough, work_area_too_short
 from reference import last_point_position, p_byte_positions, put_together
-from sample_maps import SMALL_SAMPLES, MapBuilder, chain_of_blocks, chain_of_ties, full_size_sample, other_way, pairs_of, random_walk
+from sample_maps import SMALL_SAMPLES, MapBuilder, chain_of_blocks, chain_of_ties, edge_sample, full_size_sample, other_way, pairs_of, random_walk
 from write_recipes import accepted_input, write_outcome
 from writer import reference_of_legs
 
@@ -404,6 +404,12 @@ def leg_read_alone(rng, turn):
     return f"tie on leg {(turn + 1) % 2}", ReadInput(map_to_bytes(replace(depot_map, bans=bans)), bytes_of_legs(depot_map, legs))
 
 
+def sides_of_an_edge(rng, turn):
+    """Two lines that only their steps can tell apart, where they are of different sectors."""
+    sample = edge_sample(rng, turn)
+    return sample.label, ReadInput(map_to_bytes(sample.depot_map), bytes_of_legs(sample.depot_map, [sample.stretch], pos=rng.choice([0, 1])))
+
+
 def row_of_lines(lengths):
     builder = MapBuilder()
     nodes = builder.row_of_nodes(len(lengths) + 1)
@@ -471,6 +477,7 @@ READ_RECIPES = {
     "tie that a ban decides": tie_that_a_ban_decides,
     "around the block": around_the_block,
     "full size": full_size,
+    "sides of an edge": sides_of_an_edge,
     "two faults": two_faults,
     "refusal 1": work_area_too_short(written_input, {"map_bytes": b""}, {"reference": b""}, {"line_room": 0}),
     "refusal 2": damaged_map(2),
@@ -479,6 +486,7 @@ READ_RECIPES = {
     "refusal 5": damaged_map(5),
     "refusal 6": damaged_map(6),
     "refusal 23": damaged_map(23),
+    "refusal 24": damaged_map(24),
     "refusal 12": damaged_reference(12),
     "refusal 13": damaged_reference(13),
     "refusal 14": damaged_reference(14),

@@ -1,4 +1,4 @@
-"""The reader: map bytes and reference bytes to a stretch (scope paper, refusals 1 to 6 and 12 to 20; paper 02, "Banned turns": 22 and 23).
+"""The reader: map bytes and reference bytes to a stretch (scope paper, refusals 1 to 6 and 12 to 20; paper 02: 22, 23 and 24).
 
 Longitudes are added up as paper 02 says it, "Depots on the 180th meridian".
 """

@@ -7,17 +7,22 @@ come out as that refusal, by the scope paper's table.
 from dataclasses import replace
 
 from reader import LEAST_WORK_LENGTH
-from sample_maps import SMALL_SAMPLES, with_bans
+from sample_maps import SMALL_SAMPLES, sample_redrawn, with_bans
+
+
+def sample_without_bans(rng, turn):
+    """A sample of each kind in turn."""
+    return sample_redrawn(rng, SMALL_SAMPLES[turn % len(SMALL_SAMPLES)](rng))
 
 
 def any_sample(rng, turn):
-    """A sample of each kind in turn, with bans or without. One time out of four they may be on the stretch itself."""
-    return with_bans(rng, SMALL_SAMPLES[turn % len(SMALL_SAMPLES)](rng), rng.random() < 0.75)
+    """The same with bans or without. One time out of four they may be on the stretch itself."""
+    return with_bans(rng, sample_without_bans(rng, turn), rng.random() < 0.75)
 
 
 def sample_with_free_stretch(rng, turn):
     """The same with no ban on the stretch."""
-    return with_bans(rng, SMALL_SAMPLES[turn % len(SMALL_SAMPLES)](rng), True)
+    return with_bans(rng, sample_without_bans(rng, turn), True)
 
 
 def until_found(attempt):

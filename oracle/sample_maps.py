@@ -3,7 +3,8 @@
 import random
 from dataclasses import dataclass, replace
 
-from depot_map import GREATEST_LONGITUDE, LATITUDE_SHIFT, LONGITUDE_SHIFT, MOST_BANS, DepotMap, Line, Node, map_to_bytes
+from depot_map import GREATEST_LONGITUDE, LATITUDE_SHIFT, LONGITUDE_SHIFT, MOST_BANS, DepotMap, Line, Node, Steps, map_to_bytes
+from drawn_steps import EASTWARD, ENDS_OF_RANGE, NORTHWARD, SOUTHWARD, WESTWARD, any_steps, around_an_edge, redrawn, sides_of_edge, steps_of_sector
 from fields import brought_round
 
 NODE_STEP = 400
@@ -33,8 +34,8 @@ class MapBuilder:
         """Nodes from west to east. Up to 82 of them, all differences fit 16 bits."""
         return [self.node(NODE_STEP * number, 0) for number in range(count)]
 
-    def line(self, start, end, length, frc=3, fow=3, bearing_out=90, bearing_back=270):
-        self.lines.append(Line(start, end, length, frc, fow, bearing_out, bearing_back))
+    def line(self, start, end, length, frc=3, fow=3, steps_out=EASTWARD, steps_back=WESTWARD):
+        self.lines.append(Line(start, end, length, frc, fow, steps_out, steps_back))
         return len(self.lines) - 1
 
     def ban(self, first, second):
@@ -106,21 +107,26 @@ def across_meridian(depot_map):
     return shifted(depot_map, brought_round(LAST_BEFORE - rng.choice([0, room, rng.randrange(room + 1)]) - before))
 
 
+def sample_redrawn(rng, sample):
+    """The sample as it is, or every other time with other steps of the same sectors."""
+    return replace(sample, depot_map=redrawn(rng, sample.depot_map)) if rng.random() < 0.5 else sample
+
+
 def sample_across(sample):
     """The sample on its map shifted to lie across the meridian."""
     return replace(sample, depot_map=across_meridian(sample.depot_map))
 
 
 def ridge_map(*bans):
-    """The map of the scope paper's "The tie at the ridge", with bans where they are given."""
+    """The map of the scope paper's "The tie at the ridge", with steps of the same sectors for its bearings, and with bans where they are given."""
     builder = MapBuilder()
     builder.bans += bans
     for longitude, latitude in ((0, 0), (1000, 0), (1000, 1000), (2000, 0)):
         builder.node(longitude, latitude)
     builder.line(0, 1, 1000)
     builder.line(1, 3, 1000)
-    builder.line(1, 2, 500, bearing_out=0, bearing_back=180)
-    builder.line(2, 3, 500, bearing_out=135, bearing_back=272)
+    builder.line(1, 2, 500, steps_out=NORTHWARD, steps_back=SOUTHWARD)
+    builder.line(2, 3, 500, steps_out=Steps(141, -141), steps_back=Steps(-200, 7))
     return builder.build()
 
 
@@ -128,8 +134,7 @@ def smallest_sample(rng):
     builder = MapBuilder()
     start, end = builder.row_of_nodes(2)
     length = rng.choice([1, 2, 255, 256, 257, 585, 586, 587, 149_999, 150_000])
-    builder.line(start, end, length, frc=rng.randrange(8), fow=rng.randrange(8),
-                 bearing_out=rng.choice([0, 11, 12, 359]), bearing_back=rng.choice([0, 348, 349, 359]))
+    builder.line(start, end, length, frc=rng.randrange(8), fow=rng.randrange(8), steps_out=any_steps(rng), steps_back=any_steps(rng))
     return Sample("smallest map", builder.build(), (0,))
 
 
@@ -143,7 +148,7 @@ def tied_ways(rng, label, total):
     direct = builder.line(fork, join, rest)
     other = max(2, rest + rng.choice([-1, 0, 0, 1]))
     half = rng.randrange(1, other)
-    detour_lines = (builder.line(fork, detour, half, bearing_out=rng.choice([90, 0])),
+    detour_lines = (builder.line(fork, detour, half, steps_out=rng.choice([EASTWARD, NORTHWARD])),
                     builder.line(detour, join, other - half))
     if rng.random() < 0.4:
         builder.line(start, fork, min(150_000, first_length + rng.choice([0, 1, 600])))
@@ -187,7 +192,7 @@ def ring_sample(rng):
     around = [builder.line(start, end, length) for start, end in zip(nodes, nodes[1:] + nodes[:1])]
     if rng.random() < 0.4:
         for start, end in zip(nodes, nodes[1:] + nodes[:1]):
-            builder.line(end, start, length, bearing_out=270, bearing_back=90)
+            builder.line(end, start, length, steps_out=WESTWARD, steps_back=EASTWARD)
     count = rng.choice([len(nodes), len(nodes) + 1, 2 * len(nodes), 64])
     first = rng.randrange(len(nodes))
     stretch = tuple(around[(first + number) % len(nodes)] for number in range(count))
@@ -221,7 +226,7 @@ def range_end_sample(rng):
         builder.node(longitude + step * number, latitude + rise * (number % 2))
     for start, end in ((0, 1), (1, 2), (2, 3), (3, 0)):
         builder.line(start, end, rng.choice([1, 10, 149_999, 150_000]), rng.choice([0, 7]),
-                     rng.choice([0, 7]), rng.choice([0, 359]), rng.choice([0, 359]))
+                     rng.choice([0, 7]), rng.choice(ENDS_OF_RANGE), rng.choice(ENDS_OF_RANGE))
     depot_map = builder.build()
     return Sample("values at their range ends", depot_map, random_walk(rng, depot_map, 4))
 
@@ -265,7 +270,7 @@ def chain_of_ties(leg_count, tied_legs):
         if number in tied_legs:
             builder.line(aside, row[number + 1], 100)
         else:
-            builder.line(aside, row[number + 1], 101, bearing_back=0)
+            builder.line(aside, row[number + 1], 101, steps_back=NORTHWARD)
     return builder.build(), legs
 
 
@@ -311,6 +316,26 @@ def other_first_line_sample(rng):
     return Sample("another first line goes around", builder.build(), (0,))
 
 
+def edge_sample(rng, turn):
+    """Two lines that differ in their steps out alone, or in their steps back alone.
+
+    The one line has the last steps before an edge of a sector, the other the first beyond it or on it. Each of the 32 edges has its turn. Every fifth time
+    both are of the sector beyond the edge.
+    """
+    builder = MapBuilder()
+    start, middle, end = builder.row_of_nodes(3)
+    edge, one_sector = turn - turn // 5, turn % 5 == 4
+    before, beyond = sides_of_edge(rng, edge)
+    drawn = rng.sample([steps_of_sector(rng, edge) if one_sector else before, beyond], 2)
+    if (edge + edge // 32) % 2:
+        twins = [builder.line(start, middle, 300, steps_out=steps) for steps in drawn]
+        stretch = (rng.choice(twins),) + rng.choice([(), (builder.line(middle, end, 300),)])
+    else:
+        twins = [builder.line(middle, end, 300, steps_back=steps) for steps in drawn]
+        stretch = rng.choice([(), (builder.line(start, middle, 300),)]) + (rng.choice(twins),)
+    return Sample("two lines of one sector" if one_sector else "two lines of neighbouring sectors", builder.build(), stretch)
+
+
 def random_sample(rng):
     """A small map without a plan, with few different values so that equal ones are common."""
     builder = MapBuilder()
@@ -322,11 +347,11 @@ def random_sample(rng):
                           [49_999, 50_000, 50_001, 75_000, 75_001, 149_999, 150_000], range(1, 150_001)])
     classes = rng.choice([[3], [3, 4], range(8)])
     forms = rng.choice([[3], [2, 3]])
-    bearings = rng.choice([[90], [0, 11, 12, 359], range(360)])
+    drawn = rng.choice([[EASTWARD], around_an_edge(rng), [any_steps(rng) for _ in range(8)]])
     for _ in range(rng.randrange(1, 13)):
         start, end = rng.sample(range(len(builder.nodes)), 2)
         builder.line(start, end, rng.choice(lengths), rng.choice(classes), rng.choice(forms),
-                     rng.choice(bearings), rng.choice(bearings))
+                     rng.choice(drawn), rng.choice(drawn))
     depot_map = builder.build()
     return Sample("random map", depot_map, random_walk(rng, depot_map, rng.randrange(1, 9)))
 
@@ -342,7 +367,7 @@ def full_sample(rng):
         column, row = number % 32, number // 32
         east, south = row * 32 + (column + 1) % 32, (row + 1) % 16 * 32 + column
         builder.line(number, east, rng.choice(lengths), rng.choice(classes))
-        builder.line(number, south, rng.choice(lengths), rng.choice(classes), 3, 180, 0)
+        builder.line(number, south, rng.choice(lengths), rng.choice(classes), 3, SOUTHWARD, NORTHWARD)
     depot_map = builder.build()
     return Sample("full-size map", depot_map, random_walk(rng, depot_map, rng.choice([1, 4, 16, 64])))
 
@@ -353,8 +378,7 @@ def dense_sample(rng):
     east, west = builder.row_of_nodes(2)
     for number in range(1_024):
         start, end = (east, west) if number % 2 else (west, east)
-        builder.line(start, end, rng.choice([1, 586, 1_000, 150_000]), bearing_out=rng.randrange(360),
-                     bearing_back=rng.randrange(360))
+        builder.line(start, end, rng.choice([1, 586, 1_000, 150_000]), steps_out=any_steps(rng), steps_back=any_steps(rng))
     depot_map = builder.build()
     return Sample("two nodes, 1,024 lines", depot_map, random_walk(rng, depot_map, rng.choice([1, 4, 64])))
 
@@ -393,7 +417,7 @@ def full_size_sample(rng, turn=None):
 
     The stretch heeds the bans three times out of four.
     """
-    sample = (dense_sample if rng.random() < 0.2 else full_sample)(rng)
+    sample = sample_redrawn(rng, (dense_sample if rng.random() < 0.2 else full_sample)(rng))
     make_pairs, count = FULL_SIZE_BANS[turn % len(FULL_SIZE_BANS)] if turn is not None else rng.choice(FULL_SIZE_BANS)
     depot_map = replace(sample.depot_map, bans=tuple(make_pairs(rng, sample.depot_map.lines, count)))
     return replace(sample, depot_map=depot_map, stretch=random_walk(rng, depot_map, len(sample.stretch), rng.random() < 0.75))

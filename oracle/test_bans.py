@@ -4,6 +4,7 @@ import unittest
 from dataclasses import replace
 
 from depot_map import DepotMap, Line, Node, map_to_bytes, read_map
+from drawn_steps import EASTWARD, WESTWARD
 from legs import Leg, LegSearch, Marks, readings_by_enumeration
 from outcome import Refused, ReferenceWritten, StretchRead, outcome_text
 from reader import read
@@ -69,10 +70,11 @@ class RidgeWithATurnBanned(unittest.TestCase):
 
 
 class BansOfAMap(unittest.TestCase):
-    MAP = TWO_NODES + "02 00 01 E807 03 03 5A 8E02 01 00 E807 03 03 8E02 5A"
+    MAP = TWO_NODES + "02 00 01 E807 03 03 C203 FA01 32 FA01 01 00 E807 03 03 32 FA01 C203 FA01"
 
     def test_bytes_by_hand(self):
-        depot_map = DepotMap((Node(0, 0), Node(1000, 0)), (Line(0, 1, 1000, 3, 3, 90, 270), Line(1, 0, 1000, 3, 3, 270, 90)), ((1, 0), (0, 1)))
+        lines = (Line(0, 1, 1000, 3, 3, EASTWARD, WESTWARD), Line(1, 0, 1000, 3, 3, WESTWARD, EASTWARD))
+        depot_map = DepotMap((Node(0, 0), Node(1000, 0)), lines, ((1, 0), (0, 1)))
         self.assertEqual(read_map(bytes.fromhex(self.MAP + "02 01 00 00 01")), depot_map)
         self.assertEqual(map_to_bytes(depot_map), bytes.fromhex(self.MAP + "02 01 00 00 01"))
 
@@ -101,8 +103,8 @@ class BansOfAMap(unittest.TestCase):
         self.assertEqual(refusal_of_hex(self.MAP + "FFFFFFFF0F"), 3)
 
     def test_first_faulty_number_decides(self):
-        wrong_bearing = TWO_NODES + "01 00 01 E807 03 03 5A E802"
-        rows = [(wrong_bearing + "8104", 5), (self.MAP + "8104 8000", 3), (self.MAP + "8000 8104", 2), (self.MAP + "8104 00", 3)]
+        wrong_step = TWO_NODES + "01 00 01 E807 03 03 C203 FA01 32 F503"
+        rows = [(wrong_step + "8104", 24), (self.MAP + "8104 8000", 3), (self.MAP + "8000 8104", 2), (self.MAP + "8104 00", 3)]
         for text, refusal in rows:
             self.assertEqual(refusal_of_hex(text), refusal, text)
 

@@ -5,8 +5,8 @@ from dataclasses import replace
 
 import cases
 from check_host import read_calls, write_calls
-from crossings import reading_steps, stretch_steps
-from damages import LINE_FIELDS
+from crossings import reading_moves, stretch_moves
+from damages import LINE_FIELDS, STEP_FIELDS, STEP_PAIRS
 from depot_map import map_to_bytes, read_map
 from legs import LegSearch, Readings, has_banned_pair, list_length, passes_a_node_twice
 from outcome import Refused, RefusedCall, ReferenceWritten, StretchRead
@@ -18,7 +18,7 @@ from write_recipes import write_outcome
 from writer import skip_lines
 
 # Enough for each recipe to go through its edges at least once.
-MAP_CASES, LEG_CASES, READ_CASES, WRITE_CASES = 480, 480, 940, 832
+MAP_CASES, LEG_CASES, READ_CASES, WRITE_CASES = 540, 540, 1_000, 891
 MERIDIAN_MAP_CASES, MERIDIAN_READ_CASES, MERIDIAN_WRITE_CASES = 60, 120, 128
 KINDS = (cases.map_cases, cases.leg_cases, cases.read_cases, cases.write_cases, cases.leg_cases_across, cases.read_cases_across, cases.write_cases_across,
          cases.meridian_map_cases, cases.meridian_read_cases, cases.meridian_write_cases)
@@ -87,9 +87,9 @@ class Coverage(CaseTests):
         self.assertEqual(given, set(numbers))
 
     def test_every_refusal_occurs(self):
-        self.check_refusals(self.map_cases, [*range(2, 7), 23])
-        self.check_refusals(self.write_cases, [*range(1, 12), 21, 23])
-        self.check_refusals(self.read_cases, [*range(1, 7), *range(12, 21), 22, 23])
+        self.check_refusals(self.map_cases, [*range(2, 7), 23, 24])
+        self.check_refusals(self.write_cases, [*range(1, 12), 21, 23, 24])
+        self.check_refusals(self.read_cases, [*range(1, 7), *range(12, 21), 22, 23, 24])
 
     def test_every_number_of_readings_occurs(self):
         self.assertEqual({case.expected.how_many for case in self.leg_cases}, {"none", "one", "several"})
@@ -114,6 +114,32 @@ class Coverage(CaseTests):
                 aim = f"refusal 5: {name} of the {place} line"
                 self.assertTrue(any(label.startswith(aim) for label in labels), aim)
             self.assertIn(f"refusal 5: equal ends of the {place} line", labels)
+
+    def test_steps_are_wrong_in_the_first_and_in_the_last_line(self):
+        labels = {case.label for case in self.map_cases}
+        for place in ("first", "last"):
+            self.assertLessEqual({f"refusal 24: {name} of the {place} line {value}" for name in STEP_FIELDS for value in (501, 5_000, 4_294_967_295)}, labels)
+            self.assertLessEqual({f"refusal 24: both steps {pair} of the {place} line zero" for pair in STEP_PAIRS}, labels)
+
+    def test_calls_with_wrong_steps(self):
+        # Both zero, and each step out of range.
+        for made in (self.read_cases, self.write_cases):
+            details = {detail for detail, _ in labelled(made, "refusal 24")}
+            self.assertLessEqual({f"both steps {pair} of the first line zero" for pair in STEP_PAIRS}, details)
+            self.assertLessEqual({f"{name} of the first line 501" for name in STEP_FIELDS}, details)
+
+    def test_maps_end_inside_each_step(self):
+        labels = {case.label for case in self.map_cases}
+        self.assertLessEqual({f"refusal 2: ends {where} the last {name}" for where in ("before", "inside") for name in STEP_FIELDS}, labels)
+
+    def test_lines_on_the_sides_of_an_edge(self):
+        # Of one sector they cannot be told apart. Of neighbouring ones they can, by steps out or back.
+        for made, answers in ((self.leg_cases, ("several", "one")), (self.read_cases, (18, None)), (self.write_cases, (10, None))):
+            found = labelled(made, "sides of an edge")
+            for detail, case in found:
+                answer = getattr(case.expected, "how_many", getattr(case.expected, "number", None))
+                self.assertEqual(answer, answers[detail != "two lines of one sector"], case.label)
+            self.assertEqual({detail for detail, _ in found}, {"two lines of one sector", "two lines of neighbouring sectors"})
 
     def test_refusals_with_a_place_occur_at_the_first_and_at_the_last(self):
         # A reference of n points has the points 0 to n - 1 and the legs 0 to n - 2.
@@ -398,18 +424,18 @@ class Meridian(CaseTests):
         refused = {detail for detail, case in labelled(self.map_cases, "two nodes at the meridian") if case.expected == Refused(6)}
         self.assertEqual(refused, {"(17999997, 17999998)", "(-18000000, -17999999)"})
 
-    def steps(self, recipe):
-        """The steps over the meridian of the readings of a recipe."""
+    def moves(self, recipe):
+        """The moves over the meridian of the readings of a recipe."""
         made = [case for _, case in labelled(self.read_cases, recipe)]
-        found = [step for case in made for step in reading_steps(read_map(case.given.map_bytes), case.given.reference)]
-        return [step for step in found if step.crosses()]
+        found = [move for case in made for move in reading_moves(read_map(case.given.map_bytes), case.given.reference)]
+        return [move for move in found if move.crosses()]
 
     def test_points_across_at_the_ends_of_16_bits(self):
-        steps = self.steps("point across the meridian")
-        self.assertTrue(all(step.found for step in steps))
-        self.assertLessEqual({2, 3, 32_766, 32_767, -2, -3, -32_767, -32_768}, {step.difference for step in steps})
+        moves = self.moves("point across the meridian")
+        self.assertTrue(all(move.found for move in moves))
+        self.assertLessEqual({2, 3, 32_766, 32_767, -2, -3, -32_767, -32_768}, {move.difference for move in moves})
         for east in (True, False):
-            places = {(step.start.longitude, step.end.longitude) for step in steps if (step.difference > 0) == east}
+            places = {(move.start.longitude, move.end.longitude) for move in moves if (move.difference > 0) == east}
             near, far = (LAST_BEFORE, FIRST_BEHIND) if east else (FIRST_BEHIND, LAST_BEFORE)
             self.assertIn((near, far), places)
             self.assertTrue(any(start == near and end != far for start, end in places))
@@ -417,20 +443,20 @@ class Meridian(CaseTests):
 
     def test_sums_of_17_999_999(self):
         for detail, case in labelled(self.read_cases, "refusal 16, a sum of 17,999,999"):
-            *_, last = reading_steps(read_map(case.given.map_bytes), case.given.reference)
+            *_, last = reading_moves(read_map(case.given.map_bytes), case.given.reference)
             self.assertEqual((last.end.longitude, last.found), (17_999_999, False), detail)
         details = {detail for detail, _ in labelled(self.read_cases, "refusal 16, a sum of 17,999,999")}
         self.assertLessEqual({f"difference {number}" for number in (1, 32_767, -1, -32_768)}, details)
 
     def test_no_node_across(self):
-        steps = self.steps("refusal 16, next to a node across the meridian")
-        self.assertFalse(any(step.found for step in steps))
-        self.assertEqual({step.difference > 0 for step in steps}, {True, False})
+        moves = self.moves("refusal 16, next to a node across the meridian")
+        self.assertFalse(any(move.found for move in moves))
+        self.assertEqual({move.difference > 0 for move in moves}, {True, False})
 
     def test_latitudes_beyond_both_poles(self):
         latitudes = set()
         for _, case in labelled(self.read_cases, "refusal 16, over a pole"):
-            *_, last = reading_steps(read_map(case.given.map_bytes), case.given.reference)
+            *_, last = reading_moves(read_map(case.given.map_bytes), case.given.reference)
             self.assertGreater(abs(last.end.latitude), 9_000_000)
             latitudes.add(last.end.latitude)
         self.assertLessEqual({9_000_001, -9_000_001}, latitudes)
@@ -450,12 +476,12 @@ class Meridian(CaseTests):
             remaining, _, _ = skip_lines(depot_map, given.lines, given.pos, given.neg)
             self.assertEqual((len(remaining), len(take_apart(case.expected.reference).points)), (1, 2))
             self.assertEqual(write_outcome(replace(given, pos=0, neg=0)), Refused(10))
-            crossings |= {(step.crosses(), step.difference) for step in stretch_steps(depot_map, remaining)}
+            crossings |= {(move.crosses(), move.difference) for move in stretch_moves(depot_map, remaining)}
         self.assertEqual(crossings, {(False, 400), (False, -400), (True, 400), (True, -400)})
 
     def test_half_a_circle(self):
-        plain = {step.end.longitude - step.start.longitude for _, case in labelled(self.write_cases, "refusal 10, half a circle")
-                 for step in stretch_steps(read_map(case.given.map_bytes), case.given.lines)}
+        plain = {move.end.longitude - move.start.longitude for _, case in labelled(self.write_cases, "refusal 10, half a circle")
+                 for move in stretch_moves(read_map(case.given.map_bytes), case.given.lines)}
         self.assertLessEqual({17_999_999, 18_000_000, 18_000_001, -17_999_999, -18_000_000, -18_000_001}, plain)
 
 

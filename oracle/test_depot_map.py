@@ -1,19 +1,20 @@
-"""Map bytes, worked by hand, and refusals 2 to 6. Bans and refusal 23 are in test_bans.py."""
+"""Map bytes, worked by hand, and refusals 2 to 6. Bans and refusal 23 are in test_bans.py, refusal 24 is in test_steps.py."""
 
 import random
 import unittest
 from dataclasses import replace
 
 from damages import map_damages, not_shortest
-from depot_map import (MOST_BANS, DepotMap, Line, Node, map_numbers, map_to_bytes, numbers_to_bytes, read_map, read_number,
+from depot_map import (MOST_BANS, DepotMap, Line, Node, Steps, map_numbers, map_to_bytes, numbers_to_bytes, read_map, read_number,
                        write_number)
+from drawn_steps import EASTWARD, WESTWARD
 from outcome import RefusedCall
 from sample_maps import SMALL_SAMPLES, full_sample, joining_pairs, ridge_map
 
 # 18,000,000 is 80 D1 CA 08, 18,001,000 is E8 D8 CA 08 and 9,000,000 is C0 A8 A5 04.
-# 1000 is E8 07, 90 is 5A and 270 is 8E 02.
+# 1000 is E8 07. Steps of 200, -200 and 0 are 450, 50 and 250: C2 03, 32 and FA 01.
 TWO_NODES = "02 80D1CA08 C0A8A504 E8D8CA08 C0A8A504"
-ONE_LINE = "01 00 01 E807 03 03 5A 8E02"
+ONE_LINE = "01 00 01 E807 03 03 C203 FA01 32 FA01"
 NO_BANS = "00"
 
 
@@ -53,7 +54,7 @@ class Numbers(unittest.TestCase):
 
 class GoodMaps(unittest.TestCase):
     def test_smallest_map_by_hand(self):
-        expected = DepotMap((Node(0, 0), Node(1000, 0)), (Line(0, 1, 1000, 3, 3, 90, 270),))
+        expected = DepotMap((Node(0, 0), Node(1000, 0)), (Line(0, 1, 1000, 3, 3, EASTWARD, WESTWARD),))
         self.assertEqual(read_map(bytes.fromhex(TWO_NODES + ONE_LINE + NO_BANS)), expected)
         self.assertEqual(map_to_bytes(expected), bytes.fromhex(TWO_NODES + ONE_LINE + NO_BANS))
 
@@ -65,7 +66,7 @@ class GoodMaps(unittest.TestCase):
 
     def test_greatest_values_are_accepted(self):
         nodes = (Node(-18_000_000, -9_000_000), Node(17_999_998, 9_000_000))
-        lines = (Line(0, 1, 1, 0, 0, 0, 0), Line(1, 0, 150_000, 7, 7, 359, 359))
+        lines = (Line(0, 1, 1, 0, 0, Steps(-250, -250), Steps(0, -250)), Line(1, 0, 150_000, 7, 7, Steps(250, 250), Steps(250, 0)))
         self.assertEqual(read_map(map_to_bytes(DepotMap(nodes, lines))), DepotMap(nodes, lines))
 
 
@@ -74,7 +75,7 @@ class RefusedMaps(unittest.TestCase):
         self.assertEqual(refusal_of_hex(""), 2)
         self.assertEqual(refusal_of_hex("80 00"), 2)
         self.assertEqual(refusal_of_hex(TWO_NODES), 2)
-        self.assertEqual(refusal_of_hex(TWO_NODES + "01 00 01 E807 03 03 5A 8E"), 2)
+        self.assertEqual(refusal_of_hex(TWO_NODES + "01 00 01 E807 03 03 C203 FA01 32 FA"), 2)
         self.assertEqual(refusal_of_hex(TWO_NODES + ONE_LINE + NO_BANS + "00"), 2)
 
     def test_refusal_3_by_hand(self):
@@ -91,16 +92,16 @@ class RefusedMaps(unittest.TestCase):
 
     def test_refusal_5_by_hand(self):
         for line in ("02", "00 02", "00 00", "01 01", "00 01 00", "00 01 F19309", "00 01 01 08",
-                     "00 01 01 07 08", "00 01 01 07 07 E802", "00 01 01 07 07 E702 E802"):
+                     "00 01 01 07 08"):
             self.assertEqual(refusal_of_hex(TWO_NODES + "01" + line), 5, line)
 
     def test_refusal_6_by_hand(self):
         nodes = (Node(0, 0), Node(1, 0))
-        self.assertEqual(refusal_of(map_to_bytes(DepotMap(nodes, (Line(0, 1, 1, 0, 0, 0, 0),)))), 6)
+        self.assertEqual(refusal_of(map_to_bytes(DepotMap(nodes, (Line(0, 1, 1, 0, 0, EASTWARD, WESTWARD),)))), 6)
 
     def test_nodes_with_one_equal_code_are_not_refused(self):
         nodes = (Node(0, 0), Node(0, 3), Node(3, 0))
-        self.assertIsNone(refusal_of(map_to_bytes(DepotMap(nodes, (Line(0, 1, 1, 0, 0, 0, 0),)))))
+        self.assertIsNone(refusal_of(map_to_bytes(DepotMap(nodes, (Line(0, 1, 1, 0, 0, EASTWARD, WESTWARD),)))))
 
     def test_first_faulty_number_decides(self):
         # Each row: a fault, then a fault of another kind after it.
@@ -121,7 +122,7 @@ class RefusedMaps(unittest.TestCase):
         self.assertEqual(refusal_of(numbers_to_bytes(numbers)), 2)
 
     def test_left_over_bytes_come_last_but_before_refusal_6(self):
-        wrong_line = TWO_NODES + "01 00 01 E807 03 03 5A E802"
+        wrong_line = TWO_NODES + "01 00 01 E807 03 08 C203 FA01 32 FA01"
         self.assertEqual(refusal_of_hex(wrong_line + NO_BANS + "00"), 5)
         same_nodes = "02 80D1CA08 C0A8A504 80D1CA08 C0A8A504" + ONE_LINE + NO_BANS
         self.assertEqual(refusal_of_hex(same_nodes + "00"), 2)

@@ -1,4 +1,4 @@
-"""Fields against the worked values of the scope paper ("At the edges") and against their plain meaning."""
+"""Fields against the worked values of the scope paper ("At the edges") and against their plain meaning. Sectors are in test_steps.py."""
 
 import random
 import unittest
@@ -6,7 +6,7 @@ from fractions import Fraction
 
 from depot_map import Node
 from fields import (brought_round, coordinate_code, differences, differences_fit, distance_byte, offset_byte, offset_span,
-                    offset_span_by_trying, sector)
+                    offset_span_by_trying)
 
 
 class CoordinateCodes(unittest.TestCase):
@@ -44,14 +44,6 @@ class SmallFields(unittest.TestCase):
             byte = distance_byte(length)
             self.assertTrue(586 * byte <= length < 586 * (byte + 1))
             self.assertLessEqual(byte, 255)
-
-    def test_sector_worked_out_in_the_scope_paper(self):
-        self.assertEqual([sector(bearing) for bearing in (11, 12, 359)], [0, 1, 31])
-
-    def test_sector_is_an_interval_of_the_white_papers_table_17(self):
-        for bearing in range(360):
-            lower_edge = Fraction(1125, 100) * sector(bearing)
-            self.assertTrue(lower_edge <= bearing < lower_edge + Fraction(1125, 100))
 
     def test_differences_are_of_coordinates_and_fit_16_bits_at_their_ends(self):
         origin = Node(1, -1)

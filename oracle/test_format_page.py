@@ -4,10 +4,13 @@ import unittest
 from pathlib import Path
 
 from depot_map import map_to_bytes, read_map
+from drawn_steps import all_steps
+from fields import sector
 from format_page import format_page
 from outcome import Refused
 from sample_maps import ridge_map
 from test_scope_paper import RIDGE, THREE_POINTS, THREE_POINTS_OFFSET_500, TWO_POINTS
+from test_stored_cases import EVERY_WRONG_STEP, wrong_step
 
 ROOT = Path(__file__).parent.parent
 PAGE = format_page()
@@ -21,14 +24,27 @@ class FormatPage(unittest.TestCase):
 
     def test_every_refusal_has_an_example(self):
         refused = {call.answer.number for call in PAGE.calls if isinstance(call.answer, Refused)}
-        self.assertEqual(refused, set(range(1, 24)))
+        self.assertEqual(refused, set(range(1, 25)))
 
     def test_formulas(self):
         for formula in PAGE.formulas:
             with self.subTest(formula.text):
                 self.assertEqual(formula.said, formula.computed)
         kinds = {formula.text.split()[0] for formula in PAGE.formulas}
-        self.assertEqual(kinds, {"number", "code", "difference", "longitudes", "sector", "D", "offset", "span"})
+        self.assertEqual(kinds, {"number", "code", "difference", "longitudes", "step", "sector", "D", "offset", "span"})
+
+    def test_sector_as_the_page_finds_it(self):
+        # The page squares twice, this implementation compares with the edges: they agree on every pair of steps.
+        program, = PAGE.programs
+        given = {}
+        exec(program, given)
+        for steps in all_steps():
+            self.assertEqual(given["sector"](*steps), sector(steps), steps)
+
+    def test_24_has_an_example_of_each_kind(self):
+        # Every step out of range, and both zero out and back.
+        wrong = {wrong_step(call.map_bytes) for call in PAGE.calls if call.answer == Refused(24)}
+        self.assertEqual(wrong, EVERY_WRONG_STEP)
 
     def test_bytes_of_the_ridge(self):
         names = PAGE.names

@@ -6,6 +6,7 @@ from dataclasses import replace
 
 from cases import LEG_RECIPES
 from depot_map import DepotMap, Line, Node
+from drawn_steps import EASTWARD, SOUTHWARD, WESTWARD, steps_of_sector
 from legs import Leg, LegSearch, Marks, Readings, describe_leg, passes_a_node_twice, readings_by_enumeration
 from sample_maps import MapBuilder, chain_sample, joining_pairs, random_walk
 from test_scope_paper import row_map
@@ -26,11 +27,10 @@ def random_tiny_map(rng, most_nodes, most_lines):
     builder.row_of_nodes(rng.randrange(2, most_nodes + 1))
     lengths = rng.choice([[1], [1, 2], [100, 200, 300], [292, 293, 586],
                           [49_999, 50_000, 75_000, 75_001, 150_000]])
-    classes, bearings = rng.choice([[3], [3, 4]]), rng.choice([[90], [90, 180]])
+    classes, drawn = rng.choice([[3], [3, 4]]), rng.choice([[EASTWARD], [EASTWARD, SOUTHWARD]])
     for _ in range(rng.randrange(1, most_lines + 1)):
         start, end = rng.sample(range(len(builder.nodes)), 2)
-        builder.line(start, end, rng.choice(lengths), rng.choice(classes), 3, rng.choice(bearings),
-                     rng.choice(bearings))
+        builder.line(start, end, rng.choice(lengths), rng.choice(classes), 3, rng.choice(drawn), rng.choice(drawn))
     share = rng.choice([0, 0.1, 0.3, 0.6])
     builder.bans += [pair for pair in joining_pairs(builder.lines) if rng.random() < share]
     return builder.build()
@@ -42,7 +42,7 @@ def random_knot(rng):
     builder.row_of_nodes(rng.randrange(3, 5))
     for number in range(rng.randrange(6, 10)):
         start, end = rng.sample(range(len(builder.nodes)), 2)
-        builder.line(start, end, 1, bearing_out=12 * number, bearing_back=12 * number)
+        builder.line(start, end, 1, steps_out=steps_of_sector(rng, number), steps_back=steps_of_sector(rng, number))
     builder.bans += [pair for pair in joining_pairs(builder.lines) if rng.random() < 0.4]
     return builder.build()
 
@@ -91,7 +91,7 @@ class WorkedLegs(unittest.TestCase):
         # The shorter way has FRC 4; a lowest class of 3 leaves it out.
         nodes = tuple(Node(1000 * number, 0) for number in range(2))
         depot_map = DepotMap(nodes + (Node(0, 1000),), (
-            Line(2, 0, 100, 3, 3, 90, 270), Line(0, 1, 200, 4, 3, 90, 270), Line(0, 1, 300, 3, 3, 90, 270)))
+            Line(2, 0, 100, 3, 3, EASTWARD, WESTWARD), Line(0, 1, 200, 4, 3, EASTWARD, WESTWARD), Line(0, 1, 300, 3, 3, EASTWARD, WESTWARD)))
         self.check(depot_map, Leg(2, 1, EAST, 3, 0), (0, 2))
         self.check(depot_map, Leg(2, 1, EAST, 4, 0), (0, 1))
 
@@ -150,7 +150,7 @@ class CountingAgainstEnumeration(unittest.TestCase):
         rng = random.Random("knots")
         by_a_ban = {"none": 0, "one": 0, "several": 0}
         node_twice = 0
-        for _ in range(3_000):
+        for _ in range(4_500):
             depot_map = random_knot(rng)
             first, last = (rng.randrange(len(depot_map.lines)) for _ in range(2))
             leg = describe_leg(depot_map, (first, last), rng.random() < 0.7)

@@ -6,6 +6,7 @@ from dataclasses import replace
 from unittest import mock
 
 from depot_map import DepotMap, Line, Node, map_to_bytes, read_map
+from drawn_steps import EASTWARD, NORTHWARD, WESTWARD
 from fields import brought_round, code_pair, differences, differences_fit
 from meridian_recipes import reference_across
 from outcome import Refused, RefusedCall, ReferenceWritten, StretchRead
@@ -45,7 +46,7 @@ def road(*nodes, bans=()):
     """Nodes, and a line from each to the next and one back: lines 0, 2, .. lead on, lines 1, 3, .. back."""
     lines = []
     for start in range(len(nodes) - 1):
-        lines += [Line(start, start + 1, 1_000, 3, 3, 90, 270), Line(start + 1, start, 1_000, 3, 3, 270, 90)]
+        lines += [Line(start, start + 1, 1_000, 3, 3, EASTWARD, WESTWARD), Line(start + 1, start, 1_000, 3, 3, WESTWARD, EASTWARD)]
     return DepotMap(tuple(Node(*node) for node in nodes), tuple(lines), tuple(bans))
 
 
@@ -274,7 +275,7 @@ def sample_around_the_earth(rng):
         longitude = rng.choice([LAST_BEFORE, LAST_BEFORE - 16_000, FIRST_BEHIND, FIRST_BEHIND + 16_000, 0, -1, -2, anywhere])
         builder.node(longitude, 400 * number)
     for _ in range(rng.randrange(3, 12)):
-        builder.line(*rng.sample(range(len(builder.nodes)), 2), rng.choice([100, 586, 1_000, 75_000]), bearing_out=rng.choice([0, 90]))
+        builder.line(*rng.sample(range(len(builder.nodes)), 2), rng.choice([100, 586, 1_000, 75_000]), steps_out=rng.choice([NORTHWARD, EASTWARD]))
     depot_map = builder.build()
     return Sample("around the earth", depot_map, random_walk(rng, depot_map, rng.randrange(1, 6)))
 
@@ -348,7 +349,7 @@ class ShiftedMaps(unittest.TestCase):
             depot_map = make_sample(rng).depot_map
             moved = across_meridian(depot_map)
             longitudes = {node.longitude for node in moved.nodes}
-            self.assertTrue(lies_across(moved))
+            self.assertTrue(lies_across(moved) or len(longitudes) == 1)
             self.assertEqual(read_map(map_to_bytes(moved)), moved)
             self.assertEqual(moved, across_meridian(depot_map))
             places |= longitudes & {LAST_BEFORE, FIRST_BEHIND}

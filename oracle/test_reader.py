@@ -1,4 +1,7 @@
-"""Refusals 1 to 6 and 12 to 20 of the reader by hand-made cases, the order of all, and what is accepted. Refusals 22 and 23 are in test_bans.py."""
+"""Refusals 1 to 6, 24 and 12 to 20 of the reader by hand-made cases, the order of all, and what is accepted.
+
+Refusals 22 and 23 are in test_bans.py, and more of 24 is in test_steps.py.
+"""
 
 import itertools
 import random
@@ -7,6 +10,7 @@ from dataclasses import replace
 
 from damages import reference_damages
 from depot_map import DepotMap, Line, Node, map_numbers, map_to_bytes, numbers_to_bytes, read_map
+from drawn_steps import EASTWARD, WESTWARD
 from outcome import Refused, StretchRead
 from read_recipes import read_outcome, written_input
 from reader import read
@@ -35,11 +39,12 @@ class EachRefusal(unittest.TestCase):
         for work_length in (0, 14_335):
             self.check(ROW_REFERENCE, 1, work_length=work_length)
 
-    def test_2_to_6(self):
+    def test_2_to_6_and_24(self):
         numbers = map_numbers(ROW)
         self.check(ROW_REFERENCE, 2, map_bytes=ROW_BYTES[:-1])
-        last_bearing = len(numbers) - 2
-        for index, value, refusal in ((0, 1, 3), (6, 18_000_001, 4), (last_bearing, 360, 5), (3, 18_000_001, 6)):
+        last_step = len(numbers) - 2
+        last_form = last_step - 4
+        for index, value, refusal in ((0, 1, 3), (6, 18_000_001, 4), (last_form, 8, 5), (last_step, 501, 24), (3, 18_000_001, 6)):
             self.check(ROW_REFERENCE, refusal,
                        map_bytes=numbers_to_bytes(numbers[:index] + [value] + numbers[index + 1:]))
 
@@ -117,10 +122,12 @@ class EachRefusal(unittest.TestCase):
 
 class OrderOfRefusals(unittest.TestCase):
     # Faults that can be put in independently. The upper one in the order must be given.
-    ORDER = (1, 2, 3, 5, 23, 12, 13, 14, 15, 16, 17, 22, 19, 20)
-    LAST_BEARING = len(ROW_BYTES) - 3
+    ORDER = (1, 2, 3, 5, 24, 23, 12, 13, 14, 15, 16, 17, 22, 19, 20)
+    # Line 1 ends with FOW 03, steps out C203 FA01 and steps back 32 FA01. Then comes the count of bans. 506 is FA 03.
+    LAST_FORM, LAST_STEP = len(ROW_BYTES) - 9, len(ROW_BYTES) - 3
     MAP_FAULTS = {2: lambda map_bytes: map_bytes + b"\x00", 3: lambda map_bytes: changed(map_bytes, 0, 1),
-                  5: lambda map_bytes: changed(map_bytes, OrderOfRefusals.LAST_BEARING, 0xE8)}
+                  5: lambda map_bytes: changed(map_bytes, OrderOfRefusals.LAST_FORM, 8),
+                  24: lambda map_bytes: changed(map_bytes, OrderOfRefusals.LAST_STEP + 1, 3)}
     # The joint of the two legs, and a line and itself.
     BAN_FAULTS = {22: (0, 1), 23: (0, 0)}
     REFERENCE_FAULTS = {12: lambda data: data + b"\x00", 13: lambda data: changed(data, STATUS, 0x0A),
@@ -140,13 +147,14 @@ class OrderOfRefusals(unittest.TestCase):
     def test_upper_row_of_two(self):
         self.assertEqual(set(self.ORDER), {1, *self.MAP_FAULTS, *self.BAN_FAULTS, *self.REFERENCE_FAULTS, 20})
         for pair in itertools.combinations(self.ORDER, 2):
-            if pair in ((2, 3), (2, 5)):
-                continue  # Among 2 to 5 the first faulty number decides; left-over bytes come last.
+            if pair in ((2, 3), (2, 5), (2, 24)):
+                continue  # Among 2 to 5 and 24 the first faulty number decides; left-over bytes come last.
             self.assertEqual(self.outcome(pair).number, pair[0], pair)
 
     def test_left_over_bytes_come_after_other_faults_of_the_map(self):
         self.assertEqual(self.outcome((2, 3)), Refused(3))
         self.assertEqual(self.outcome((2, 5)), Refused(5))
+        self.assertEqual(self.outcome((2, 24)), Refused(24))
 
     def test_all_points_before_all_legs(self):
         self.assertEqual(self.outcome((16, 17)), Refused(16, 2))
@@ -155,7 +163,7 @@ class OrderOfRefusals(unittest.TestCase):
         # The ridge twice, joined: the first leg ties, the second has no reading, and the other way around.
         nodes = tuple(Node(1000 * number, 500 * (number % 3 == 2)) for number in range(7))
         ridge = ((0, 1, 100), (1, 3, 200), (1, 2, 100), (2, 3, 100))
-        lines = tuple(Line(start + shift, end + shift, length, 3, 3, 90, 270)
+        lines = tuple(Line(start + shift, end + shift, length, 3, 3, EASTWARD, WESTWARD)
                       for shift in (0, 3) for start, end, length in ridge)
         map_bytes = map_to_bytes(DepotMap(nodes, lines))
         tie_then_none = bytes.fromhex("0B 000000 000000 1B 68 00 0BB8 0000 1B 68 07 0BB8 0000 1B 18")
@@ -190,7 +198,7 @@ class Accepted(unittest.TestCase):
 
     def test_first_codes_may_be_of_another_coordinate(self):
         # Nodes at 2 and 3 have the code 1; the node at 3 is found, and the next is 3 plus the difference.
-        depot_map = DepotMap((Node(3, 0), Node(1003, 0)), (Line(0, 1, 1000, 3, 3, 90, 270),))
+        depot_map = DepotMap((Node(3, 0), Node(1003, 0)), (Line(0, 1, 1000, 3, 3, EASTWARD, WESTWARD),))
         reference = bytes.fromhex("0B 000001 000000 1B 68 01 03E8 0000 1B 18")
         self.assertEqual(read(map_to_bytes(depot_map), reference, WORK, 1), StretchRead((0,), (0, 0), (0, 0)))
 

@@ -1,8 +1,13 @@
-"""What the scope paper works out by hand: "The tie at the ridge", "At the edges", "Ways to go wrong"."""
+"""What the scope paper works out by hand: "The tie at the ridge", "At the edges", "Ways to go wrong".
+
+Paper 02, "Bearings from the drawing": "The ridge map takes steps of the same sectors, and these three cases replace the marked ones on bearings."
+"""
 
 import unittest
 
-from depot_map import DepotMap, Line, Node, map_to_bytes, read_map
+from depot_map import DepotMap, Line, Node, Steps, map_to_bytes, read_map
+from drawn_steps import EASTWARD, NORTHWARD, SOUTHWARD, WESTWARD
+from fields import sector
 from legs import LegSearch, Marks, Leg
 from outcome import Refused, ReferenceWritten, StretchRead, outcome_text
 from reader import read
@@ -11,8 +16,8 @@ from writer import reference_of_legs, write
 
 WORK = 14_336
 RIDGE_NODES = (Node(0, 0), Node(1000, 0), Node(1000, 1000), Node(2000, 0))
-RIDGE_LINES = (Line(0, 1, 1000, 3, 3, 90, 270), Line(1, 3, 1000, 3, 3, 90, 270),
-               Line(1, 2, 500, 3, 3, 0, 180), Line(2, 3, 500, 3, 3, 135, 272))
+RIDGE_LINES = (Line(0, 1, 1000, 3, 3, EASTWARD, WESTWARD), Line(1, 3, 1000, 3, 3, EASTWARD, WESTWARD),
+               Line(1, 2, 500, 3, 3, NORTHWARD, SOUTHWARD), Line(2, 3, 500, 3, 3, Steps(141, -141), Steps(-200, 7)))
 RIDGE = map_to_bytes(DepotMap(RIDGE_NODES, RIDGE_LINES))
 THREE_POINTS = bytes.fromhex("0B 000000 000000 1B 68 01 03E8 0000 1B 68 01 03E8 0000 1B 18")
 THREE_POINTS_OFFSET_500 = bytes.fromhex("0B 000000 000000 1B 68 01 03E8 0000 1B 68 01 03E8 0000 1B 58 80")
@@ -23,7 +28,7 @@ def row_map(*lines, bans=()):
     """Nodes at longitude 0, 1000, 2000, ..., lines between them as (start, end, length), and banned pairs of lines."""
     last = max(max(line[:2]) for line in lines)
     nodes = tuple(Node(1000 * number, 0) for number in range(last + 1))
-    return DepotMap(nodes, tuple(Line(start, end, length, 3, 3, 90, 270) for start, end, length in lines), tuple(bans))
+    return DepotMap(nodes, tuple(Line(start, end, length, 3, 3, EASTWARD, WESTWARD) for start, end, length in lines), tuple(bans))
 
 
 class TieAtTheRidge(unittest.TestCase):
@@ -56,12 +61,16 @@ class TieAtTheRidge(unittest.TestCase):
     def test_way_over_the_ridge_takes_three_points_too(self):
         # With two points both ways fit here too. The first leg with most lines is 0, 2, and then comes 3.
         # Q of the first point: lowest class 3, sector 8. D of 1500 is 2. The last leg is 500 long, D is 0;
-        # line 3 leaves at 135 degrees, sector 12, and arrives at 272, sector 24.
+        # line 3 leaves to the south-east, sector 12, and arrives from just north of west, sector 24.
         expected = bytes.fromhex("0B 000000 000000 1B 68 02 03E8 03E8 1B 6C 00 03E8 FC18 1B 18")
         self.assertEqual(write(RIDGE, [0, 2, 3], 0, 0, WORK, 100), ReferenceWritten(expected))
 
 
 class AtTheEdges(unittest.TestCase):
+    def test_sectors_of_paper_02(self):
+        # In place of the bearings 11, 12 and 359.
+        self.assertEqual([sector(steps) for steps in ((0, 5), (5, 5), (-5, 0))], [0, 4, 24])
+
     def test_byte_80_on_a_leg_of_1000(self):
         depot_map = map_to_bytes(row_map((0, 1, 1000)))
         reference = bytes.fromhex("0B 000000 000000 1B 68 01 03E8 0000 1B 58 80")
@@ -73,7 +82,7 @@ class AtTheEdges(unittest.TestCase):
         self.assertEqual(read(depot_map, reference, WORK, 1), Refused(19))
 
     def test_nodes_at_longitude_0_and_1(self):
-        depot_map = DepotMap((Node(0, 7), Node(1, 7)), (Line(0, 1, 1000, 3, 3, 90, 270),))
+        depot_map = DepotMap((Node(0, 7), Node(1, 7)), (Line(0, 1, 1000, 3, 3, EASTWARD, WESTWARD),))
         self.assertEqual(write(map_to_bytes(depot_map), [0], 0, 0, WORK, 459), Refused(6))
         self.assertEqual(read(map_to_bytes(depot_map), THREE_POINTS, WORK, 459), Refused(6))
 
@@ -107,7 +116,7 @@ class WaysToGoWrong(unittest.TestCase):
         self.assertEqual(write(map_bytes, [0, 2, 3], 0, 0, WORK, 459), Refused(10))
 
     def test_negative_coordinates_are_not_rounded_by_a_floor(self):
-        depot_map = DepotMap((Node(-2, -100_000), Node(1000, -100_000)), (Line(0, 1, 1000, 3, 3, 90, 270),))
+        depot_map = DepotMap((Node(-2, -100_000), Node(1000, -100_000)), (Line(0, 1, 1000, 3, 3, EASTWARD, WESTWARD),))
         # -2 has the code -1 and -100,000 has the code -46,603, FF49F5 in 24 bits.
         expected = bytes.fromhex("0B FFFFFF FF49F5 1B 68 01 03EA 0000 1B 18")
         self.assertEqual(write(map_to_bytes(depot_map), [0], 0, 0, WORK, 16), ReferenceWritten(expected))
@@ -128,6 +137,11 @@ class WaysToGoWrong(unittest.TestCase):
 
 
 class DepotMapOfTheRidge(unittest.TestCase):
+    def test_steps_have_the_sectors_of_the_papers_bearings(self):
+        bearings = [(90, 270), (90, 270), (0, 180), (135, 272)]
+        sectors = [(sector(line.steps_out), sector(line.steps_back)) for line in RIDGE_LINES]
+        self.assertEqual(sectors, [(out * 4 // 45, back * 4 // 45) for out, back in bearings])
+
     def test_map_is_read_as_the_paper_lists_it(self):
         self.assertEqual(read_map(RIDGE), DepotMap(RIDGE_NODES, RIDGE_LINES))
 

@@ -1,18 +1,28 @@
-"""The stored cases of the test programs: every answer occurs, full-size maps with bans of each kind, and the edges of the 180th meridian.
+"""The stored cases of the test programs: every answer occurs, full-size maps with bans of each kind, the edges of the 180th meridian and those of sectors.
 
 That pack.py makes them is asked by its --check.
 """
 
 import unittest
+from dataclasses import replace
+from itertools import permutations
+from typing import NamedTuple
 
 from cases import map_outcome
 from check_plain import cases_on_maps, in_groups, numbers_in, parts_of
-from crossings import reading_steps, stretch_steps
+from crossings import reading_moves, stretch_moves
+from damages import LINE_NUMBERS, STEP_FIELDS, STEP_PAIRS
+from depot_map import read_number
+from drawn_steps import ENDS_OF_RANGE, steps_at_edges
+from fields import sector
 from outcome import Refused, RefusedCall
 from pack import CRATES, MOST_CASE_BYTES
 from sample_maps import FIRST_BEHIND, LAST_BEFORE, lies_across
 
-MAP_REFUSALS = {2, 3, 4, 5, 6, 23}
+STEPS = ("steps_out", "steps_back")
+NORTH_STEPS = {north for _, north in STEP_PAIRS.values()}
+MAP_REFUSALS = {2, 3, 4, 5, 6, 23, 24}
+PARTS_OF_A_CASE = {"test_maps": 1, "test_legs": 2, "test_reads": 3, "test_writes": 3}
 
 
 def case_bytes(name):
@@ -23,14 +33,19 @@ def rows(name):
     return (CRATES / name / "stdout").read_text().splitlines()
 
 
-def good_maps(name, parts_of_a_case):
-    """The maps that are not refused; each stands in the first part of a case."""
-    found = [map_outcome(map_bytes) for map_bytes, *_ in in_groups(parts_of(case_bytes(name)), parts_of_a_case)]
+def stored_maps(name):
+    """The bytes of the maps; each stands in the first part of a case."""
+    return [map_bytes for map_bytes, *_ in in_groups(parts_of(case_bytes(name)), PARTS_OF_A_CASE[name])]
+
+
+def good_maps(name):
+    """The maps that are not refused."""
+    found = [map_outcome(map_bytes) for map_bytes in stored_maps(name)]
     return [depot_map for depot_map in found if not isinstance(depot_map, Refused)]
 
 
-def full_size_maps(name, parts_of_a_case):
-    return [depot_map for depot_map in good_maps(name, parts_of_a_case) if len(depot_map.lines) == 1_024]
+def full_size_maps(name):
+    return [depot_map for depot_map in good_maps(name) if len(depot_map.lines) == 1_024]
 
 
 class StoredCases(unittest.TestCase):
@@ -51,9 +66,9 @@ class StoredCases(unittest.TestCase):
         self.assertLessEqual({0, 1, 2, 3, 512}, counts)
 
     def test_full_size_maps(self):
-        for name, parts_of_a_case in (("test_maps", 1), ("test_legs", 2), ("test_reads", 3), ("test_writes", 3)):
+        for name in PARTS_OF_A_CASE:
             with self.subTest(name):
-                maps = full_size_maps(name, parts_of_a_case)
+                maps = full_size_maps(name)
                 self.assertLessEqual({0, 40, 512}, {len(depot_map.bans) for depot_map in maps})
                 full = [depot_map for depot_map in maps if len(depot_map.bans) == 512]
                 # At how many junctions the bans are, and after how many lines.
@@ -68,7 +83,7 @@ class StoredCases(unittest.TestCase):
         self.assertEqual(sorted(counts)[-2:], [32_769, 65_473])
 
     def test_sizes(self):
-        for name in ("test_maps", "test_legs", "test_reads", "test_writes"):
+        for name in PARTS_OF_A_CASE:
             self.assertLessEqual(len(case_bytes(name)), MOST_CASE_BYTES)
 
 
@@ -83,15 +98,15 @@ def calls_on_good_maps(name):
 class AcrossTheMeridian(unittest.TestCase):
     @classmethod
     def setUpClass(cls):
-        """Of the readings, the steps from point to point where the bytes have their form; of the writings, stretches with their rows."""
+        """Of the readings, the moves from point to point where the bytes have their form; of the writings, stretches with their rows."""
         cls.reads = list(calls_on_good_maps("test_reads"))
-        cls.steps = []
+        cls.moves = []
         for depot_map, reference, _ in cls.reads:
             try:
-                cls.steps += reading_steps(depot_map, reference)
+                cls.moves += reading_moves(depot_map, reference)
             except RefusedCall:
                 continue
-        cls.crossings = [step for step in cls.steps if step.crosses()]
+        cls.crossings = [move for move in cls.moves if move.crosses()]
         cls.writes = [(depot_map, numbers_in(stretch), row) for depot_map, stretch, row in calls_on_good_maps("test_writes")]
 
     def answers_on_maps_across(self, calls):
@@ -104,29 +119,29 @@ class AcrossTheMeridian(unittest.TestCase):
         self.assertLessEqual({1, *range(7, 12), 21, "bytes"}, self.answers_on_maps_across(self.writes))
 
     def test_nodes_found_across_at_the_ends_of_16_bits(self):
-        found = {step.difference for step in self.crossings if step.found}
+        found = {move.difference for move in self.crossings if move.found}
         self.assertLessEqual({2, 32_766, 32_767, -2, -32_767, -32_768}, found)
 
     def test_nodes_found_next_to_the_meridian(self):
-        places = {(step.start.longitude, step.end.longitude) for step in self.crossings if step.found}
+        places = {(move.start.longitude, move.end.longitude) for move in self.crossings if move.found}
         self.assertLessEqual({(LAST_BEFORE, FIRST_BEHIND), (FIRST_BEHIND, LAST_BEFORE)}, places)
 
     def test_nodes_found_at_both_ends_of_the_longitudes_on_one_side(self):
-        ends = {step.end.longitude for step in self.steps if step.found and step.difference != 0 and not step.crosses()}
+        ends = {move.end.longitude for move in self.moves if move.found and move.difference != 0 and not move.crosses()}
         self.assertLessEqual({LAST_BEFORE, FIRST_BEHIND}, ends)
 
     def test_no_node_across(self):
         # Sums of 17,999,999 are counted by themselves.
-        missing = [step for step in self.crossings if not step.found and step.end.longitude != 17_999_999]
-        self.assertEqual({step.difference > 0 for step in missing}, {True, False})
+        missing = [move for move in self.crossings if not move.found and move.end.longitude != 17_999_999]
+        self.assertEqual({move.difference > 0 for move in missing}, {True, False})
 
     def test_sums_of_17_999_999(self):
-        sums = [step for step in self.steps if step.end.longitude == 17_999_999]
-        self.assertFalse(any(step.found for step in sums))
-        self.assertLessEqual({1, 32_767, -1, -32_768}, {step.difference for step in sums})
+        sums = [move for move in self.moves if move.end.longitude == 17_999_999]
+        self.assertFalse(any(move.found for move in sums))
+        self.assertLessEqual({1, 32_767, -1, -32_768}, {move.difference for move in sums})
 
     def test_latitudes_beyond_both_poles(self):
-        latitudes = {step.end.latitude for step in self.steps}
+        latitudes = {move.end.latitude for move in self.moves}
         self.assertLessEqual({9_000_001, -9_000_001}, latitudes)
 
     def test_lines_across_at_the_ends_of_16_bits(self):
@@ -134,32 +149,91 @@ class AcrossTheMeridian(unittest.TestCase):
         answers = {}
         for depot_map, lines, row in self.writes:
             if len(lines) == 1 and lines[0] < len(depot_map.lines):
-                step, = stretch_steps(depot_map, lines)
-                if step.crosses():
-                    answers.setdefault(step.difference, set()).add(row.split(" work")[0].split(" sum")[0])
+                move, = stretch_moves(depot_map, lines)
+                if move.crosses():
+                    answers.setdefault(move.difference, set()).add(row.split(" work")[0].split(" sum")[0])
         for difference in (2, -2, 32_766, 32_767, -32_767, -32_768):
             self.assertIn("bytes 16", answers.get(difference, ()), difference)
         for difference in (32_768, -32_769, 17_999_999, -17_999_999, -18_000_000):
             self.assertEqual(answers.get(difference), {"refused 10"}, difference)
 
     def test_nodes_35_999_998_apart(self):
-        plain = {step.end.longitude - step.start.longitude for step in self.crossings if step.found}
+        plain = {move.end.longitude - move.start.longitude for move in self.crossings if move.found}
         self.assertLessEqual({35_999_998, -35_999_998}, plain)
-        for name, parts_of_a_case in (("test_maps", 1), ("test_writes", 3)):
-            longitudes = [{node.longitude for node in depot_map.nodes} for depot_map in good_maps(name, parts_of_a_case)]
+        for name in ("test_maps", "test_writes"):
+            longitudes = [{node.longitude for node in depot_map.nodes} for depot_map in good_maps(name)]
             self.assertTrue(any({LAST_BEFORE, FIRST_BEHIND} <= found for found in longitudes), name)
 
     def test_stretches_across_with_bans_on_the_map(self):
         accepted = [depot_map for depot_map, lines, row in self.writes if row.startswith("bytes") and depot_map.bans
-                    and any(step.crosses() for step in stretch_steps(depot_map, lines))]
+                    and any(move.crosses() for move in stretch_moves(depot_map, lines))]
         self.assertGreater(len(accepted), 10)
 
     def test_maps_across_occur_in_every_program(self):
-        for name, parts_of_a_case in (("test_maps", 1), ("test_legs", 2), ("test_reads", 3), ("test_writes", 3)):
-            across = [depot_map for depot_map in good_maps(name, parts_of_a_case) if lies_across(depot_map)]
+        for name in PARTS_OF_A_CASE:
+            across = [depot_map for depot_map in good_maps(name) if lies_across(depot_map)]
             self.assertGreater(len(across), 15, name)
             if name != "test_legs":
                 self.assertIn(1_024, {len(depot_map.lines) for depot_map in across}, name)
+
+
+class WrongStep(NamedTuple):
+    """What refuses a map with 24: a step's field, and whether it is out of range or one of two that are zero."""
+    field: str
+    both_zero: bool
+
+
+# Both zero is the north step's fault.
+EVERY_WRONG_STEP = {WrongStep(name, False) for name in STEP_FIELDS} | {WrongStep(name, True) for name in NORTH_STEPS}
+
+
+def wrong_step(map_bytes):
+    """The faulty step of a map that is refused with 24. The numbers before it are good, so that they can be taken one after another."""
+    numbers, position = [], 0
+    while True:
+        number, position = read_number(map_bytes, position)
+        # Before the first line stand two counts and two numbers for each node.
+        numbers.append(number)
+        place = len(numbers) - 1 - (2 + 2 * numbers[0])
+        name = LINE_NUMBERS[place % len(LINE_NUMBERS)] if place >= 0 else None
+        both_zero = name in NORTH_STEPS and numbers[-2:] == [250, 250]
+        if both_zero or (name in STEP_FIELDS and number > 500):
+            return WrongStep(name, both_zero)
+
+
+def sectors_of_lines_alike(depot_map):
+    """For each two lines that differ in their steps out alone, or in their steps back alone: the sectors of the one and of the other."""
+    for line, other in permutations(depot_map.lines, 2):
+        for field in STEPS:
+            if line != other and replace(line, **{field: getattr(other, field)}) == other:
+                yield sector(getattr(line, field)), sector(getattr(other, field))
+
+
+class StepsOfLines(unittest.TestCase):
+    def test_24_by_range_and_by_both_zero(self):
+        for name in ("test_maps", "test_reads", "test_writes"):
+            found = {wrong_step(map_bytes) for map_bytes in stored_maps(name) if map_bytes and map_outcome(map_bytes) == Refused(24)}
+            self.assertEqual(found, EVERY_WRONG_STEP, name)
+
+    def test_every_step_at_an_edge_is_in_a_good_map(self):
+        found = {steps for depot_map in good_maps("test_maps") for line in depot_map.lines for steps in (line.steps_out, line.steps_back)}
+        self.assertEqual(set(steps_at_edges()) - found, set())
+
+    def test_ends_of_the_range_and_every_sector_in_each_program(self):
+        for name in PARTS_OF_A_CASE:
+            lines = [line for depot_map in good_maps(name) for line in depot_map.lines]
+            for drawn in ({line.steps_out for line in lines}, {line.steps_back for line in lines}):
+                self.assertEqual(set(ENDS_OF_RANGE) - drawn, set(), name)
+                self.assertEqual({sector(steps) for steps in drawn}, set(range(32)), name)
+
+    def test_lines_on_the_two_sides_of_each_edge(self):
+        # On maps of two or three lines. Of one sector they are not told apart.
+        for name, accepted, refused in (("test_reads", "lines", "refused 18"), ("test_writes", "bytes", "refused 10")):
+            calls = [(row, sectors) for depot_map, _, row in calls_on_good_maps(name) if len(depot_map.lines) <= 3
+                     for sectors in sectors_of_lines_alike(depot_map)]
+            edges = {second for row, (first, second) in calls if row.startswith(accepted) and second == (first + 1) % 32}
+            self.assertEqual(edges, set(range(32)), name)
+            self.assertGreater(sum(row.startswith(refused) and first == second for row, (first, second) in calls), 5, name)
 
 
 if __name__ == "__main__":

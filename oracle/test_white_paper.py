@@ -1,10 +1,11 @@
 """The binary line example of the white paper (13.1.3), field by field, and put together."""
 
 import base64
+import math
 import unittest
 from pathlib import Path
 
-from depot_map import DepotMap, Line, Node, map_to_bytes
+from depot_map import DepotMap, Line, Node, Steps, map_to_bytes
 from fields import coordinate_code, distance_byte, offset_byte, sector
 from outcome import StretchRead
 from reader import read
@@ -19,18 +20,29 @@ EXAMPLE_BITS = """
 01000100
 """
 EXAMPLE = bytes(int(bits, 2) for bits in EXAMPLE_BITS.split())
+# Tables 79, 84 and 89, in degrees.
+BEARINGS = (135, 227, 290)
 # Table 74: FRC, FOW, bearing, lowest FRC to next point, and distance to next point in decimetres.
-EXAMPLE_POINTS = (Point(285_531, 2_311_925, 3, 2, 135 * 4 // 45, 3, 9),
+EXAMPLE_POINTS = (Point(285_531, 2_311_925, 3, 2, 12, 3, 9),
                   Point(155, -453, 3, 3, 20, 5, 4),
                   Point(-21, -93, 5, 3, 25))
+
+
+def drawn_at(bearing):
+    """The steps to the point 20 m along a line of that bearing, to the nearest decimetre."""
+    return Steps(round(200 * math.sin(math.radians(bearing))), round(200 * math.cos(math.radians(bearing))))
 
 
 class BinaryExample(unittest.TestCase):
     def test_fields_one_by_one(self):
         self.assertEqual(coordinate_code(612_683), int.from_bytes(EXAMPLE[1:4], "big"))
-        self.assertEqual([sector(bearing) for bearing in (135, 227, 290)], [0b01100, 0b10100, 0b11001])
+        self.assertEqual([sector(drawn_at(bearing)) for bearing in BEARINGS], [0b01100, 0b10100, 0b11001])
         self.assertEqual([distance_byte(length) for length in (5_610, 2_740)], [EXAMPLE[9], EXAMPLE[16]])
         self.assertEqual(offset_byte(1_500, 5_610), EXAMPLE[23])
+
+    def test_steps_drawn_at_the_bearings(self):
+        # 200 x sin and cos: 141.4 and -141.4; -146.3 and -136.4; -187.9 and 68.4.
+        self.assertEqual([drawn_at(bearing) for bearing in BEARINGS], [(141, -141), (-146, -136), (-188, 68)])
 
     def test_latitude_of_the_example(self):
         # Equation 1 gives 2,311,924.13 + 0.5, cut to 2,311,924. Table 77 prints one more (F5, not F4).
@@ -60,7 +72,8 @@ class BinaryExample(unittest.TestCase):
         # Nodes 1, 10 and 15 with one line for each leg. Line 1 has FRC 5, the lowest of its leg, so that the
         # second point's P is 2B here. The latitude's code is that of Equation 1.
         nodes = (Node(612_683, 4_960_851), Node(612_838, 4_960_398), Node(612_817, 4_960_305))
-        lines = (Line(0, 1, 5_610, 3, 2, 135, 0), Line(1, 2, 2_740, 5, 3, 227, 290))
+        out, out_again, back = map(drawn_at, BEARINGS)
+        lines = (Line(0, 1, 5_610, 3, 2, out, drawn_at(0)), Line(1, 2, 2_740, 5, 3, out_again, back))
         reference = bytearray(EXAMPLE)
         reference[6], reference[14] = 0xF4, 0x2B
         # Byte 68 on 5,610: 68 x 5,610 / 256 is 1,490.2 and 69 x 5,610 / 256 is 1,512.07.

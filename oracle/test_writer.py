@@ -4,7 +4,8 @@ import itertools
 import random
 import unittest
 
-from depot_map import DepotMap, Line, Node, map_to_bytes
+from depot_map import DepotMap, Line, Node, Steps, map_to_bytes
+from drawn_steps import EASTWARD, NORTHWARD, SOUTHWARD, WESTWARD
 from fields import LONGEST_LEG, differences_fit
 from legs import describe_leg, list_length, readings_by_enumeration
 from outcome import ReferenceWritten, Refused
@@ -60,7 +61,7 @@ class EachRefusal(unittest.TestCase):
     def test_10_for_differences(self):
         for reach, fits in ((32_767, True), (32_768, False), (-32_768, True), (-32_769, False)):
             for far in (Node(reach, 0), Node(0, reach)):
-                depot_map = DepotMap((Node(0, 0), far), (Line(0, 1, 1000, 3, 3, 90, 270),))
+                depot_map = DepotMap((Node(0, 0), far), (Line(0, 1, 1000, 3, 3, EASTWARD, WESTWARD),))
                 outcome = write(map_to_bytes(depot_map), [0], 0, 0, WORK, 459)
                 self.assertEqual(isinstance(outcome, ReferenceWritten), fits)
                 if not fits:
@@ -69,7 +70,7 @@ class EachRefusal(unittest.TestCase):
     def test_differences_are_asked_between_points_only(self):
         # Out by 32,768 and back to a near node: the far node is no point, so that one leg will do.
         depot_map = DepotMap((Node(0, 0), Node(32_768, 0), Node(100, 0)),
-                             (Line(0, 1, 1000, 3, 3, 90, 270), Line(1, 2, 1000, 3, 3, 90, 270)))
+                             (Line(0, 1, 1000, 3, 3, EASTWARD, WESTWARD), Line(1, 2, 1000, 3, 3, EASTWARD, WESTWARD)))
         written = bytes.fromhex("0B 000000 000000 1B 68 03 0064 0000 1B 18")
         self.assertEqual(write(map_to_bytes(depot_map), [0, 1], 0, 0, WORK, 16), ReferenceWritten(written))
 
@@ -87,7 +88,7 @@ class EachRefusal(unittest.TestCase):
         self.check([0], 10, map_bytes=TWINS, byte_room=0)
         self.check([0], 9, pos=1000, byte_room=0)
         self.check([], 2, map_bytes=ROW + b"\x00")
-        same_codes = DepotMap((Node(0, 0), Node(1, 0)), (Line(0, 1, 1, 0, 0, 0, 0),))
+        same_codes = DepotMap((Node(0, 0), Node(1, 0)), (Line(0, 1, 1, 0, 0, EASTWARD, WESTWARD),))
         self.check([], 6, map_bytes=map_to_bytes(same_codes))
 
     def test_7_to_9_look_at_the_stretch_as_given(self):
@@ -161,17 +162,17 @@ def best_choice_of_all(depot_map, lines):
 class BytesByHand(unittest.TestCase):
     def test_lowest_class_is_the_greatest_frc_of_the_leg(self):
         nodes = tuple(Node(1000 * number, 0) for number in range(4))
-        lines = (Line(0, 1, 1000, 2, 1, 45, 200), Line(1, 2, 1000, 5, 4, 90, 270),
-                 Line(2, 3, 1000, 3, 6, 10, 349))
+        lines = (Line(0, 1, 1000, 2, 1, Steps(5, 5), SOUTHWARD), Line(1, 2, 1000, 5, 4, EASTWARD, WESTWARD),
+                 Line(2, 3, 1000, 3, 6, NORTHWARD, Steps(-1, 250)))
         # P: FRC 2 and FOW 1 are 11. Q: class 5 and sector 4, of 45 degrees, are A4. D of 3000 is 5.
-        # The difference 3000 is 0BB8. Last P: FRC 3 and FOW 6 are 1E. R: sector 31, of 349 degrees, is 1F.
+        # The difference 3000 is 0BB8. Last P: FRC 3 and FOW 6 are 1E. R: sector 31, just west of north, is 1F.
         expected = bytes.fromhex("0B 000000 000000 11 A4 05 0BB8 0000 1E 1F")
         outcome = write(map_to_bytes(DepotMap(nodes, lines)), [0, 1, 2], 0, 0, WORK, 16)
         self.assertEqual(outcome, ReferenceWritten(expected))
 
     def test_lowest_class_is_each_legs_own(self):
         nodes = tuple(Node(1000 * number, 0) for number in range(3))
-        lines = (Line(0, 1, 100_000, 2, 3, 90, 270), Line(1, 2, 100_000, 0, 3, 90, 270))
+        lines = (Line(0, 1, 100_000, 2, 3, EASTWARD, WESTWARD), Line(1, 2, 100_000, 0, 3, EASTWARD, WESTWARD))
         # FRC 2 gives P 13 and Q 48; FRC 0 gives P 03 and Q 08. 100,000 / 586 is 170, AA.
         expected = bytes.fromhex("0B 000000 000000 13 48 AA 03E8 0000 03 08 AA 03E8 0000 03 18")
         outcome = write(map_to_bytes(DepotMap(nodes, lines)), [0, 1], 0, 0, WORK, 23)

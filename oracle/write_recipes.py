@@ -9,7 +9,7 @@ from legs import list_length
 from outcome import ReferenceWritten
 from reader import LEAST_WORK_LENGTH
 from recipes import any_sample, sample_with_free_stretch, until_found, work_area_exactly_enough, work_area_too_short
-from sample_maps import (NODE_STEP, SMALL_SAMPLES, MapBuilder, chain_of_blocks, far_sample, full_size_sample, other_first_line_sample,
+from sample_maps import (NODE_STEP, SMALL_SAMPLES, MapBuilder, chain_of_blocks, edge_sample, far_sample, full_size_sample, other_first_line_sample,
                          pairs_of, random_walk, ring_sample)
 from writer import MOST_STRETCH_LINES, write
 
@@ -237,6 +237,12 @@ def no_usable_choice_by_a_ban(rng, turn):
     return sample.label, WriteInput(map_to_bytes(sample.depot_map), sample.stretch, byte_room=turn % 459)
 
 
+def sides_of_an_edge(rng, turn):
+    """Two lines that only their steps can tell apart, where they are of different sectors; else no choice of points is usable."""
+    sample = edge_sample(rng, turn)
+    return sample.label, WriteInput(map_to_bytes(sample.depot_map), sample.stretch, pos=rng.choice([0, 1]))
+
+
 def offsets_too_large(rng, turn):
     sample = sample_with_free_stretch(rng, turn)
     total = list_length(sample.depot_map, sample.stretch)
@@ -369,6 +375,7 @@ WRITE_RECIPES = {
     "fewest points": fewest_points,
     "tie that a ban decides": tie_that_a_ban_decides,
     "around the block": around_the_block,
+    "sides of an edge": sides_of_an_edge,
     "refusal 1": work_area_too_short(accepted_input, {"map_bytes": b""}, {"lines": ()}, {"byte_room": 0}),
     "refusal 2": damaged_map(2),
     "refusal 3": damaged_map(3),
@@ -376,6 +383,7 @@ WRITE_RECIPES = {
     "refusal 5": damaged_map(5),
     "refusal 6": damaged_map(6),
     "refusal 23": damaged_map(23),
+    "refusal 24": damaged_map(24),
     "refusal 7": no_such_lines,
     "refusal 8": broken_joint,
     "refusal 8, and a banned pair": broken_joint_and_banned_pair,

@@ -1,4 +1,4 @@
-"""The writer: map bytes and a stretch to reference bytes (scope paper, refusals 1 to 11; paper 02, "Banned turns": 21 and 23).
+"""The writer: map bytes and a stretch to reference bytes (scope paper, refusals 1 to 11; paper 02: 21, 23 and 24).
 
 Differences of longitudes are paper 02's, "Depots on the 180th meridian" (fields.py).
 """

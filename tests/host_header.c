@@ -6,25 +6,26 @@
 
 enum {
     NODE_BYTES = NUMBER_BYTES(35999998) + NUMBER_BYTES(18000000),
-    LINE_BYTES = 2 * NUMBER_BYTES(511) + NUMBER_BYTES(150000) + 2 * NUMBER_BYTES(7) + 2 * NUMBER_BYTES(359),
+    LINE_BYTES = 2 * NUMBER_BYTES(511) + NUMBER_BYTES(150000) + 2 * NUMBER_BYTES(7) + 4 * NUMBER_BYTES(500),
     BAN_BYTES = 2 * NUMBER_BYTES(1023),
     MAP_BYTES = NUMBER_BYTES(512) + 512 * NODE_BYTES + NUMBER_BYTES(1024) + 1024 * LINE_BYTES + NUMBER_BYTES(512) + 512 * BAN_BYTES
 };
 
-_Static_assert(OPENLR_LONGEST_MAP == MAP_BYTES && MAP_BYTES == 19462, "every number as long as it can be");
+_Static_assert(OPENLR_LONGEST_MAP == MAP_BYTES && MAP_BYTES == 23558, "every number as long as it can be");
 _Static_assert(OPENLR_LONGEST_REFERENCE == 1 + 9 + 63 * 7 + 6 + 2 && OPENLR_LONGEST_REFERENCE == 459, "64 legs and both offsets");
 _Static_assert(OPENLR_MOST_LINES == 1024, "the scope paper's, for a host");
-_Static_assert(OPENLR_VERSION == 3 && OPENLR_UNITS_PER_METRE == 10, "the 180th meridian, decimetres");
+_Static_assert(OPENLR_VERSION == 4 && OPENLR_UNITS_PER_METRE == 10, "steps, decimetres");
 _Static_assert(OPENLR_LEAST_STACK == 104 * 1024, "in whole pages");
-_Static_assert(OPENLR_WORK_AREA_SHORT == 1 && OPENLR_MAP_NUMBER == 2 && OPENLR_EQUAL_CODES == 6 && OPENLR_MAP_BAN == 23, "the table's numbers for maps");
+_Static_assert(OPENLR_WORK_AREA_SHORT == 1 && OPENLR_MAP_NUMBER == 2 && OPENLR_EQUAL_CODES == 6, "the table's numbers for maps");
+_Static_assert(OPENLR_MAP_BAN == 23 && OPENLR_MAP_STEP == 24, "and the later ones");
 _Static_assert(OPENLR_STRETCH_LINES == 7 && OPENLR_BYTES_SHORT == 11 && OPENLR_STRETCH_BAN == 21, "for the writer");
 _Static_assert(OPENLR_REFERENCE_LENGTH == 12 && OPENLR_NO_NODE == 16 && OPENLR_LINES_SHORT == 20 && OPENLR_JOINED_BAN == 22, "for the reader");
 
 int main(void) {
-    const char *unknown = openlr_refusal_sentence(24);
+    const char *unknown = openlr_refusal_sentence(25);
     EXPECT(strcmp(openlr_refusal_sentence(0), "") == 0 && strcmp(unknown, "unknown refusal") == 0);
     EXPECT(strcmp(openlr_refusal_sentence(UINT32_MAX), unknown) == 0);
-    for (uint32_t i = 1; i <= 23; i++) {
+    for (uint32_t i = 1; i <= 24; i++) {
         const char *sentence = openlr_refusal_sentence(i);
         EXPECT(strlen(sentence) > 20 && strcmp(sentence, unknown) != 0);
         for (uint32_t j = 1; j < i; j++) EXPECT(strcmp(sentence, openlr_refusal_sentence(j)) != 0);

@@ -106,6 +106,37 @@ static void bans(void) {
     on_banned_ridge(0, 0, 23, 23, 0, NULL);
 }
 
+/* On the ridge with one step stored as another number: what the two-point bytes of lines 0 and 1 give. */
+static void on_ridge_with_step(size_t at, uint32_t number, uint32_t refusal) {
+    static const uint8_t two[] = {0x0B, 0, 0, 0, 0, 0, 0, 0x1B, 0x68, 0x03, 0x07, 0xD0, 0, 0, 0x1B, 0x18};
+    static const uint8_t expected[] = {0, 0, 0, 0, 1, 0, 0, 0};
+    uint8_t map[sizeof ridge], line_buffer[64];
+    put_ridge_with_step(map, at, number);
+    memset(line_buffer, UNTOUCHED, sizeof line_buffer);
+    struct openlr_reading a = openlr_read(map, sizeof map, two, sizeof two, line_buffer, sizeof line_buffer);
+    EXPECT(a.refusal == refusal && a.place == 0 && a.line_count == (refusal == 0 ? 2u : 0u));
+    EXPECT(memcmp(line_buffer, expected, 4 * a.line_count) == 0 && untouched(line_buffer, 4 * a.line_count, sizeof line_buffer));
+}
+
+/* A step is out of range from 501 on, and 250 is 0: both of a pair must not be. The number's form is asked before, here 1 in two bytes. Line 3 arrives in the
+   sector of line 1, 24, while its step back north is 0 to 39 (200 x tan 11.25 degrees is 39.8), and only then do the two ways tie. */
+static void steps(void) {
+    on_ridge_with_step(OUT_EAST_0, 500, 18);
+    on_ridge_with_step(OUT_EAST_0, 501, OPENLR_MAP_STEP);
+    on_ridge_with_step(OUT_EAST_0, 16383, OPENLR_MAP_STEP);
+    on_ridge_with_step(OUT_EAST_0, 250, OPENLR_MAP_STEP);
+    on_ridge_with_step(OUT_EAST_0, 1, 2);
+    on_ridge_with_step(BACK_NORTH_0, 501, OPENLR_MAP_STEP);
+    on_ridge_with_step(OUT_NORTH_2, 250, OPENLR_MAP_STEP);
+    on_ridge_with_step(OUT_NORTH_2, 501, OPENLR_MAP_STEP);
+    on_ridge_with_step(OUT_EAST_3, 501, OPENLR_MAP_STEP);
+    on_ridge_with_step(BACK_NORTH_3, 501, OPENLR_MAP_STEP);
+    on_ridge_with_step(BACK_NORTH_3, 250 - 1, 0);
+    on_ridge_with_step(BACK_NORTH_3, 250, 18);
+    on_ridge_with_step(BACK_NORTH_3, 250 + 39, 18);
+    on_ridge_with_step(BACK_NORTH_3, 250 + 40, 0);
+}
+
 /* More than 1,024 lines' room serves no more lines, and no more bytes are touched. */
 static void large_buffer(void) {
     static const uint8_t reference[] = {0x0B, 0, 0, 0, 0, 0, 0, 0x1B, 0x68, 0x01, 0x03, 0xE8, 0, 0, 0x1B, 0x68, 0x01, 0x03, 0xE8, 0, 0, 0x1B, 0x18};
@@ -135,6 +166,7 @@ int main(void) {
     both_offsets();
     refusals();
     bans();
+    steps();
     large_buffer();
     null_slices();
     puts("openlr_read: as a C program expects");

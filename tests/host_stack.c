@@ -20,9 +20,10 @@ static void put_number(uint32_t number) {
     map[map_len++] = (uint8_t)number;
 }
 
+/* A line that leaves to the south-east, sector 12, and arrives from the north-west, sector 28. */
 static void put_line(uint32_t start, uint32_t end, uint32_t length, uint32_t form) {
-    const uint32_t numbers[] = {start, end, length, 3, form, 135, 315};
-    for (int i = 0; i < 7; i++) put_number(numbers[i]);
+    const uint32_t numbers[] = {start, end, length, 3, form, 250 + 141, 250 - 141, 250 - 141, 250 + 141};
+    for (int i = 0; i < 9; i++) put_number(numbers[i]);
 }
 
 static void put_nodes(void) {
@@ -160,8 +161,8 @@ static void longest_map(void) {
     }
     put_number(LINES);
     for (uint32_t i = 0; i < LINES; i++) {
-        const uint32_t numbers[] = {128 + i % 384, 128 + (i + 1) % 384, 150000 - i / 384 * 586, 7, 7, 359, 359};
-        for (int k = 0; k < 7; k++) put_number(numbers[k]);
+        const uint32_t numbers[] = {128 + i % 384, 128 + (i + 1) % 384, 150000 - i / 384 * 586, 7, 7, 500, 500, 500, 500};
+        for (int k = 0; k < 9; k++) put_number(numbers[k]);
     }
     put_number(BANS);
     for (uint32_t i = 0; i < BANS; i++) {

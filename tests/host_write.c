@@ -104,6 +104,30 @@ static void bans(void) {
     on_banned_ridge(3, 3, straight, 0, 0, 23);
 }
 
+/* On the ridge with one step stored as another number: the answer for lines 0 and 1. */
+static void on_ridge_with_step(size_t at, uint32_t number, uint32_t refusal, uint32_t byte_count) {
+    static const uint8_t stretch[] = {0, 0, 0, 0, 1, 0, 0, 0};
+    uint8_t map[sizeof ridge], byte_buffer[OPENLR_LONGEST_REFERENCE];
+    put_ridge_with_step(map, at, number);
+    memset(byte_buffer, UNTOUCHED, sizeof byte_buffer);
+    struct openlr_written a = openlr_write(map, sizeof map, stretch, sizeof stretch, 0, 0, byte_buffer, sizeof byte_buffer);
+    EXPECT(a.refusal == refusal && a.byte_count == byte_count && untouched(byte_buffer, byte_count, sizeof byte_buffer));
+}
+
+/* A step out of range, and both of a pair zero, stored as 250. Where line 3 arrives in another sector than line 1, two points are enough: 16 bytes, and not 23.
+   It does with a step back north of -1 or of 40, and with 0 or 39 it does not. */
+static void steps(void) {
+    on_ridge_with_step(OUT_EAST_0, 501, OPENLR_MAP_STEP, 0);
+    on_ridge_with_step(BACK_NORTH_0, 501, OPENLR_MAP_STEP, 0);
+    on_ridge_with_step(OUT_NORTH_2, 250, OPENLR_MAP_STEP, 0);
+    on_ridge_with_step(BACK_NORTH_3, 501, OPENLR_MAP_STEP, 0);
+    on_ridge_with_step(OUT_EAST_0, 500, 0, 23);
+    on_ridge_with_step(BACK_NORTH_3, 250 - 1, 0, 16);
+    on_ridge_with_step(BACK_NORTH_3, 250, 0, 23);
+    on_ridge_with_step(BACK_NORTH_3, 250 + 39, 0, 23);
+    on_ridge_with_step(BACK_NORTH_3, 250 + 40, 0, 16);
+}
+
 /* A slice of no bytes may be NULL, whichever and however many are. The first that is missing decides. */
 static void null_slices(void) {
     static const uint8_t stretch[] = {0, 0, 0, 0, 1, 0, 0, 0};
@@ -122,6 +146,7 @@ int main(void) {
     offsets();
     refusals();
     bans();
+    steps();
     null_slices();
     puts("openlr_write: as a C program expects");
     return 0;

@@ -1,4 +1,4 @@
-/* The map of the scope paper's ridge, with a ban or without, and a way to fail. */
+/* The map of the scope paper's ridge, with a ban or another step or without, and a way to fail. */
 #ifndef RIDGE_H
 #define RIDGE_H
 
@@ -16,7 +16,7 @@
         }                                                            \
     } while (0)
 
-/* Nodes 0 to 3 at (0, 0), (1000, 0), (1000, 1000), (2000, 0); lines 0 to 3, all FRC 3 and FOW 3. */
+/* Nodes 0 to 3 at (0, 0), (1000, 0), (1000, 1000), (2000, 0); lines 0 to 3, all FRC 3 and FOW 3. Steps are (east, north), out and back, stored plus 250. */
 static const uint8_t ridge[] = {
     4,                                                                                      /* nodes */
     0x80, 0xD1, 0xCA, 0x08, 0xC0, 0xA8, 0xA5, 0x04,                                         /* 18,000,000 and 9,000,000 */
@@ -24,12 +24,22 @@ static const uint8_t ridge[] = {
     0xE8, 0xD8, 0xCA, 0x08, 0xA8, 0xB0, 0xA5, 0x04,                                         /* 18,001,000 and 9,001,000 */
     0xD0, 0xE0, 0xCA, 0x08, 0xC0, 0xA8, 0xA5, 0x04,                                         /* 18,002,000 and 9,000,000 */
     4,                                                                                      /* lines */
-    0, 1, 0xE8, 0x07, 3, 3, 90, 0x8E, 0x02,                                                 /* 0 to 1, 1000, 90, 270 */
-    1, 3, 0xE8, 0x07, 3, 3, 90, 0x8E, 0x02,                                                 /* 1 to 3, 1000, 90, 270 */
-    1, 2, 0xF4, 0x03, 3, 3, 0, 0xB4, 0x01,                                                  /* 1 to 2, 500, 0, 180 */
-    2, 3, 0xF4, 0x03, 3, 3, 0x87, 0x01, 0x90, 0x02,                                         /* 2 to 3, 500, 135, 272 */
+    0, 1, 0xE8, 0x07, 3, 3, 0xC2, 0x03, 0xFA, 0x01, 0x32, 0xFA, 0x01,                       /* 0 to 1, 1000, (200, 0), (-200, 0) */
+    1, 3, 0xE8, 0x07, 3, 3, 0xC2, 0x03, 0xFA, 0x01, 0x32, 0xFA, 0x01,                       /* 1 to 3, 1000, (200, 0), (-200, 0) */
+    1, 2, 0xF4, 0x03, 3, 3, 0xFA, 0x01, 0xC2, 0x03, 0xFA, 0x01, 0x32,                       /* 1 to 2, 500, (0, 200), (0, -200) */
+    2, 3, 0xF4, 0x03, 3, 3, 0x87, 0x03, 0x6D, 0x32, 0x81, 0x02,                             /* 2 to 3, 500, (141, -141), (-200, 7) */
     0,                                                                                      /* bans */
 };
+
+/* Where some steps of two bytes stand: out east and back north of line 0, out north of line 2, out east and back north of line 3. */
+enum { OUT_EAST_0 = 40, BACK_NORTH_0 = 45, OUT_NORTH_2 = 68, OUT_EAST_3 = 79, BACK_NORTH_3 = 83 };
+
+/* The ridge with one of these steps stored as another number of two bytes. */
+static inline void put_ridge_with_step(uint8_t *bytes, size_t at, uint32_t number) {
+    memcpy(bytes, ridge, sizeof ridge);
+    bytes[at] = (uint8_t)(number % 128 + 128);
+    bytes[at + 1] = (uint8_t)(number / 128);
+}
 
 /* The ridge with one ban: `second` must not come straight after `first`. Both are below 128. */
 enum { BANNED_RIDGE_BYTES = sizeof ridge + 2 };

@@ -1,7 +1,7 @@
 //! The depot map: from its bytes to nodes, lines, the lines at each node and the banned turns
 //! ("The depot map", "Banned turns").
 
-use crate::fields::{brought_round, coordinate_code, sector, Marks, LONGEST_LEG};
+use crate::fields::{brought_round, coordinate_code, Marks, Steps, LONGEST_LEG, LONGEST_STEP};
 use crate::outcome::{Outcome, Refusal};
 
 /// Coordinates in hundred-thousandths of a degree.
@@ -32,34 +32,35 @@ impl Node {
     }
 }
 
-/// A line runs one way, from its start node to its end node. Length in decimetres.
+/// A line runs one way, from its start node to its end node. Length in decimetres. Of its steps the
+/// sectors alone are kept: out as seen from the start node, back as seen from the end node.
 #[derive(Clone, Copy, Debug, PartialEq, Eq)]
 pub struct Line {
     pub start: u32,
     pub end: u32,
     pub length: u32,
-    pub bearing_out: u16,
-    pub bearing_back: u16,
     pub frc: u8,
     pub fow: u8,
+    pub sector_out: u8,
+    pub sector_back: u8,
 }
 
 impl Line {
     /// The marks that a point gives of the line leaving it.
     pub fn leaving_marks(&self) -> Marks {
-        self.marks(self.bearing_out)
+        self.marks(self.sector_out)
     }
 
     /// The marks that the last point gives of the line arriving.
     pub fn arriving_marks(&self) -> Marks {
-        self.marks(self.bearing_back)
+        self.marks(self.sector_back)
     }
 
-    fn marks(&self, bearing: u16) -> Marks {
+    fn marks(&self, sector: u8) -> Marks {
         Marks {
             frc: self.frc,
             fow: self.fow,
-            sector: sector(bearing),
+            sector,
         }
     }
 }
@@ -228,7 +229,7 @@ pub struct DepotMap {
 }
 
 impl DepotMap {
-    /// The map that the bytes hold, or refusal 2 to 6 or 23.
+    /// The map that the bytes hold, or refusal 2 to 6, 23 or 24.
     pub fn decode(map_bytes: &[u8]) -> Outcome<DepotMap> {
         let mut numbers = Numbers { rest: map_bytes };
         let node_count = numbers.within(2, 512, Refusal::Count)?;
@@ -473,9 +474,28 @@ impl Numbers<'_> {
             length: self.within(1, LONGEST_LEG, fault)?,
             frc: self.within(0, 7, fault)? as u8,
             fow: self.within(0, 7, fault)? as u8,
-            bearing_out: self.within(0, 359, fault)? as u16,
-            bearing_back: self.within(0, 359, fault)? as u16,
+            sector_out: self.sector()?,
+            sector_back: self.sector()?,
         })
+    }
+
+    /// The sector of a pair of steps. That both are 0 is a fault of the north step.
+    #[inline(always)]
+    fn sector(&mut self) -> Outcome<u8> {
+        let steps = Steps {
+            east: self.step()?,
+            north: self.step()?,
+        };
+        if steps.east == 0 && steps.north == 0 {
+            return Err(Refusal::Step);
+        }
+        Ok(steps.sector())
+    }
+
+    #[inline(always)]
+    fn step(&mut self) -> Outcome<i32> {
+        let stored = self.within(0, 2 * LONGEST_STEP as u32, Refusal::Step)?;
+        Ok(stored as i32 - LONGEST_STEP)
     }
 
     /// Any two numbers: what they name is asked when the whole map is read.

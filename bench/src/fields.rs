@@ -57,8 +57,77 @@ pub fn coordinate_code(coordinate: i32) -> i32 {
     }
 }
 
-pub fn sector(bearing: u16) -> u8 {
-    (bearing * 4 / 45) as u8
+/// How far a step goes at most, in decimetres. A step is stored plus this.
+pub const LONGEST_STEP: i32 = 250;
+
+/// A direction as seen from a node: the point 20 m along the line, in decimetres east and north, not
+/// both 0 ("Bearings from the drawing").
+#[derive(Clone, Copy, Debug, PartialEq, Eq, Hash)]
+pub struct Steps {
+    pub east: i32,
+    pub north: i32,
+}
+
+impl Steps {
+    /// The number of whole 11.25-degree steps in the angle clockwise from north.
+    ///
+    /// As a complex number, north real and east imaginary, a direction doubles its angle when it is
+    /// squared. Squared twice, it has four times its angle: quarter turns fall away, and the eight
+    /// sectors of a quarter have become the eighths of a full turn.
+    #[inline]
+    pub fn sector(self) -> u8 {
+        let direction = Complex {
+            real: i64::from(self.north),
+            imaginary: i64::from(self.east),
+        };
+        8 * direction.quarters() + direction.squared().squared().eighths()
+    }
+}
+
+/// A complex number that is not 0. Its angle goes from the real part to the imaginary one, and an edge
+/// belongs to the part of a turn that starts there. Nothing is branched on: directions come in any
+/// order.
+#[derive(Clone, Copy)]
+struct Complex {
+    real: i64,
+    imaginary: i64,
+}
+
+impl Complex {
+    /// Of steps, a part has 17 bits after one squaring and 34 after two.
+    #[inline(always)]
+    fn squared(self) -> Complex {
+        let Complex { real, imaginary } = self;
+        Complex {
+            real: real * real - imaginary * imaginary,
+            imaginary: 2 * real * imaginary,
+        }
+    }
+
+    /// Below the real axis, or on it to the left.
+    #[inline(always)]
+    fn is_past_half_turn(self) -> bool {
+        self.imaginary < i64::from(self.real < 0)
+    }
+
+    /// The whole quarter turns in its angle.
+    #[inline(always)]
+    fn quarters(self) -> u8 {
+        let half = self.is_past_half_turn();
+        let quarter = if half { self.real >= 0 } else { self.real <= 0 };
+        2 * u8::from(half) + u8::from(quarter)
+    }
+
+    /// The whole eighths of a turn in its angle, which is four times that of steps. Of the edges only
+    /// half turns are met: the others would be at 11.25 or 22.5 degrees, whose tangents are no
+    /// fractions.
+    #[inline(always)]
+    fn eighths(self) -> u8 {
+        let half = self.is_past_half_turn();
+        let quarter = half ^ (self.real < 0);
+        let eighth = quarter ^ (self.real.abs() < self.imaginary.abs());
+        4 * u8::from(half) + 2 * u8::from(quarter) + u8::from(eighth)
+    }
 }
 
 /// D of a leg of at most 150,000 decimetres.

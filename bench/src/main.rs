@@ -128,6 +128,17 @@ fn samples() -> Vec<Sample> {
     ]
 }
 
+/// In the other maps all steps are about 20 m long. Here they are of the whole range and of all
+/// sectors, and no two pairs are alike.
+fn random_steps(seed: u64) -> Sample {
+    let plan = random_graph(seed).shuffled(5);
+    let plan = plan.with_bans(9, BANS, Bans::Spread);
+    sample("random steps, 512 bans", plan.with_random_steps(9 + seed))
+}
+
+/// So many that the processor cannot learn their numbers.
+const MAPS_IN_TURN: u64 = 100;
+
 /// Maps made against the search.
 fn hostile_samples() -> Vec<Sample> {
     vec![
@@ -171,6 +182,11 @@ fn main() {
             writing_rows(sample);
         }
     }
+    if wanted("decode") {
+        decode_row(&random_steps(3)).print();
+        let maps: Vec<Sample> = (0..MAPS_IN_TURN).map(random_steps).collect();
+        decode_in_turn_row(&maps).print();
+    }
     if wanted("search") {
         for sample in &hostile_samples() {
             search_rows(sample);
@@ -188,6 +204,31 @@ fn decode_row(sample: &Sample) -> Row<'_> {
     };
     Row {
         what: format!("decode, {}, {} bytes", sample.name, sample.bytes.len()),
+        inputs: 1,
+        ours: Box::new(ours),
+        plain: Box::new(plain),
+    }
+}
+
+/// One call decodes all of them.
+fn decode_in_turn_row(samples: &[Sample]) -> Row<'_> {
+    let mut work_area = vec![0; WORK_AREA];
+    let ours = move |_| {
+        for sample in samples {
+            black_box(proved::decode(black_box(&sample.bytes), &mut work_area));
+        }
+    };
+    let plain = move |_| {
+        for sample in samples {
+            let _ = black_box(DepotMap::decode(black_box(&sample.bytes)));
+        }
+    };
+    Row {
+        what: format!(
+            "decode, {} maps in turn, {}",
+            samples.len(),
+            samples[0].name
+        ),
         inputs: 1,
         ours: Box::new(ours),
         plain: Box::new(plain),

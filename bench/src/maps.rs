@@ -3,7 +3,7 @@
 use std::collections::HashSet;
 
 use crate::depot_map::{Ban, DepotMap, Line, Node};
-use crate::fields::{coordinate_code, distance_byte};
+use crate::fields::{coordinate_code, distance_byte, Steps, LONGEST_STEP};
 use crate::legs::{verdict, Leg, LegEnd, Verdict};
 use crate::reader::read_on_map;
 use crate::search::{Bounds, Method, Search};
@@ -46,21 +46,101 @@ impl Xorshift {
     }
 }
 
+/// A line with the steps that its sectors are found from.
+#[derive(Clone, Copy, Debug, PartialEq, Eq)]
+pub struct PlannedLine {
+    pub start: u32,
+    pub end: u32,
+    pub length: u32,
+    pub frc: u8,
+    pub fow: u8,
+    pub out: Steps,
+    pub back: Steps,
+}
+
+/// How many numbers a line has in the bytes of a map, and how many a pair of steps.
+pub const LINE_NUMBERS: usize = 9;
+pub const PAIR_NUMBERS: usize = 2;
+
+impl PlannedLine {
+    /// As a map keeps it.
+    pub fn kept(&self) -> Line {
+        Line {
+            start: self.start,
+            end: self.end,
+            length: self.length,
+            frc: self.frc,
+            fow: self.fow,
+            sector_out: self.out.sector(),
+            sector_back: self.back.sector(),
+        }
+    }
+
+    /// Its numbers in the bytes of a map.
+    fn stored(&self) -> [u32; LINE_NUMBERS] {
+        let step = |step: i32| (step + LONGEST_STEP) as u32;
+        let PlannedLine { out, back, .. } = self;
+        [
+            self.start,
+            self.end,
+            self.length,
+            u32::from(self.frc),
+            u32::from(self.fow),
+            step(out.east),
+            step(out.north),
+            step(back.east),
+            step(back.north),
+        ]
+    }
+
+    /// The line with these numbers, which are in their ranges.
+    fn of_stored(stored: [u32; LINE_NUMBERS]) -> PlannedLine {
+        let [start, end, length, frc, fow, out_east, out_north, back_east, back_north] = stored;
+        let steps = |east: u32, north: u32| Steps {
+            east: east as i32 - LONGEST_STEP,
+            north: north as i32 - LONGEST_STEP,
+        };
+        PlannedLine {
+            start,
+            end,
+            length,
+            frc: frc as u8,
+            fow: fow as u8,
+            out: steps(out_east, out_north),
+            back: steps(back_east, back_north),
+        }
+    }
+}
+
 /// A map before it is put into bytes.
 #[derive(Clone, Debug, Default, PartialEq, Eq)]
 pub struct MapPlan {
     pub nodes: Vec<Node>,
-    pub lines: Vec<Line>,
+    pub lines: Vec<PlannedLine>,
     pub bans: Vec<Ban>,
 }
 
 impl MapPlan {
-    pub fn of(map: &DepotMap) -> MapPlan {
-        MapPlan {
-            nodes: map.nodes.clone(),
-            lines: map.lines.clone(),
-            bans: map.bans.clone(),
+    /// The plan of a map's bytes, which are not refused.
+    pub fn of_bytes(map_bytes: &[u8]) -> MapPlan {
+        let mut numbers = stored_numbers(map_bytes).into_iter();
+        let mut next = || numbers.next().expect("a map that is not refused");
+        let mut plan = MapPlan::default();
+        for _ in 0..next() {
+            plan.nodes.push(Node {
+                longitude: next() as i32 - 18_000_000,
+                latitude: next() as i32 - 9_000_000,
+            });
         }
+        for _ in 0..next() {
+            let stored = [(); LINE_NUMBERS].map(|()| next());
+            plan.lines.push(PlannedLine::of_stored(stored));
+        }
+        for _ in 0..next() {
+            let (line, next) = (next(), next());
+            plan.bans.push(Ban { line, next });
+        }
+        plan
     }
 
     /// The bytes in the order of "The depot map".
@@ -73,12 +153,7 @@ impl MapPlan {
         }
         push_number(&mut bytes, self.lines.len() as u32);
         for line in &self.lines {
-            let classes = [u32::from(line.frc), u32::from(line.fow)];
-            let bearings = [u32::from(line.bearing_out), u32::from(line.bearing_back)];
-            for number in [line.start, line.end, line.length] {
-                push_number(&mut bytes, number);
-            }
-            for number in classes.into_iter().chain(bearings) {
+            for number in line.stored() {
                 push_number(&mut bytes, number);
             }
         }
@@ -94,6 +169,35 @@ impl MapPlan {
     pub fn shuffled(mut self, seed: u64) -> MapPlan {
         assert_eq!(self.bans, [], "bans name lines by their place");
         Xorshift::new(seed).shuffle(&mut self.lines);
+        self
+    }
+}
+
+/// Any steps of the whole range.
+pub fn any_steps(rng: &mut Xorshift) -> Steps {
+    let reach = LONGEST_STEP as u32;
+    loop {
+        let [east, north] = [(); 2].map(|()| rng.within(0, 2 * reach) as i32 - LONGEST_STEP);
+        if (east, north) != (0, 0) {
+            return Steps { east, north };
+        }
+    }
+}
+
+impl MapPlan {
+    /// The map with steps of the whole range, no two pairs alike.
+    pub fn with_random_steps(mut self, seed: u64) -> MapPlan {
+        let rng = &mut Xorshift::new(seed);
+        let mut taken = HashSet::new();
+        let mut next = || loop {
+            let steps = any_steps(rng);
+            if taken.insert(steps) {
+                return steps;
+            }
+        };
+        for line in &mut self.lines {
+            (line.out, line.back) = (next(), next());
+        }
         self
     }
 }
@@ -153,6 +257,20 @@ pub fn push_number(bytes: &mut Vec<u8>, mut number: u32) {
     bytes.push(number as u8);
 }
 
+/// The numbers in the bytes, each with its own bytes. The last one may end early.
+pub fn number_parts(map_bytes: &[u8]) -> impl Iterator<Item = &[u8]> {
+    map_bytes.split_inclusive(|&byte| byte < 0x80)
+}
+
+/// What they stand for, where each has 32 bits at most.
+pub fn stored_numbers(map_bytes: &[u8]) -> Vec<u32> {
+    let value = |part: &[u8]| {
+        let groups = part.iter().rev().map(|byte| u32::from(byte & 0x7F));
+        groups.fold(0, |number, group| number << 7 | group)
+    };
+    number_parts(map_bytes).map(value).collect()
+}
+
 /// How the lengths of a maker's lines vary.
 #[derive(Clone, Copy, Debug, PartialEq, Eq)]
 pub enum Lengths {
@@ -184,17 +302,33 @@ fn bearing(from: Node, to: Node) -> u16 {
     (east.atan2(north).to_degrees().rem_euclid(360.0) as u16).min(359)
 }
 
-fn line_between(plan: &MapPlan, ends: (u32, u32), length: u32, frc: u8, fow: u8) -> Line {
+/// The steps to the point that is so far away in this direction, in decimetres.
+pub fn nearest_steps(degrees: f64, distance: f64) -> Steps {
+    let (east, north) = degrees.to_radians().sin_cos();
+    let step = |part: f64| (distance * part).round() as i32;
+    Steps {
+        east: step(east),
+        north: step(north),
+    }
+}
+
+/// 20 m in a direction of whole degrees. The steps have its sector: rounding turns it by 0.21 degrees
+/// at most, and where it is not on an edge itself it is 0.25 degrees from one at least.
+pub fn steps_at(bearing: u16) -> Steps {
+    nearest_steps(f64::from(bearing), 200.0)
+}
+
+fn line_between(plan: &MapPlan, ends: (u32, u32), length: u32, frc: u8, fow: u8) -> PlannedLine {
     let (start, end) = ends;
     let (from, to) = (plan.nodes[start as usize], plan.nodes[end as usize]);
-    Line {
+    PlannedLine {
         start,
         end,
         length,
         frc,
         fow,
-        bearing_out: bearing(from, to),
-        bearing_back: bearing(to, from),
+        out: steps_at(bearing(from, to)),
+        back: steps_at(bearing(to, from)),
     }
 }
 
@@ -238,7 +372,7 @@ fn add_opposite_lines(rng: &mut Xorshift, plan: &mut MapPlan) {
     }
 }
 
-fn opposite(plan: &MapPlan, line: Line) -> Line {
+fn opposite(plan: &MapPlan, line: PlannedLine) -> PlannedLine {
     let ends = (line.end, line.start);
     line_between(plan, ends, line.length, line.frc, line.fow)
 }
@@ -265,7 +399,7 @@ pub fn random_graph(seed: u64) -> MapPlan {
 pub fn random_roads(seed: u64) -> MapPlan {
     let mut plan = random_graph(seed);
     plan.lines.truncate(FULL_LINES / 2);
-    let opposites: Vec<Line> = plan
+    let opposites: Vec<PlannedLine> = plan
         .lines
         .iter()
         .map(|&line| opposite(&plan, line))
@@ -374,8 +508,8 @@ pub fn small_map(seed: u64) -> MapPlan {
         let mut line = line_between(&plan, (start, end), rng.within(1, longest), 0, 3);
         line.frc = rng.below(classes) as u8;
         line.fow = rng.below(2) as u8;
-        line.bearing_out = (90 * rng.below(sectors)) as u16;
-        line.bearing_back = (90 * rng.below(sectors)) as u16;
+        let [out, back] = [(); 2].map(|()| steps_at((90 * rng.below(sectors)) as u16));
+        (line.out, line.back) = (out, back);
         plan.lines.push(line);
     }
     plan

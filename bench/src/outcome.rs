@@ -28,6 +28,7 @@ pub enum Refusal {
     BannedInStretch,
     BannedWhereLegsMeet,
     NoSuchTurn,
+    Step,
 }
 
 pub type Outcome<T> = Result<T, Refusal>;
@@ -83,6 +84,7 @@ impl Refusal {
             Refusal::BannedInStretch => 21,
             Refusal::BannedWhereLegsMeet => 22,
             Refusal::NoSuchTurn => 23,
+            Refusal::Step => 24,
         }
     }
 

@@ -3,8 +3,9 @@
 //! Unless a maker says otherwise all lines have the same marks, so that every line that leaves a
 //! point is a first line to try.
 
-use crate::depot_map::{Ban, Line};
-use crate::maps::{row_of_nodes, MapPlan, FULL_LINES, FULL_NODES};
+use crate::depot_map::Ban;
+use crate::fields::Steps;
+use crate::maps::{row_of_nodes, MapPlan, PlannedLine, FULL_LINES, FULL_NODES};
 
 /// The most legs of a reference, and the most lines of a stretch.
 pub const MOST_LEGS: usize = 64;
@@ -70,7 +71,7 @@ fn mirrored(case: WorstCase) -> WorstCase {
     } = case;
     for line in &mut plan.lines {
         std::mem::swap(&mut line.start, &mut line.end);
-        std::mem::swap(&mut line.bearing_out, &mut line.bearing_back);
+        std::mem::swap(&mut line.out, &mut line.back);
     }
     for ban in &mut plan.bans {
         std::mem::swap(&mut ban.line, &mut ban.next);
@@ -82,7 +83,7 @@ fn mirrored(case: WorstCase) -> WorstCase {
     stretch.reverse();
     for last in [legs.last().and_then(|leg| leg.last()), stretch.last()] {
         let last = *last.expect("there are legs and lines") as usize;
-        plan.lines[last].bearing_back = LAST_BEARING;
+        plan.lines[last].back = BACK_AT_LAST;
     }
     WorstCase {
         name: format!("{name}, mirrored"),
@@ -95,21 +96,30 @@ fn mirrored(case: WorstCase) -> WorstCase {
 
 const FORM: u8 = 2;
 
-/// The bearing back of the line that a reference or a stretch ends with, so that no other line has
+/// The steps of the other lines, and of every line where it leaves.
+const ALIKE: Steps = Steps {
+    east: 0,
+    north: 200,
+};
+
+/// The steps back of the line that a reference or a stretch ends with, so that no other line has
 /// its marks.
-const LAST_BEARING: u16 = 90;
+const BACK_AT_LAST: Steps = Steps {
+    east: 200,
+    north: 0,
+};
 
 impl MapPlan {
     /// A line of the lowest number of class, with the marks of all others. Gives its number.
     fn add_line(&mut self, start: u32, end: u32, length: u32) -> u32 {
-        self.lines.push(Line {
+        self.lines.push(PlannedLine {
             start,
             end,
             length,
-            bearing_out: 0,
-            bearing_back: 0,
             frc: 0,
             fow: FORM,
+            out: ALIKE,
+            back: ALIKE,
         });
         self.lines.len() as u32 - 1
     }
@@ -117,7 +127,7 @@ impl MapPlan {
     /// A line with marks of its own where it arrives.
     fn add_last_line(&mut self, start: u32, end: u32, length: u32) -> u32 {
         let number = self.add_line(start, end, length);
-        self.lines[number as usize].bearing_back = LAST_BEARING;
+        self.lines[number as usize].back = BACK_AT_LAST;
         number
     }
 
@@ -203,7 +213,7 @@ fn hub_with_last_lines_alike() -> WorstCase {
 
 fn last_lines_alike(mut case: WorstCase) -> WorstCase {
     for line in &mut case.plan.lines {
-        line.bearing_back = 0;
+        line.back = ALIKE;
     }
     case.legs.truncate(MOST_LEGS - 2);
     case.legs.push(case.stretch[..2].to_vec());
@@ -427,7 +437,7 @@ fn add_loops(plan: &mut MapPlan) -> Vec<u32> {
         plan.lines[back as usize].frc = class as u8;
         lines.push(back);
     }
-    plan.lines[lines[lines.len() - 1] as usize].bearing_back = LAST_BEARING;
+    plan.lines[lines[lines.len() - 1] as usize].back = BACK_AT_LAST;
     let loops = lines.chunks_exact(2);
     plan.bans = (2..)
         .zip(loops)

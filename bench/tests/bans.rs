@@ -1,50 +1,17 @@
 //! Banned turns on the ridge's map: what is refused, in which order, and what is read instead.
 
-use plain::depot_map::{Ban, DepotMap, Line, Node};
+mod ridge;
+
 use plain::hexadecimal::bytes;
 use plain::maps::{push_number, MapPlan};
 use plain::outcome::{Outcome, Refusal, WORK_AREA};
 use plain::reader::read;
 use plain::writer::write;
 
+use ridge::{refusal_of, ridge};
+
 const TWO_POINTS: &str = "0B0000000000001B680307D000001B18";
 const THREE_POINTS: &str = "0B0000000000001B680103E800001B680103E800001B18";
-
-/// "The tie at the ridge": from node 0 to node 3 the ways 0, 1 and 0, 2, 3 are equally long.
-fn ridge(bans: &[(u32, u32)]) -> MapPlan {
-    let nodes = [(0, 0), (1000, 0), (1000, 1000), (2000, 0)];
-    let lines = [
-        (0, 1, 1000, 90, 270),
-        (1, 3, 1000, 90, 270),
-        (1, 2, 500, 0, 180),
-        (2, 3, 500, 135, 272),
-    ];
-    let node = |(longitude, latitude)| Node {
-        longitude,
-        latitude,
-    };
-    let line = |(start, end, length, bearing_out, bearing_back)| Line {
-        start,
-        end,
-        length,
-        bearing_out,
-        bearing_back,
-        frc: 3,
-        fow: 3,
-    };
-    MapPlan {
-        nodes: nodes.map(node).to_vec(),
-        lines: lines.map(line).to_vec(),
-        bans: bans
-            .iter()
-            .map(|&(line, next)| Ban { line, next })
-            .collect(),
-    }
-}
-
-fn refusal_of(map_bytes: &[u8]) -> Option<Refusal> {
-    DepotMap::decode(map_bytes).err()
-}
 
 fn write_on(plan: &MapPlan, stretch: &[u32], pos: u32, neg: u32) -> Outcome<Vec<u8>> {
     write(&plan.encode(), stretch, pos, neg, WORK_AREA, 459)

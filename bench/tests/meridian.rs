@@ -1,10 +1,10 @@
 //! Stretches across the 180th meridian: the differences that they are written with, and the sums
 //! that they are read by.
 
-use plain::depot_map::{DepotMap, Line, Node};
+use plain::depot_map::{DepotMap, Node};
 use plain::fields::brought_round;
 use plain::hexadecimal::{bytes, digits};
-use plain::maps::{random_walk, small_map, MapPlan, Turns, Xorshift};
+use plain::maps::{random_walk, small_map, steps_at, MapPlan, PlannedLine, Turns, Xorshift};
 use plain::outcome::{Outcome, Refusal, WORK_AREA};
 use plain::reader::{read, read_on_map};
 use plain::writer::{write, write_on_map};
@@ -15,20 +15,20 @@ const WESTERNMOST: i32 = -18_000_000;
 /// The bytes of the first point's longitude code.
 const LONGITUDE_CODE: std::ops::Range<usize> = 1..4;
 
-/// Nodes in a row, each with a line to the next, 1,000 long and eastward by its bearings.
+/// Nodes in a row, each with a line to the next, 1,000 long and eastward by its steps.
 fn row(places: &[(i32, i32)]) -> MapPlan {
     let node = |&(longitude, latitude): &(i32, i32)| Node {
         longitude,
         latitude,
     };
-    let line = |start: u32| Line {
+    let line = |start: u32| PlannedLine {
         start,
         end: start + 1,
         length: 1000,
-        bearing_out: 90,
-        bearing_back: 270,
         frc: 3,
         fow: 3,
+        out: steps_at(90),
+        back: steps_at(270),
     };
     MapPlan {
         nodes: places.iter().map(node).collect(),

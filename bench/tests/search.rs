@@ -1,9 +1,9 @@
 //! The searches against going through every way, on small maps, and against each other, on the
 //! maps of the benchmark; without bans and with many.
 
-use plain::depot_map::{Ban, DepotMap, Line};
+use plain::depot_map::{Ban, DepotMap};
 use plain::maps::{
-    chain, grid, hub, random_graph, small_map, steep, Bans, Lengths, MapPlan, Xorshift,
+    chain, grid, hub, random_graph, small_map, steep, Bans, Lengths, MapPlan, PlannedLine, Xorshift,
 };
 use plain::search::{Before, Bounds, Method, Search};
 
@@ -179,7 +179,8 @@ fn searches_agree_with_bans_in_rows() {
     let plan = hub().shuffled(5);
     let numbers = |start: u32| {
         let lines = (0..).zip(&plan.lines);
-        let from = move |(number, line): (u32, &Line)| (line.start == start).then_some(number);
+        let from =
+            move |(number, line): (u32, &PlannedLine)| (line.start == start).then_some(number);
         lines.filter_map(from).collect::<Vec<u32>>()
     };
     let (out, back) = (numbers(0), numbers(1));

@@ -14,7 +14,7 @@ use plain::depot_map::DepotMap;
 use plain::fields::Marks;
 use plain::hexadecimal::{bytes, digits};
 use plain::legs::{verdict, Leg, LegEnd, Verdict};
-use plain::maps::MapPlan;
+use plain::maps::{MapPlan, PlannedLine};
 use plain::outcome::Outcome;
 use plain::reader::read;
 use plain::search::{Method, Search};
@@ -70,9 +70,19 @@ fn text<T: Display>(outcome: Outcome<T>) -> String {
     }
 }
 
-/// A number has one form only, so a map that is put into bytes again gives the same bytes.
+/// The plan holds all numbers of the map: a number has one form only, so a plan that is put into bytes
+/// again gives the same bytes. The map is what the plan says, sectors in place of steps.
+fn is_read_as_it_stands(map: &DepotMap, map_bytes: &[u8]) -> bool {
+    let plan = MapPlan::of_bytes(map_bytes);
+    let lines = plan.lines.iter().map(PlannedLine::kept);
+    plan.encode() == map_bytes
+        && plan.nodes == map.nodes
+        && lines.eq(map.lines.iter().copied())
+        && plan.bans == map.bans
+}
+
 fn map_text(map: &DepotMap, map_bytes: &[u8]) -> String {
-    if MapPlan::of(map).encode() != map_bytes {
+    if !is_read_as_it_stands(map, map_bytes) {
         return "map not read as it stands".to_string();
     }
     format!(

@@ -19,7 +19,7 @@ use Rattle.banned_turns.proofs.Chains.{bans-none}
 use Rattle.depot_map.specs.Stage.{Answered, Stage}
 use Rattle.model.specs.Refusal.{refusalOf}
 use Rattle.depot_map.specs.declared.field.Fault.{Fault}
-use Rattle.depot_map.specs.Step.{faultOf}
+use Rattle.depot_map.specs.Part.{faultOf}
 use Rattle.depot_map.specs.Bans.{BansTaken, BansCounted, BanGot, BanRefused}
 use Rattle.depot_map.specs.declared.ban.Taken.{Taken}
 use Rattle.depot_map.specs.declared.MapRead.{MapRead}

@@ -12,7 +12,7 @@ use Rattle.model.specs.declared.Refusal.{Refusal}
 use Rattle.model.specs.Refusal.{Refused, refusalOf}
 use Rattle.buffers.specs.Kept.{Kept}
 use Rattle.work_area.specs.Held.{numbered, heldNode, heldNodes, heldLines}
-use Rattle.depot_map.specs.Step.{faultOf, goOn, NodeRead, LineRead}
+use Rattle.depot_map.specs.Part.{faultOf, goOn, NodeRead, LineRead}
 use Rattle.depot_map.specs.declared.field.Fault.{Fault}
 use Rattle.depot_map.specs.Stage.{Answered, Stage}
 use Rattle.depot_map.specs.Answer.{MapIsRead}
@@ -20,7 +20,7 @@ use Rattle.depot_map.specs.declared.field.Read.{Read}
 use Rattle.depot_map.specs.declared.MapRead.{MapRead}
 use Rattle.buffers.proofs.Kept.{kept-none, kept-then, kept-within, kept-over}
 use Rattle.work_area.proofs.Held.{listed-length, nodes-same, lines-same, nodes-more, lines-more}
-use Rattle.depot_map.proofs.Steps.{on, off}
+use Rattle.depot_map.proofs.Numbers.{on, off}
 use Rattle.depot_map.proofs.Whole.{answers}
 use Rattle.depot_map.specs.declared.field.Read.the-variants as Read
 use Rattle.depot_map.specs.declared.MapRead.the-variants as MapRead

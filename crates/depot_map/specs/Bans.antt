@@ -11,7 +11,7 @@ use Rattle.work_area.specs.Area.{bansFrom, bansTo, BansHeld}
 use Rattle.work_area.specs.Mirror.{withTurn, mirrorTurns}
 use Rattle.work_area.specs.Held.{heldLines}
 use Rattle.depot_map.specs.declared.field.Fault.{Fault}
-use Rattle.depot_map.specs.Step.{faultOf}
+use Rattle.depot_map.specs.Part.{faultOf}
 use Rattle.depot_map.specs.declared.ban.Taken.{Taken}
 use Rattle.depot_map.specs.declared.ban.BanRead.{BanRead}
 use Rattle.depot_map.specs.declared.ban.BanRead.the-variants as BanRead
@@ -39,19 +39,19 @@ pub record BanSorted (t : Turn) (lines : ℕ) (s : Taken) (w v : List ℕ) (r : 
   pub one : r .count ≤ s .count + 1
   pub kept : Kept bansFrom bansTo w v
 
--- One banned turn more is read, by `step`, and taken; or a number is refused.
-pub record BanGot (step : (Turn → List ℕ → MapAnswer) → MapAnswer) (bytes : List ℕ) (lines next : ℕ) (s r : Taken) (w v : List ℕ) : Type 0 where
+-- One banned turn more is read, by `part`, and taken; or a number is refused.
+pub record BanGot (part : (Turn → List ℕ → MapAnswer) → MapAnswer) (bytes : List ℕ) (lines next : ℕ) (s r : Taken) (w v : List ℕ) : Type 0 where
   pub turn : Turn
-  pub goes : (rest : Turn → List ℕ → MapAnswer) → step rest ≡ rest turn (drop next bytes)
+  pub goes : (rest : Turn → List ℕ → MapAnswer) → part rest ≡ rest turn (drop next bytes)
   pub sorted : BanSorted turn lines s w v r
 
-pub record BanRefused (step : (Turn → List ℕ → MapAnswer) → MapAnswer) (why : Fault) (w v : List ℕ) : Type 0 where
-  pub stops : (rest : Turn → List ℕ → MapAnswer) → step rest ≡ refused (faultOf why)
+pub record BanRefused (part : (Turn → List ℕ → MapAnswer) → MapAnswer) (why : Fault) (w v : List ℕ) : Type 0 where
+  pub stops : (rest : Turn → List ℕ → MapAnswer) → part rest ≡ refused (faultOf why)
   pub kept : Kept bansFrom bansTo w v
 
 unfoldable pub BanIsRead : ((Turn → List ℕ → MapAnswer) → MapAnswer) → List ℕ → ℕ → Taken → List ℕ → List ℕ → BanRead → Type 0
-BanIsRead step bytes lines s w v (BanRead.Got next r) = BanGot step bytes lines next s r w v
-BanIsRead step bytes lines s w v (BanRead.Refused why) = BanRefused step why w v
+BanIsRead part bytes lines s w v (BanRead.Got next r) = BanGot part bytes lines next s r w v
+BanIsRead part bytes lines s w v (BanRead.Refused why) = BanRefused part why w v
 
 -- What is left of a banned turn after its first number.
 unfoldable pub readSecond : ℕ → List ℕ → (Turn → List ℕ → MapAnswer) → MapAnswer

@@ -4,15 +4,16 @@ use buffers::number::number_at;
 use model::Refusal;
 ghost use mathlib.Core.Path.{_≡_};
 ghost use Rattle.model.specs.Refusal.{refusalOf};
-ghost use Rattle.depot_map.specs.Step.{faultOf, FieldRead};
+ghost use Rattle.depot_map.specs.Part.{faultOf, FieldRead};
 
-// Why a number of the map is refused: 2 to 5. It holds nothing, and so lies beside the numbers of `Got` and not under them: a loop over lines then
+// Why a number of the map is refused: 2 to 5, or 24. It holds nothing, and so lies beside the numbers of `Got` and not under them: a loop over lines then
 // keeps its position in a register.
 pub enum Fault {
     Number,
     Count,
     Coordinate,
     Line,
+    Step,
 }
 
 // The last number that was read and the position after it; or why the map is refused.
@@ -30,6 +31,7 @@ pub fn refusal_of(why: Fault) -> Refusal
         Fault::Count => Refusal::MapCount,
         Fault::Coordinate => Refusal::MapCoordinate,
         Fault::Line => Refusal::MapLine,
+        Fault::Step => Refusal::MapStep,
     }
 }
 

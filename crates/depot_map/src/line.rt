@@ -1,8 +1,11 @@
-// A line of the map: its seven numbers, from the bytes into the work area.
+// A line of the map: its nine numbers, from the bytes into the work area, where two sectors stand in place of the four steps.
 use crate::field::Fault;
 use crate::field::Read;
 use crate::field::field;
+use fields::sector::sector;
 use model::limits::GREATEST_LINE_LENGTH;
+use model::limits::GREATEST_STEP;
+use model::limits::STEP_ADDED;
 use work_area::LINE_NUMBERS;
 use work_area::LINES;
 ghost use Rattle.work_area.specs.Area.{lineSize};
@@ -10,7 +13,11 @@ ghost use Rattle.model.specs.Map.{greatestLineCount};
 ghost use Rattle.model.specs.Work.{workLength};
 ghost use Prim.Native.Nat.{_+_, _-_, _≤_, _<_};
 ghost use lib.ListN.{length};
-ghost use Rattle.depot_map.specs.Step.{AttributesRead, LineRead};
+ghost use lib.Dec.{eqb};
+ghost use mathlib.Core.Bool.{_&&_};
+ghost use mathlib.Core.Path.{_≡_};
+ghost use Rattle.model.specs.Sector.{stepAdded};
+ghost use Rattle.depot_map.specs.Part.{StepsRead, AttributesRead, LineRead};
 
 // The greatest road class (FRC).
 const GREATEST_FRC: u32 = 7;
@@ -18,8 +25,31 @@ const GREATEST_FRC: u32 = 7;
 // The greatest form of way (FOW).
 const GREATEST_FOW: u32 = 7;
 
-// The greatest bearing in degrees.
-const GREATEST_BEARING: u32 = 359;
+// Whether two steps as the map stores them are 0: they lead nowhere.
+fn both_zero(east: u32, north: u32) -> bool
+    ensures { λ r. ⌜ r ≡ (eqb east stepAdded && eqb north stepAdded) ⌝ }
+{
+    east == STEP_ADDED && north == STEP_ADDED
+}
+
+// Two steps, from byte `from` on: their sector. That both are 0 is a fault of the north step.
+fn read_steps(map: &[u8], from: usize) -> Read
+    ensures { λ r. ⌜ StepsRead (now (map .entry)) from r ⌝ }
+{
+    let why = Fault::Step;
+    let east = field(map, from, 0, GREATEST_STEP, why);
+    let Read::Got(east_step, after_east) = east else {
+        return east;
+    };
+    let north = field(map, after_east, 0, GREATEST_STEP, why);
+    let Read::Got(north_step, after_north) = north else {
+        return north;
+    };
+    if both_zero(east_step, north_step) {
+        return Read::Refused(why);
+    }
+    Read::Got(sector(east_step, north_step), after_north)
+}
 
 // What a line has besides its ends, for the line whose numbers start at `at`.
 fn read_attributes(map: &[u8], from: usize, work: &mut [u32], at: usize) -> Read
@@ -39,19 +69,19 @@ fn read_attributes(map: &[u8], from: usize, work: &mut [u32], at: usize) -> Read
     let Read::Got(form, after_fow) = fow else {
         return fow;
     };
-    let out = field(map, after_fow, 0, GREATEST_BEARING, why);
-    let Read::Got(bearing_out, after_out) = out else {
+    let out = read_steps(map, after_fow);
+    let Read::Got(sector_out, after_out) = out else {
         return out;
     };
-    let back = field(map, after_out, 0, GREATEST_BEARING, why);
-    let Read::Got(bearing_back, _) = back else {
+    let back = read_steps(map, after_out);
+    let Read::Got(sector_back, _) = back else {
         return back;
     };
     work[at + 2] = decimetres;
     work[at + 3] = class;
     work[at + 4] = form;
-    work[at + 5] = bearing_out;
-    work[at + 6] = bearing_back;
+    work[at + 5] = sector_out;
+    work[at + 6] = sector_back;
     back
 }
 

@@ -7,7 +7,7 @@ ghost use Prim.Native.Nat.{_≤_, _<_};
 ghost use lib.ListN.{length};
 ghost use Rattle.model.specs.Work.{workLength};
 ghost use Rattle.model.specs.Map.{greatestNodeCount};
-ghost use Rattle.depot_map.specs.Step.{NodeRead};
+ghost use Rattle.depot_map.specs.Part.{NodeRead};
 
 // The greatest longitude as the map stores it.
 const GREATEST_LONGITUDE: u32 = 35_999_998;

@@ -1,6 +1,6 @@
 -- The greatest length of a leg whose byte D is at most some number.
 use Prim.Native.Nat.{ℕ, _≤_}
-use Rattle.model.specs.Field.{distance, sector}
+use Rattle.model.specs.Field.{distance}
 use Rattle.model.specs.Reading.{greatestLegLength}
 use lib.ListN.{length}
 use Rattle.model.specs.Lines.{LineAttributes}

@@ -2,3 +2,4 @@
 pub mod Difference
 pub mod Leg
 pub mod Offset
+pub mod Sector

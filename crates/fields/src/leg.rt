@@ -1,17 +1,10 @@
-// A leg as a reference describes it, and the readings found of it; the sector of a line's bearing, and byte D of a leg.
+// A leg as a reference describes it, and the readings found of it; and byte D of a leg.
 use model::limits::DISTANCE_STEP;
 use model::limits::GREATEST_LEG_LENGTH;
 ghost use mathlib.Core.Path.{_≡_};
-ghost use Rattle.model.specs.Field.{sector, distance};
+ghost use Rattle.model.specs.Field.{distance};
 ghost use Rattle.fields.specs.Leg.{LongestLeg};
 ghost use Prim.Native.Nat.{_<_};
-
-// The sector of a bearing in whole degrees.
-pub fn sector(bearing: u32) -> u32
-    ensures { λ r. ⌜ r ≡ sector bearing ⌝ }
-{
-    (bearing as u64 * 4 / 45) as u32
-}
 
 // Byte D of a length in decimetres.
 pub fn distance(length: u32) -> u32
@@ -30,7 +23,7 @@ pub fn longest_leg(d: u32) -> u32
     GREATEST_LEG_LENGTH
 }
 
-// What a reference says of a line at a point: FRC, FOW and the sector of its bearing there.
+// What a reference says of a line at a point: FRC, FOW and its sector there.
 pub struct Attributes {
     pub frc: u32,
     pub fow: u32,

@@ -4,3 +4,4 @@
 pub mod coordinate;
 pub mod leg;
 pub mod offset;
+pub mod sector;

@@ -6,7 +6,7 @@ use buffers::wide;
 use legs::attributes::leaves_as;
 use stretches::lines::attributes_of;
 use stretches::lines::node_of;
-use work_area::BEARING_OUT;
+use work_area::SECTOR_OUT;
 use work_area::START;
 ghost use Prim.Native.Nat.{_<_};
 ghost use lib.ListN.{length};
@@ -25,7 +25,7 @@ pub fn alone_mark(work: &[u32], lines: usize, stretch: &[u32], i: usize) -> u8
 {
     let own = wide(stretch[i]);
     let v = node_of(work, lines, stretch, i, START);
-    let leaves = attributes_of(work, lines, stretch, i, BEARING_OUT);
+    let leaves = attributes_of(work, lines, stretch, i, SECTOR_OUT);
     let mut at = first_from(work, lines, v);
     while 0 < at {
         if at - 1 != own {

@@ -11,9 +11,9 @@ use model::limits::GREATEST_LEG_LENGTH;
 use stretches::lines::attributes_of;
 use stretches::lines::coordinate;
 use stretches::lines::node_of;
-use work_area::BEARING_BACK;
-use work_area::BEARING_OUT;
 use work_area::END;
+use work_area::SECTOR_BACK;
+use work_area::SECTOR_OUT;
 use work_area::START;
 ghost use mathlib.Core.Path.{_≡_};
 ghost use mathlib.Core.Bool.{cond};
@@ -93,7 +93,7 @@ fn arrival_to(work: &[u32], lines: usize, stretch: &[u32], j: usize) -> Arrival
     if j < stretch.len() {
         return Arrival::Any;
     }
-    Arrival::Matching(attributes_of(work, lines, stretch, j - 1, BEARING_BACK))
+    Arrival::Matching(attributes_of(work, lines, stretch, j - 1, SECTOR_BACK))
 }
 
 // The leg from position `i` to position `j`, of this lowest class and length, as its bytes will say.
@@ -113,7 +113,7 @@ pub fn leg_of(
 {
     let from = node_of(work, lines, stretch, i, START);
     let to = node_of(work, lines, stretch, j - 1, END);
-    let leaves = attributes_of(work, lines, stretch, i, BEARING_OUT);
+    let leaves = attributes_of(work, lines, stretch, i, SECTOR_OUT);
     let arrival = arrival_to(work, lines, stretch, j);
     let distance = distance(len);
     Leg {

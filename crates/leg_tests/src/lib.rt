@@ -11,8 +11,8 @@ use search_cells::adjacency::next_leaving;
 use stretches::lines::attributes_of;
 use stretches::lines::node_of;
 use way_lengths::Terminus;
-use work_area::BEARING_BACK;
 use work_area::END;
+use work_area::SECTOR_BACK;
 ghost use Prim.Native.Nat.{_*_, _≤_, _<_};
 ghost use lib.ListN.{length};
 ghost use Rattle.model.specs.Map.{Map};
@@ -68,7 +68,7 @@ fn test_last_column(
     let j = stretch.len();
     let own = Terminus::Line(wide(stretch[j - 1]));
     let column = test_own_column(work, lines, stretch, j, own, reach, table);
-    let arrives = attributes_of(work, lines, stretch, j - 1, BEARING_BACK);
+    let arrives = attributes_of(work, lines, stretch, j - 1, SECTOR_BACK);
     let v = node_of(work, lines, stretch, j - 1, END);
     let mut at = first_leaving(work, lines, v);
     while 0 < at {

@@ -10,7 +10,6 @@ use Rattle.model.specs.Map.{Line, Map}
 use Rattle.work_area.specs.Mirror.{mirror}
 use Rattle.work_area.proofs.Mirrored.{line-mirrored}
 use Rattle.way_lengths.specs.declared.Terminus.{Terminus}
-use Rattle.model.specs.Field.{sector}
 use Rattle.model.specs.Lines.{LineAttributes, lineAt, total, firstOf, lastOf, arriving, leaving}
 use Rattle.model.specs.Reading.{Leg, matching, Reading}
 use Rattle.model.proofs.Joining.{first-known, last-known}
@@ -119,7 +118,7 @@ module _ {m : Map} {w : List ℕ} {lines : ℕ} (h : Held w lines m) (l : ℕ) (
   leaving-at =
       let frc = sym (h .line-held l 3 known (omega arith)) in
       let fow = sym (h .line-held l 4 known (omega arith)) in
-      let sectored = ap sector (sym (h .line-held l 5 known (omega arith))) in
+      let sectored = sym (h .line-held l 5 known (omega arith)) in
       λ t. record { frc = frc t; fow = fow t; sector = sectored t }
 
   pub arriving-at : arriving m l ≡ attributesAt w l 6
@@ -127,5 +126,5 @@ module _ {m : Map} {w : List ℕ} {lines : ℕ} (h : Held w lines m) (l : ℕ) (
   arriving-at =
       let frc = sym (h .line-held l 3 known (omega arith)) in
       let fow = sym (h .line-held l 4 known (omega arith)) in
-      let sectored = ap sector (sym (h .line-held l 6 known (omega arith))) in
+      let sectored = sym (h .line-held l 6 known (omega arith)) in
       λ t. record { frc = frc t; fow = fow t; sector = sectored t }

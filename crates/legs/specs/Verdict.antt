@@ -8,7 +8,7 @@ use mathlib.Core.Bool.{cond}
 use mathlib.Core.List.{List}
 use lib.ListN.{length, getD}
 use lib.Dec.{eqb}
-use Rattle.model.specs.Field.{sector, distance}
+use Rattle.model.specs.Field.{distance}
 use Rattle.model.specs.Lines.{LineAttributes, lineAt, total, firstOf, lastOf, leaving, arriving}
 use Rattle.buffers.specs.Kept.{Kept}
 use Rattle.work_area.specs.Mirror.{mirror}
@@ -25,13 +25,13 @@ use Rattle.fields.specs.Leg.{legIn}
 use Rattle.model.specs.Reading as definitions
 use Rattle.ways.specs.declared.Ways.the-variants as found
 
--- The attributes of line `l` in a work area, by its number `bearing`.
+-- The attributes of line `l` in a work area, by its number `side`: the sector out or back.
 unfoldable pub attributesAt : List ℕ → ℕ → ℕ → LineAttributes
-attributesAt w l bearing =
+attributesAt w l side =
     record {
       frc = getD w (linePlace l + lineFrc) 0;
       fow = getD w (linePlace l + lineFow) 0;
-      sector = sector (getD w (linePlace l + bearing) 0);
+      sector = getD w (linePlace l + side) 0;
     }
 
 -- Exactly one list has the property `P`: `ls`, of this first and last line, length and count.

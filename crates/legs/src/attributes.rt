@@ -1,10 +1,9 @@
-// Whether a line has the attributes that a point gives: FRC, FOW and the sector of its bearing there.
+// Whether a line has the attributes that a point gives: FRC, FOW and its sector there.
 use fields::leg::Attributes;
-use fields::leg::sector;
-use work_area::BEARING_BACK;
-use work_area::BEARING_OUT;
 use work_area::FOW;
 use work_area::FRC;
+use work_area::SECTOR_BACK;
+use work_area::SECTOR_OUT;
 use work_area::field;
 ghost use Rattle.work_area.specs.Area.{lineSize, Held};
 ghost use Rattle.model.specs.Map.{greatestLineCount, Map};
@@ -17,10 +16,10 @@ ghost use Rattle.buffers.specs.Decides.{Decides};
 ghost use Rattle.fields.specs.Leg.{attributesIn};
 ghost use Rattle.legs.specs.Verdict.{attributesAt};
 
-// Whether line `l` has these attributes, by its number `bearing`.
-fn has_attributes(work: &[u32], l: usize, bearing: usize, a: Attributes) -> bool
-    requires { ⌜ (l < greatestLineCount) × (bearing < lineSize) × (workLength ≤ length (now work)) ⌝ }
-    ensures { λ r. ⌜ Decides (attributesAt (now (work .entry)) l bearing ≡ attributesIn a) r ⌝ }
+// Whether line `l` has these attributes, by its number `side`: the sector out or back.
+fn has_attributes(work: &[u32], l: usize, side: usize, a: Attributes) -> bool
+    requires { ⌜ (l < greatestLineCount) × (side < lineSize) × (workLength ≤ length (now work)) ⌝ }
+    ensures { λ r. ⌜ Decides (attributesAt (now (work .entry)) l side ≡ attributesIn a) r ⌝ }
 {
     if field(work, l, FRC) != a.frc {
         return false;
@@ -28,7 +27,7 @@ fn has_attributes(work: &[u32], l: usize, bearing: usize, a: Attributes) -> bool
     if field(work, l, FOW) != a.fow {
         return false;
     }
-    if sector(field(work, l, bearing)) != a.sector {
+    if field(work, l, side) != a.sector {
         return false;
     }
     true
@@ -40,7 +39,7 @@ pub fn leaves_as(work: &[u32], lines: usize, l: usize, a: Attributes) -> bool
     requires { ⌜ ((m : Map) × Held (now work) lines m) ⌝ }
     ensures { λ r. ⌜ ((m : Map) → Held (now (work .entry)) lines m → Decides (leaving m l ≡ attributesIn a) r) ⌝ }
 {
-    has_attributes(work, l, BEARING_OUT, a)
+    has_attributes(work, l, SECTOR_OUT, a)
 }
 
 // Whether line `l` has these attributes as seen from its end node.
@@ -49,5 +48,5 @@ pub fn arrives_as(work: &[u32], lines: usize, l: usize, a: Attributes) -> bool
     requires { ⌜ ((m : Map) × Held (now work) lines m) ⌝ }
     ensures { λ r. ⌜ ((m : Map) → Held (now (work .entry)) lines m → Decides (arriving m l ≡ attributesIn a) r) ⌝ }
 {
-    has_attributes(work, l, BEARING_BACK, a)
+    has_attributes(work, l, SECTOR_BACK, a)
 }

@@ -7,8 +7,7 @@ use native.Mathlib.Omega.{arith}
 use lib.ListN.{length}
 use lib.Dec.{eqb}
 use Rattle.model.specs.declared.Refusal.{Refusal}
-use Rattle.model.specs.declared.Refusal.the-variants.{WorkAreaShort, MapNumber, MapCount, MapCoordinate, MapLine, EqualCodes, StretchLines, StretchGap, StretchOffsets, NoChoice, BytesShort, ReferenceLength, ReferenceStatus, ReferenceBits, ReferenceFlags, NoNode, NoReading, SeveralReadings, NoOffset, LinesShort}
-use Rattle.model.specs.declared.Refusal.the-variants.{StretchBan, JoinedBan, MapBan}
+use Rattle.model.specs.declared.Refusal.the-variants.{WorkAreaShort, MapNumber, MapCount, MapCoordinate, MapLine, EqualCodes, StretchLines, StretchGap, StretchOffsets, NoChoice, BytesShort, ReferenceLength, ReferenceStatus, ReferenceBits, ReferenceFlags, NoNode, NoReading, SeveralReadings, NoOffset, LinesShort, StretchBan, JoinedBan, MapBan, MapStep}
 use Rattle.model.specs.declared.ReadAnswer.{ReadAnswer}
 use Rattle.model.specs.declared.WriteAnswer.{WriteAnswer}
 use Rattle.model.specs.Refusal.{numberOf, placeOf, refusalOf}
@@ -46,7 +45,8 @@ caseOf n k =
     (cond (eqb n 6) EqualCodes (cond (eqb n 7) StretchLines (cond (eqb n 8) StretchGap (cond (eqb n 9) StretchOffsets (cond (eqb n 10) NoChoice
     (cond (eqb n 11) BytesShort (cond (eqb n 12) ReferenceLength (cond (eqb n 13) ReferenceStatus (cond (eqb n 14) ReferenceBits
     (cond (eqb n 15) ReferenceFlags (cond (eqb n 16) (NoNode k) (cond (eqb n 17) (NoReading k) (cond (eqb n 18) (SeveralReadings k)
-    (cond (eqb n 19) NoOffset (cond (eqb n 20) LinesShort (cond (eqb n 21) StretchBan (cond (eqb n 22) JoinedBan MapBan)))))))))))))))))))))
+    (cond (eqb n 19) NoOffset (cond (eqb n 20) LinesShort (cond (eqb n 21) StretchBan (cond (eqb n 22) JoinedBan
+    (cond (eqb n 23) MapBan MapStep))))))))))))))))))))))
 
 case-back : (why : Refusal) → caseOf (numberOf (refusalOf why)) (placeOf (refusalOf why)) ≡ why
 unfolding caseOf numberOf placeOf refusalOf
@@ -73,6 +73,7 @@ case-back LinesShort = refl
 case-back StretchBan = refl
 case-back JoinedBan = refl
 case-back MapBan = refl
+case-back MapStep = refl
 
 -- Two cases of the enum are the same row of the table only where they are the same case.
 pub refusal-once : (a b : Refusal) → refusalOf a ≡ refusalOf b → a ≡ b

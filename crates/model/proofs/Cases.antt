@@ -30,3 +30,5 @@ pub mod Bans
 pub mod WrongTurns
 pub mod Meridian
 pub mod WrongLongitudes
+pub mod Sectors
+pub mod WrongSectors

@@ -8,7 +8,7 @@ use lib.ListN.{length}
 use lib.Dec.{leb, eqb}
 use Rattle.model.specs.declared.Span.{Span}
 use Rattle.model.specs.Map.{Map, lonCode, latCode}
-use Rattle.model.specs.Field.{code, codeSize, sector, distance, offsetByte}
+use Rattle.model.specs.Field.{code, codeSize, distance, offsetByte}
 use Rattle.model.specs.Difference.{differences}
 use Rattle.model.specs.Lines.{lineAt, total, leaving, arriving}
 use Rattle.model.specs.Reading.{joined}
@@ -22,7 +22,7 @@ use Rattle.model.proofs.Bytes.{AttributesFit, PointFits, OffsetFits, Fi
 use Rattle.model.proofs.Joining.{connected, first-ok, last-ok, lowest-small, from-known, as-many, first-leg, last-leg}
 use Rattle.model.proofs.Spans.{offset-byte, stated, span}
 
--- A code has 24 bits, and a sector five.
+-- A code has 24 bits.
 code-small : (half c : ℕ) → c < half + 18_000_000 → code half c < 16_777_216
 unfolding code codeSize
 code-small half c h = go (leb half c) refl
@@ -31,17 +31,13 @@ code-small half c h = go (leb half c) refl
     go true e = omega arith
     go false e = omega arith
 
-sector-small : (bearing : ℕ) → bearing ≤ 359 → sector bearing < 32
-unfolding sector
-sector-small bearing h = omega arith
-
 leaving-fits : {n : ℕ} (m : Map) (l : ℕ) → LineOk n (lineAt m l) → AttributesFit (leaving m l)
 unfolding leaving
-leaving-fits m l ok = record { frc = ok .frc; fow = ok .fow; sector = sector-small _ (ok .out) }
+leaving-fits m l ok = record { frc = ok .frc; fow = ok .fow; sector = ok .out }
 
 arriving-fits : {n : ℕ} (m : Map) (l : ℕ) → LineOk n (lineAt m l) → AttributesFit (arriving m l)
 unfolding arriving
-arriving-fits m l ok = record { frc = ok .frc; fow = ok .fow; sector = sector-small _ (ok .back) }
+arriving-fits m l ok = record { frc = ok .frc; fow = ok .fow; sector = ok .back }
 
 offset-fits : (leg offset : ℕ) → offset < leg → OffsetFits (offsetOf leg offset)
 unfolding offsetOf

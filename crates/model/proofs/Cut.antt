@@ -10,7 +10,8 @@ use lib.Dec.{leb, ltb, eqb}
 use borrow.Author.Tests.{leb-true, ltb-true, ltb-false, lt-ltb, le-ltb}
 use Rattle.model.specs.Number.{Number, got, faulty, groups, number}
 use Rattle.model.specs.Refusal.{Refused, row}
-use Rattle.model.specs.Map.{Node, Line, MapAnswer, greatestNodeCount, greatestLineCount, greatestLineLength, field, ended, readLine, decodeLines, readNode, decodeNodes, decode, Turn, greatestBanCount, greatestNumber, readBan, decodeBans}
+use Rattle.model.specs.Sector.{stepAdded, greatestStep}
+use Rattle.model.specs.Map.{Node, Line, MapAnswer, greatestNodeCount, greatestLineCount, greatestLineLength, field, ended, readSteps, readLine, decodeLines, readNode, decodeNodes, decode, Turn, greatestBanCount, greatestNumber, readBan, decodeBans}
 use Rattle.model.specs.Reference.{ParseAnswer, parse, shortestReference, longestReference}
 use Rattle.model.proofs.Tests.{both}
 
@@ -110,22 +111,31 @@ module _ (more : List ℕ) where
       go (got x after) f = ranged x after f (leb low x && leb x high) refl
       go faulty f = refl
 
-  line-more : (last : ℕ) (bs : List ℕ) (rest : Line → List ℕ → MapAnswer) (k : ℕ) → k + 35 ≤ length bs →
+  -- A refusal, or what goes on.
+  unless : (t : Bool) (n : ℕ) {a b : MapAnswer} → a ≡ b → tested t (MapAnswer.refused (row n)) a ≡ tested t (MapAnswer.refused (row n)) b
+  unless true n e = refl
+  unless false n e = e
+
+  steps-more : (bs : List ℕ) (rest : ℕ → List ℕ → MapAnswer) (k : ℕ) → k + 10 ≤ length bs →
+      ((sector : ℕ) (after : List ℕ) → k ≤ length after → rest sector (after ++ more) ≡ rest sector after) → readSteps (bs ++ more) rest ≡ readSteps bs rest
+  unfolding readSteps
+  steps-more bs rest k h later =
+      field-more bs 0 greatestStep (row 24) _ (k + 5) (omega arith) λ east bs₁ _ h₁.
+      field-more bs₁ 0 greatestStep (row 24) _ k (omega arith) λ north bs₂ _ h₂.
+      unless (eqb east stepAdded && eqb north stepAdded) 24 (later _ bs₂ h₂)
+
+  line-more : (last : ℕ) (bs : List ℕ) (rest : Line → List ℕ → MapAnswer) (k : ℕ) → k + 45 ≤ length bs →
       ((l : Line) (after : List ℕ) → k ≤ length after → rest l (after ++ more) ≡ rest l after) → readLine last (bs ++ more) rest ≡ readLine last bs rest
   unfolding readLine
   line-more last bs rest k h later =
-      field-more bs 0 last (row 5) _ (k + 30) (omega arith) λ start bs₁ _ h₁.
-      field-more bs₁ 0 last (row 5) _ (k + 25) (omega arith) λ end bs₂ _ h₂.
-      differ (eqb start end)
-      (field-more bs₂ 1 greatestLineLength (row 5) _ (k + 20) (omega arith) λ len bs₃ _ h₃.
-      field-more bs₃ 0 7 (row 5) _ (k + 15) (omega arith) λ frc bs₄ _ h₄.
-      field-more bs₄ 0 7 (row 5) _ (k + 10) (omega arith) λ fow bs₅ _ h₅.
-      field-more bs₅ 0 359 (row 5) _ (k + 5) (omega arith) λ out bs₆ _ h₆.
-      field-more bs₆ 0 359 (row 5) _ k (omega arith) λ back bs₇ _ h₇. later _ bs₇ h₇)
-    where
-      differ : (t : Bool) {a b : MapAnswer} → a ≡ b → tested t (MapAnswer.refused (row 5)) a ≡ tested t (MapAnswer.refused (row 5)) b
-      differ true e = refl
-      differ false e = e
+      field-more bs 0 last (row 5) _ (k + 40) (omega arith) λ start bs₁ _ h₁.
+      field-more bs₁ 0 last (row 5) _ (k + 35) (omega arith) λ end bs₂ _ h₂.
+      unless (eqb start end) 5
+      (field-more bs₂ 1 greatestLineLength (row 5) _ (k + 30) (omega arith) λ len bs₃ _ h₃.
+      field-more bs₃ 0 7 (row 5) _ (k + 25) (omega arith) λ frc bs₄ _ h₄.
+      field-more bs₄ 0 7 (row 5) _ (k + 20) (omega arith) λ fow bs₅ _ h₅.
+      steps-more bs₅ _ (k + 10) (omega arith) λ out bs₆ h₆.
+      steps-more bs₆ _ k (omega arith) λ back bs₇ h₇. later _ bs₇ h₇)
 
   ended-more : (bs : List ℕ) (nodes : List Node) (lines : List Line) (bans : List Turn) → 1 ≤ length bs →
       ended (bs ++ more) nodes lines bans ≡ ended bs nodes lines bans
@@ -142,31 +152,31 @@ module _ (more : List ℕ) where
       field-more bs₁ 0 greatestNumber (row 2) _ (left * 10 + 1) (omega arith) λ second bs₂ _ h₂.
       bans-more left bs₂ nodes lines (bans ++ record { first = first; second = second } ∷ []) h₂
 
-  lines-more : (left : ℕ) (bs : List ℕ) (nodes : List Node) (lines : List Line) → left * 35 + 5_126 ≤ length bs →
+  lines-more : (left : ℕ) (bs : List ℕ) (nodes : List Node) (lines : List Line) → left * 45 + 5_126 ≤ length bs →
       decodeLines left (bs ++ more) nodes lines ≡ decodeLines left bs nodes lines
   unfolding decodeLines
   lines-more zero bs nodes lines h =
       field-more bs 0 greatestBanCount (row 3) _ 5_121 (omega arith) λ count bs₁ few h₁. bans-more count bs₁ nodes lines [] (omega arith)
   lines-more (suc left) bs nodes lines h =
-      line-more (length nodes - 1) bs _ (left * 35 + 5_126) (omega arith) λ line after h′. lines-more left after nodes (lines ++ line ∷ []) h′
+      line-more (length nodes - 1) bs _ (left * 45 + 5_126) (omega arith) λ line after h′. lines-more left after nodes (lines ++ line ∷ []) h′
 
-  nodes-more : (left : ℕ) (bs : List ℕ) (nodes : List Node) → left * 10 + 40_971 ≤ length bs → decodeNodes left (bs ++ more) nodes ≡ decodeNodes left bs nodes
+  nodes-more : (left : ℕ) (bs : List ℕ) (nodes : List Node) → left * 10 + 51_211 ≤ length bs → decodeNodes left (bs ++ more) nodes ≡ decodeNodes left bs nodes
   unfolding decodeNodes readNode
   nodes-more zero bs nodes h =
-      field-more bs 1 greatestLineCount (row 3) _ 40_966 (omega arith) λ count bs₁ few h₁. lines-more count bs₁ nodes [] (omega arith)
+      field-more bs 1 greatestLineCount (row 3) _ 51_206 (omega arith) λ count bs₁ few h₁. lines-more count bs₁ nodes [] (omega arith)
   nodes-more (suc left) bs nodes h =
-      field-more bs 0 35_999_998 (row 4) _ (left * 10 + 40_976) (omega arith) λ lon bs₁ _ h₁.
-      field-more bs₁ 0 18_000_000 (row 4) _ (left * 10 + 40_971) (omega arith) λ lat bs₂ _ h₂.
+      field-more bs 0 35_999_998 (row 4) _ (left * 10 + 51_216) (omega arith) λ lon bs₁ _ h₁.
+      field-more bs₁ 0 18_000_000 (row 4) _ (left * 10 + 51_211) (omega arith) λ lat bs₂ _ h₂.
       nodes-more left bs₂ (nodes ++ record { lon = lon; lat = lat } ∷ []) h₂
 
--- Five bytes to each of 1 + 512 × 2 + 1 + 1,024 × 7 + 1 + 512 × 2 numbers: no map has more bytes.
+-- Five bytes to each of 1 + 512 × 2 + 1 + 1,024 × 9 + 1 + 512 × 2 numbers: no map has more bytes.
 abbrev pub mapBytesAtMost : ℕ
-mapBytesAtMost = 46_095
+mapBytesAtMost = 56_335
 
 decode-more : (bs more : List ℕ) → mapBytesAtMost < length bs → decode (bs ++ more) ≡ decode bs
 unfolding decode
 decode-more bs more h =
-    field-more more bs 2 greatestNodeCount (row 3) _ 46_091 (omega arith) λ count bs₁ few h₁. nodes-more more count bs₁ [] (omega arith)
+    field-more more bs 2 greatestNodeCount (row 3) _ 56_331 (omega arith) λ count bs₁ few h₁. nodes-more more count bs₁ [] (omega arith)
 
 -- ---- the cut
 

@@ -1,6 +1,6 @@
 -- A map that decodes is well formed: every field in its range, the ends of a line differ, no two nodes have the same pair of codes, and each banned
 -- turn is one of two lines that meet.
-use Prim.Native.Nat.{ℕ, zero, suc, _+_, _-_, _≤_}
+use Prim.Native.Nat.{ℕ, zero, suc, _+_, _-_, _≤_, _<_}
 use mathlib.Core.Path.{_≡_, refl, subst}
 use mathlib.Core.Logic.{_≢_}
 use mathlib.Core.Bool.{Bool, true, false, cond, _&&_}
@@ -11,10 +11,12 @@ use lib.Dec.{leb, eqb}
 use borrow.Author.Tests.{leb-true, eqb-false}
 use Rattle.model.specs.Refusal.{Refused, row}
 use Rattle.model.specs.Number.{Number, got, faulty, number}
-use Rattle.model.specs.Map.{Node, Line, Turn, Map, greatestNodeCount, greatestLineCount, greatestBanCount, MapAnswer, whole, refused, field, clash, allFitting, ended, readBan, decodeBans, readLine, decodeLines, readNode, decodeNodes, decode}
+use Rattle.model.specs.Sector.{stepAdded, sector}
+use Rattle.model.specs.Map.{Node, Line, Turn, Map, greatestNodeCount, greatestLineCount, greatestBanCount, MapAnswer, whole, refused, field, clash, allFitting, ended, readBan, decodeBans, readSteps, readLine, decodeLines, readNode, decodeNodes, decode}
 use Rattle.model.specs.Lines.{lineAt, nodeAt}
 use Rattle.model.specs.WellFormed.{NodeOk, LineOk, WellFormed}
 use Rattle.model.proofs.Tests.{both}
+use Rattle.model.proofs.Sectors.{sector-small}
 use Rattle.model.proofs.Every.{Every, none, also, every-append, every-at}
 
 not-whole : {n : Refused} {m : Map} → refused n ≡ whole m → ⊥
@@ -60,6 +62,19 @@ next-node bs e then =
     next (row 4) bs₁ e₁ λ lat bs₂ _ lat≤ e₂.
     then _ bs₂ (record { lon = lon≤; lat = lat≤ }) e₂
 
+-- Two steps that were read have a sector.
+next-steps : {m : Map} {rest : ℕ → List ℕ → MapAnswer} {G : Type 0} (bs : List ℕ) → readSteps bs rest ≡ whole m →
+    ((sector : ℕ) (after : List ℕ) → sector < 32 → rest sector after ≡ whole m → G) → G
+unfolding readSteps
+next-steps {m} {rest} {G} bs e then =
+    next (row 24) bs e λ east bs₁ _ _ e₁.
+    next (row 24) bs₁ e₁ λ north bs₂ _ _ e₂.
+    go east north bs₂ (eqb east stepAdded && eqb north stepAdded) e₂
+  where
+    go : (east north : ℕ) (after : List ℕ) (t : Bool) → elim t [ true ↦ refused (row 24) | false ↦ rest (sector east north) after ] ≡ whole m → G
+    go east north after true e = absurd (not-whole e)
+    go east north after false e = then (sector east north) after (sector-small east north) e
+
 next-line : {m : Map} {rest : Line → List ℕ → MapAnswer} {G : Type 0} (nodes : ℕ) (bs : List ℕ) → 1 ≤ nodes →
     readLine (nodes - 1) bs rest ≡ whole m → ((l : Line) (after : List ℕ) → LineOk nodes l → rest l after ≡ whole m → G) → G
 unfolding readLine
@@ -70,8 +85,8 @@ next-line nodes bs some e then =
     next (row 5) bs₂ e₂′ λ len bs₃ long len≤ e₃.
     next (row 5) bs₃ e₃ λ frc bs₄ _ frc≤ e₄.
     next (row 5) bs₄ e₄ λ fow bs₅ _ fow≤ e₅.
-    next (row 5) bs₅ e₅ λ out bs₆ _ out≤ e₆.
-    next (row 5) bs₆ e₆ λ back bs₇ _ back≤ e₇.
+    next-steps bs₅ e₅ λ out bs₆ out< e₆.
+    next-steps bs₆ e₆ λ back bs₇ back< e₇.
     then _ bs₇
     (record {
       start = omega arith;
@@ -81,8 +96,8 @@ next-line nodes bs some e then =
       long = len≤;
       frc = frc≤;
       fow = fow≤;
-      out = out≤;
-      back = back≤;
+      out = out<;
+      back = back<;
     }) e₇
 
 -- What the loop has read so far: the nodes, and then as many lines as are not left.

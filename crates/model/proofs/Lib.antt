@@ -3,6 +3,8 @@ pub mod Tests
 pub mod Every
 pub mod Longitudes
 pub mod Differences
+pub mod Sectors
+pub mod Squares
 pub mod Decoded
 pub mod Nodes
 pub mod Numbers

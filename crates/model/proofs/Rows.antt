@@ -1,4 +1,4 @@
--- The rows of the table that each part is refused with: a map 2 to 6 or 23, a stretch 7 to 9 or 21, a reference's bytes 12 to 15. So no refusal
+-- The rows of the table that each part is refused with: a map 2 to 6, 23 or 24, a stretch 7 to 9 or 21, a reference's bytes 12 to 15. So no refusal
 -- has the number 0. Only the least and the greatest number of a part are said.
 use Prim.Native.Nat.{ℕ, zero, suc, _+_, _-_, _%_, _*_, _≤_}
 use mathlib.Core.Path.{_≡_, refl, subst}
@@ -9,7 +9,8 @@ use lib.ListN.{length, getD}
 use lib.Dec.{ltb, leb, eqb}
 use Rattle.model.specs.Number.{Number, got, faulty, number}
 use Rattle.model.specs.Refusal.{Refused, row, rowAt, numberOf}
-use Rattle.model.specs.Map.{Map, Node, Line, Turn, MapAnswer, whole, field, ended, clash, allFitting, readBan, decodeBans, readLine, decodeLines, readNode, decodeNodes, decode}
+use Rattle.model.specs.Sector.{stepAdded}
+use Rattle.model.specs.Map.{Map, Node, Line, Turn, MapAnswer, whole, field, ended, clash, allFitting, readBan, decodeBans, readSteps, readLine, decodeLines, readNode, decodeNodes, decode}
 use Rattle.model.specs.Lines.{total}
 use Rattle.model.specs.Stretch.{Stretch, StretchAnswer, remains, greatestStretch, unknown, gap, bannedPair, remaining, checkStretch}
 use Rattle.model.specs.Reference.{Reference, ParseAnswer, parsed, parse, statusByte, spareBits, flags, pointCount, referenceAt, shortestReference, longestReference}
@@ -39,13 +40,13 @@ wider l h f = record { least = omega (arith, f .least); greatest = omega (arith,
 
 abbrev MapRows : MapAnswer → Type 0
 MapRows (whole m) = Unit {0}
-MapRows (MapAnswer.refused r) = From 2 23 r
+MapRows (MapAnswer.refused r) = From 2 24 r
 
 test-rows : (t : Bool) (a b : MapAnswer) → MapRows a → MapRows b → MapRows (elim t [ true ↦ a | false ↦ b ])
 test-rows true a b h k = h
 test-rows false a b h k = k
 
-field-rows : (bs : List ℕ) (low high n : ℕ) (rest : ℕ → List ℕ → MapAnswer) → From 2 23 (row n) → ((x : ℕ) (after : List ℕ) → MapRows (rest x after)) →
+field-rows : (bs : List ℕ) (low high n : ℕ) (rest : ℕ → List ℕ → MapAnswer) → From 2 24 (row n) → ((x : ℕ) (after : List ℕ) → MapRows (rest x after)) →
     MapRows (field bs low high (row n) rest)
 unfolding field
 field-rows bs low high n rest h more = go (number bs)
@@ -79,6 +80,13 @@ bans-rows (suc left) bs nodes lines bans =
     field-rows _ _ _ 2 _ (at 2 (omega arith) (omega arith)) λ second bs₂.
     bans-rows left bs₂ nodes lines (bans ++ record { first = first; second = second } ∷ [])
 
+steps-rows : (bs : List ℕ) (rest : ℕ → List ℕ → MapAnswer) → ((sector : ℕ) (after : List ℕ) → MapRows (rest sector after)) → MapRows (readSteps bs rest)
+unfolding readSteps
+steps-rows bs rest more =
+    field-rows _ _ _ 24 _ (at 24 (omega arith) (omega arith)) λ east bs₁.
+    field-rows _ _ _ 24 _ (at 24 (omega arith) (omega arith)) λ north bs₂.
+    test-rows (eqb east stepAdded && eqb north stepAdded) _ _ (at 24 (omega arith) (omega arith)) (more _ bs₂)
+
 line-rows : (last : ℕ) (bs : List ℕ) (rest : Line → List ℕ → MapAnswer) → ((l : Line) (after : List ℕ) → MapRows (rest l after)) →
     MapRows (readLine last bs rest)
 unfolding readLine
@@ -89,8 +97,8 @@ line-rows last bs rest more =
     (field-rows _ _ _ 5 _ (at 5 (omega arith) (omega arith)) λ len bs₃.
     field-rows _ _ _ 5 _ (at 5 (omega arith) (omega arith)) λ frc bs₄.
     field-rows _ _ _ 5 _ (at 5 (omega arith) (omega arith)) λ fow bs₅.
-    field-rows _ _ _ 5 _ (at 5 (omega arith) (omega arith)) λ out bs₆.
-    field-rows _ _ _ 5 _ (at 5 (omega arith) (omega arith)) λ back bs₇. more _ bs₇)
+    steps-rows _ _ λ out bs₆.
+    steps-rows _ _ λ back bs₇. more _ bs₇)
 
 lines-rows : (left : ℕ) (bs : List ℕ) (nodes : List Node) (lines : List Line) → MapRows (decodeLines left bs nodes lines)
 unfolding decodeLines
@@ -104,7 +112,7 @@ nodes-rows (suc left) bs nodes =
     field-rows _ _ _ 4 _ (at 4 (omega arith) (omega arith)) λ lon bs₁.
     field-rows _ _ _ 4 _ (at 4 (omega arith) (omega arith)) λ lat bs₂. nodes-rows left bs₂ (nodes ++ record { lon = lon; lat = lat } ∷ [])
 
-pub map-rows : (bs : List ℕ) (r : Refused) → decode bs ≡ MapAnswer.refused r → From 2 23 r
+pub map-rows : (bs : List ℕ) (r : Refused) → decode bs ≡ MapAnswer.refused r → From 2 24 r
 unfolding decode
 map-rows bs r e = subst MapRows e (field-rows _ _ _ 3 _ (at 3 (omega arith) (omega arith)) λ count bs₁. nodes-rows count bs₁ [])
 
@@ -188,9 +196,9 @@ write-on-rows : {test : LegTest} {bytes : List (List ℕ) → List ℕ} {lines :
 write-on-rows (WriteBy.no-choice n) = at 10 (omega arith) (omega arith)
 write-on-rows (WriteBy.no-room c h) = at 11 (omega arith) (omega arith)
 
--- What every call asks first is refused with 1 to 6, or 23.
+-- What every call asks first is refused with 1 to 6, 23 or 24.
 module _ {Outcome : Type 0} (refused : Refused → Outcome) (same : (r s : Refused) → refused r ≡ refused s → r ≡ s) (Asks : Map → Outcome → Type 0)
-    (high : ℕ) (why : Refused) (asked : (m : Map) → Asks m (refused why) → From 1 high why) (enough : 23 ≤ high) where
+    (high : ℕ) (why : Refused) (asked : (m : Map) → Asks m (refused why) → From 1 high why) (enough : 24 ≤ high) where
   on-map-rows : (mb : List ℕ) (a : MapAnswer) → decode mb ≡ a → OnMap refused Asks a (refused why) → From 1 high why
   on-map-rows mb (whole m) e h = asked m h
   on-map-rows mb (MapAnswer.refused r) e h = rw (same why r h) (wider (omega arith) enough (map-rows mb r e))
@@ -206,24 +214,24 @@ write-same : (r s : Refused) → WriteOutcome.refused r ≡ WriteOutcome.refused
 write-same r s e = cc
 
 parsed-rows : (m : Map) (ref : List ℕ) (a : ParseAnswer) (room : ℕ) (why : Refused) → parse ref ≡ a →
-    ReadParsed m a room (ReadOutcome.refused why) → From 1 23 why
+    ReadParsed m a room (ReadOutcome.refused why) → From 1 24 why
 parsed-rows m ref (parsed r) room why e h = wider (omega arith) (omega arith) (read-on-rows h)
 parsed-rows m ref (ParseAnswer.refused r) room why e h = rw (read-same why r h) (wider (omega arith) (omega arith) (parse-rows ref r e))
 
 left-rows : (m : Map) (s : Stretch) (a : StretchAnswer) (room : ℕ) (why : Refused) → checkStretch m s ≡ a → WriteStretch m a room (WriteOutcome.refused why) →
-    From 1 23 why
+    From 1 24 why
 left-rows m s (remains t) room why e h = wider (omega arith) (omega arith) (write-on-rows h)
 left-rows m s (StretchAnswer.refused r) room why e h = rw (write-same why r h) (wider (omega arith) (omega arith) (stretch-rows m s r e))
 
--- The numbers of the reader's and of the writer's refusals are 1 to 23.
-pub read-rows : (mb ref : List ℕ) (work room : ℕ) (why : Refused) → Reads mb ref work room (ReadOutcome.refused why) → From 1 23 why
+-- The numbers of the reader's and of the writer's refusals are 1 to 24.
+pub read-rows : (mb ref : List ℕ) (work room : ℕ) (why : Refused) → Reads mb ref work room (ReadOutcome.refused why) → From 1 24 why
 read-rows mb ref work room why h =
-    opens-rows ReadOutcome.refused read-same (λ m. ReadParsed m (parse ref) room) 23 why (λ m. parsed-rows m ref (parse ref) room why refl)
+    opens-rows ReadOutcome.refused read-same (λ m. ReadParsed m (parse ref) room) 24 why (λ m. parsed-rows m ref (parse ref) room why refl)
     (omega arith) mb work h
 
-pub write-rows : (mb : List ℕ) (s : Stretch) (work room : ℕ) (why : Refused) → Writes mb s work room (WriteOutcome.refused why) → From 1 23 why
+pub write-rows : (mb : List ℕ) (s : Stretch) (work room : ℕ) (why : Refused) → Writes mb s work room (WriteOutcome.refused why) → From 1 24 why
 write-rows mb s work room why h =
-    opens-rows WriteOutcome.refused write-same (λ m. WriteStretch m (checkStretch m s) room) 23 why (λ m. left-rows m s (checkStretch m s) room why refl)
+    opens-rows WriteOutcome.refused write-same (λ m. WriteStretch m (checkStretch m s) room) 24 why (λ m. left-rows m s (checkStretch m s) room why refl)
     (omega arith) mb work h
 
 -- No refusal has the number 0, which tells a C host that a call was accepted.

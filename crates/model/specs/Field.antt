@@ -11,10 +11,6 @@ codeSize c = (c * 33_554_432 + 36_000_000) / 72_000_000
 unfoldable pub code : ℕ → ℕ → ℕ
 code half c = cond (leb half c) (codeSize (c - half)) ((16_777_216 - codeSize (half - c)) % 16_777_216)
 
--- "Sector: bearing × 4 ÷ 45, rounded down."
-unfoldable pub sector : ℕ → ℕ
-sector bearing = bearing * 4 / 45
-
 -- "D: leg length divided by 586, rounded down." 586 decimetres are OpenLR's 58.6 m.
 abbrev pub distanceStep : ℕ
 distanceStep = 586

@@ -1,6 +1,7 @@
 -- What the promises mean. In the order of paper 01, as far as one definition needs another.
 pub mod Number
 pub mod Field
+pub mod Sector
 pub mod Map
 pub mod Difference
 pub mod Lines

@@ -6,7 +6,6 @@ use mathlib.Core.List.{List, [], _∷_}
 use lib.ListN.{length, getD}
 use lib.Dec.{eqb}
 use Rattle.model.specs.Map.{Node, Line, noLine, Turn, Map}
-use Rattle.model.specs.Field.{sector}
 
 unfoldable pub lineAt : Map → ℕ → Line
 lineAt m l = getD (m .lines) l noLine
@@ -53,15 +52,16 @@ lastOf [] = 0
 lastOf (l ∷ []) = l
 lastOf (l ∷ k ∷ ls) = lastOf (k ∷ ls)
 
--- What a reference says of a line at a point (OpenLR's line attributes): FRC, FOW and the sector of its bearing there.
+-- What a reference says of a line at a point (OpenLR's line attributes): FRC, FOW and its sector there.
 pub record LineAttributes : Type 0 where
   pub frc : ℕ
   pub fow : ℕ
   pub sector : ℕ
 
--- "FRC, FOW and sector belong to the line leaving the point (bearing out); for the last point, to the line arriving (bearing back)."
+-- "FRC, FOW and sector belong to the line leaving the point (bearing out); for the last point, to the line arriving (bearing back)." The sector is
+-- the one found from the drawing (W3).
 unfoldable pub leaving : Map → ℕ → LineAttributes
-leaving m l = record { frc = lineAt m l .frc; fow = lineAt m l .fow; sector = sector (lineAt m l .out) }
+leaving m l = record { frc = lineAt m l .frc; fow = lineAt m l .fow; sector = lineAt m l .out }
 
 unfoldable pub arriving : Map → ℕ → LineAttributes
-arriving m l = record { frc = lineAt m l .frc; fow = lineAt m l .fow; sector = sector (lineAt m l .back) }
+arriving m l = record { frc = lineAt m l .frc; fow = lineAt m l .fow; sector = lineAt m l .back }

@@ -1,4 +1,4 @@
--- The depot map: what its bytes hold, or which row of the table refuses them (paper 01, "The depot map"; paper 02, W1; refusals 2 to 6 and 23).
+-- The depot map: what its bytes hold, or which row of the table refuses them (paper 01, "The depot map"; paper 02, W1 and W3; refusals 2 to 6, 23 and 24).
 use Prim.Native.Nat.{ℕ, zero, suc, _-_}
 use mathlib.Core.Bool.{Bool, true, false, cond, _&&_, _||_}
 use mathlib.Core.List.{List, [], _∷_, _++_}
@@ -6,6 +6,7 @@ use lib.ListN.{length, getD}
 use lib.Dec.{ltb, leb, eqb}
 use Rattle.model.specs.Number.{got, faulty, number}
 use Rattle.model.specs.Field.{code}
+use Rattle.model.specs.Sector.{stepAdded, greatestStep, sector}
 use Rattle.model.specs.Refusal.{Refused, row}
 
 -- Coordinates as the map stores them, in hundred-thousandths of a degree: longitude + 18,000,000, latitude + 9,000,000.
@@ -13,7 +14,8 @@ pub record Node : Type 0 where
   pub lon : ℕ
   pub lat : ℕ
 
--- A line runs one way, from node `start` to node `end`. Bearings: `out` as seen from the start node, `back` from the end node.
+-- A line runs one way, from node `start` to node `end`. Sectors: `out` as seen from the start node, `back` from the end node. Nothing looks at
+-- the steps that they are found from (W3), so a line does not keep them.
 pub record Line : Type 0 where
   pub start : ℕ
   pub end : ℕ
@@ -115,7 +117,18 @@ unfoldable pub decodeBans : ℕ → List ℕ → List Node → List Line → Lis
 decodeBans zero bs nodes lines bans = ended bs nodes lines bans
 decodeBans (suc left) bs nodes lines bans = readBan bs λ ban after. decodeBans left after nodes lines (bans ++ ban ∷ [])
 
--- One line: its seven numbers, the node numbers up to `last`; then `rest`. "Equal ends are a fault of the end node's number."
+-- "In place of each bearing, the point 20 m along it as two whole decimetre steps, east and north", refused with "24 (in byte order with 2 to 5) a
+-- step out of range or both zero, the latter a fault of the north step" (W3); then `rest` with their sector.
+unfoldable pub readSteps : List ℕ → (ℕ → List ℕ → MapAnswer) → MapAnswer
+readSteps bs rest =
+    field bs 0 greatestStep (row 24) λ east bs₁.
+    field bs₁ 0 greatestStep (row 24) λ north bs₂.
+    elim (eqb east stepAdded && eqb north stepAdded) [
+      | true ↦ refused (row 24)
+      | false ↦ rest (sector east north) bs₂
+    ]
+
+-- One line: its nine numbers, the node numbers up to `last`; then `rest`. "Equal ends are a fault of the end node's number."
 unfoldable pub readLine : ℕ → List ℕ → (Line → List ℕ → MapAnswer) → MapAnswer
 readLine last bs rest =
     field bs 0 last (row 5) λ start bs₁.
@@ -126,8 +139,8 @@ readLine last bs rest =
           field bs₂ 1 greatestLineLength (row 5) λ len bs₃.
           field bs₃ 0 7 (row 5) λ frc bs₄.
           field bs₄ 0 7 (row 5) λ fow bs₅.
-          field bs₅ 0 359 (row 5) λ out bs₆.
-          field bs₆ 0 359 (row 5) λ back bs₇.
+          readSteps bs₅ λ out bs₆.
+          readSteps bs₆ λ back bs₇.
           rest (record { start = start; end = end; length = len; frc = frc; fow = fow; out = out; back = back }) bs₇
     ]
 

@@ -1,4 +1,4 @@
--- What every call with a map asks first: the work area (refusal 1), then the map (2 to 6, and 23 of W1) (paper 01, "Refused, by place").
+-- What every call with a map asks first: the work area (refusal 1), then the map (2 to 6, 23 of W1 and 24 of W3) (paper 01, "Refused, by place").
 use Prim.Native.Nat.{ℕ}
 use mathlib.Core.Path.{_≡_}
 use mathlib.Core.Bool.{Bool, true, false}

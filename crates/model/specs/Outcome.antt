@@ -65,7 +65,7 @@ pub data ReadOn (m : Map) (r : Reference) (room : ℕ) : ReadOutcome → Type 0 
   every-leg : {legs : List Leg} {lss : List (List ℕ)} {o : ReadOutcome} →
       locate m r ≡ located legs → LegsRead m 0 legs (every lss) → ReadJoined (bannedMeeting m lss) m r room lss o → ReadOn m r room o
 
--- Row by row: the reference (12 to 15) after the map (2 to 6, 23) after the work area (1).
+-- Row by row: the reference (12 to 15) after the map (2 to 6, 23, 24) after the work area (1).
 abbrev pub ReadParsed : Map → ParseAnswer → ℕ → ReadOutcome → Type 0
 ReadParsed m (parsed r) room o = ReadOn m r room o
 ReadParsed m (ParseAnswer.refused r) room o = o ≡ refused r
@@ -92,7 +92,7 @@ pub data WriteBy (test : LegTest) (bytes : List (List ℕ) → List ℕ) (lines 
 abbrev pub WriteOn : Map → Stretch → ℕ → WriteOutcome → Type 0
 WriteOn m s room o = WriteBy (good m) (λ lss. stretchBytes m lss s) (s .lines) room o
 
--- Row by row: the stretch as given (7, 8, 21, 9) after the map (2 to 6, 23) after the work area (1).
+-- Row by row: the stretch as given (7, 8, 21, 9) after the map (2 to 6, 23, 24) after the work area (1).
 abbrev pub WriteStretch : Map → StretchAnswer → ℕ → WriteOutcome → Type 0
 WriteStretch m (remains s) room o = WriteOn m s room o
 WriteStretch m (StretchAnswer.refused r) room o = o ≡ refused r

@@ -1,10 +1,7 @@
--- A refusal as the paper gives it, and which one each case of the enum `Refusal` is (paper 01, "Refused, by place"; 21 to 23: paper 02, W1).
+-- A refusal as the paper gives it, and which one each case of the enum `Refusal` is (paper 01, "Refused, by place"; 21 to 23: paper 02, W1; 24: W3).
 use Prim.Native.Nat.{ℕ}
 use Rattle.model.specs.declared.Refusal.{Refusal}
-use Rattle.model.specs.declared.Refusal.the-variants.{WorkAreaShort, MapNumber, MapCount, MapCoordinate, MapLine, EqualCodes, StretchLines}
-use Rattle.model.specs.declared.Refusal.the-variants.{StretchGap, StretchOffsets, NoChoice, BytesShort, ReferenceLength, ReferenceStatus, ReferenceBits}
-use Rattle.model.specs.declared.Refusal.the-variants.{ReferenceFlags, NoNode, NoReading, SeveralReadings, NoOffset, LinesShort}
-use Rattle.model.specs.declared.Refusal.the-variants.{StretchBan, JoinedBan, MapBan}
+use Rattle.model.specs.declared.Refusal.the-variants.{WorkAreaShort, MapNumber, MapCount, MapCoordinate, MapLine, EqualCodes, StretchLines, StretchGap, StretchOffsets, NoChoice, BytesShort, ReferenceLength, ReferenceStatus, ReferenceBits, ReferenceFlags, NoNode, NoReading, SeveralReadings, NoOffset, LinesShort, StretchBan, JoinedBan, MapBan, MapStep}
 
 -- A number of the table. "Refusals 16, 17 and 18 also carry the first point or leg concerned, from 0."
 pub data Refused : Type 0 where
@@ -45,3 +42,4 @@ refusalOf LinesShort = row 20
 refusalOf StretchBan = row 21
 refusalOf JoinedBan = row 22
 refusalOf MapBan = row 23
+refusalOf MapStep = row 24

@@ -1,4 +1,4 @@
--- What every map that decodes is held to (paper 01, "The depot map"). That it is, is `well-formed` in proofs/Decoded.antt.
+-- What every map that decodes is held to (paper 01, "The depot map"; paper 02, W1 and W3). That it is, is `well-formed` in proofs/Decoded.antt.
 use Prim.Native.Nat.{ℕ, _≤_, _<_}
 use mathlib.Core.Path.{_≡_}
 use mathlib.Core.Logic.{_≢_}
@@ -19,8 +19,8 @@ pub record LineOk (nodes : ℕ) (l : Line) : Type 0 where
   pub long : l .length ≤ greatestLineLength
   pub frc : l .frc ≤ 7
   pub fow : l .fow ≤ 7
-  pub out : l .out ≤ 359
-  pub back : l .back ≤ 359
+  pub out : l .out < 32
+  pub back : l .back < 32
 
 pub record WellFormed (m : Map) : Type 0 where
   pub node-ok : (v : ℕ) → v < length (m .nodes) → NodeOk (nodeAt m v)

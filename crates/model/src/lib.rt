@@ -30,6 +30,7 @@ pub enum Refusal {
     StretchBan,
     JoinedBan,
     MapBan,
+    MapStep,
 }
 
 // The least and the greatest offset, in decimetres, that an offset byte may stand for. 0 and 0 where there is no byte.
@@ -81,6 +82,7 @@ pub fn row_of(why: Refusal) -> Row
         Refusal::StretchBan => Row(21, 0),
         Refusal::JoinedBan => Row(22, 0),
         Refusal::MapBan => Row(23, 0),
+        Refusal::MapStep => Row(24, 0),
     }
 }
 

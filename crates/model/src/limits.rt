@@ -12,6 +12,11 @@ pub const GREATEST_BAN_COUNT: u32 = 512;
 
 pub const GREATEST_LINE_LENGTH: u32 = 150_000;
 
+// What is added to a step where the map stores it, and the greatest number so stored (specs/Sector.antt).
+pub const STEP_ADDED: u32 = 250;
+
+pub const GREATEST_STEP: u32 = 500;
+
 // The greatest length of a leg in decimetres (specs/Reading.antt).
 pub const GREATEST_LEG_LENGTH: u32 = 150_000;
 

@@ -8,10 +8,10 @@ use Rattle.model.specs.Difference.{differences}
 use Rattle.model.specs.Reference.{bytes2, pointBytes}
 use Rattle.model.specs.Choice.{fromNode, toNode, pointOf}
 use Rattle.reference_bytes.specs.declared.point.Point.{Point}
-use Rattle.reference_bytes.specs.declared.point.Step.{Step}
+use Rattle.reference_bytes.specs.declared.point.Differences.{Differences}
 
 -- The differences between the ends of some lines.
-pub record StepIs (m : Map) (ls : List ℕ) (r : Step) : Type 0 where
+pub record DifferencesAre (m : Map) (ls : List ℕ) (r : Differences) : Type 0 where
   pub lon : r .lon ≡ differences (nodeAt m (fromNode m ls)) (nodeAt m (toNode m ls)) .lon
   pub lat : r .lat ≡ differences (nodeAt m (fromNode m ls)) (nodeAt m (toNode m ls)) .lat
 

@@ -16,7 +16,7 @@ use stretches::lines::attributes_of;
 use stretches::lines::coordinate;
 use stretches::lines::node_of;
 use stretches::lines::total_length;
-use work_area::BEARING_BACK;
+use work_area::SECTOR_BACK;
 use work_area::START;
 ghost use mathlib.Core.Path.{_≡_};
 ghost use Prim.Native.Nat.{ℕ, _+_, _*_, _-_, _≤_, _<_};
@@ -197,7 +197,7 @@ fn put_end(
         (cutLeg (now (stretch .entry)) cs (legs - 1)) pos neg) (now (bytes .entry))) ⌝ }
 {
     let at = Reference::FIRST_P + Reference::MIDDLE_POINT * legs;
-    let a = attributes_of(work, lines, stretch, stretch.len() - 1, BEARING_BACK);
+    let a = attributes_of(work, lines, stretch, stretch.len() - 1, SECTOR_BACK);
     let first = leg_length(work, lines, stretch, cuts, legs, 0);
     let last = leg_length(work, lines, stretch, cuts, legs, legs - 1);
     put_last(bytes, at, a, pos, neg);

@@ -9,8 +9,8 @@ use stretches::lines::coordinate;
 use stretches::lines::lowest_class;
 use stretches::lines::node_of;
 use stretches::lines::total_length;
-use work_area::BEARING_OUT;
 use work_area::END;
+use work_area::SECTOR_OUT;
 use work_area::START;
 ghost use mathlib.Core.Path.{_≡_};
 ghost use mathlib.Core.Bool.{Bool};
@@ -21,7 +21,7 @@ ghost use Rattle.model.specs.Difference.{Near, difference};
 ghost use Rattle.model.specs.Choice.{Good};
 ghost use Rattle.work_area.specs.Area.{Held};
 ghost use Rattle.stretches.specs.Stretch.{Known};
-ghost use Rattle.reference_bytes.specs.Point.{PointIs, StepIs};
+ghost use Rattle.reference_bytes.specs.Point.{PointIs, DifferencesAre};
 
 // The numbers in the bytes of a point but the last: P, Q and D, and the differences to the next point.
 pub struct Point {
@@ -33,7 +33,7 @@ pub struct Point {
 }
 
 // The differences from the first to the last node of a leg.
-pub struct Step {
+pub struct Differences {
     pub lon: u32,
     pub lat: u32,
 }
@@ -50,11 +50,11 @@ fn near_difference(from: u32, to: u32) -> u32
 }
 
 // The differences of a leg that may be used, that of longitudes brought round.
-fn step_of(work: &[u32], lines: usize, leg: &[u32]) -> Step
+fn differences_of(work: &[u32], lines: usize, leg: &[u32]) -> Differences
     requires { ⌜ Known lines (now leg) ⌝ }
     requires { ⌜ ((m : Map) × (last : Bool) × Held (now work) lines m × Good m last (now leg)) ⌝ }
     ensures { λ r. ⌜ ((m : Map) → (last : Bool) → Held (now (work .entry)) lines m → Good m last (now (leg .entry))
-        → StepIs m (now (leg .entry)) r) ⌝ }
+        → DifferencesAre m (now (leg .entry)) r) ⌝ }
 {
     let from = node_of(work, lines, leg, 0, START);
     let to = node_of(work, lines, leg, leg.len() - 1, END);
@@ -67,7 +67,7 @@ fn step_of(work: &[u32], lines: usize, leg: &[u32]) -> Step
         coordinate(work, lines, from, 1),
         coordinate(work, lines, to, 1),
     );
-    Step { lon, lat }
+    Differences { lon, lat }
 }
 
 // The point that a leg that may be used starts at.
@@ -77,10 +77,10 @@ pub fn point_of(work: &[u32], lines: usize, leg: &[u32]) -> Point
     ensures { λ r. ⌜ ((m : Map) → (last : Bool) → Held (now (work .entry)) lines m → Good m last (now (leg .entry))
         → PointIs m (now (leg .entry)) r) ⌝ }
 {
-    let leaves = attributes_of(work, lines, leg, 0, BEARING_OUT);
+    let leaves = attributes_of(work, lines, leg, 0, SECTOR_OUT);
     let lowest = lowest_class(work, lines, leg);
     let length = total_length(work, lines, leg);
-    let step = step_of(work, lines, leg);
+    let by = differences_of(work, lines, leg);
     let p = leaves.frc * 8 + leaves.fow;
     let q = lowest * 32 + leaves.sector;
     let d = distance(length as u32);
@@ -88,7 +88,7 @@ pub fn point_of(work: &[u32], lines: usize, leg: &[u32]) -> Point
         p,
         q,
         d,
-        lon: step.lon,
-        lat: step.lat,
+        lon: by.lon,
+        lat: by.lat,
     }
 }

@@ -2,10 +2,9 @@
 use Prim.Native.Nat.{ℕ}
 use lib.ListN.{getD}
 use Rattle.model.specs.Map.{Line}
-use Rattle.model.specs.Field.{sector}
 use Rattle.model.specs.Lines.{LineAttributes}
 use Rattle.work_area.specs.Area.{lineNumbers}
 
--- A line's attributes by its number `bearing`.
+-- A line's attributes by its number `side`: the sector out or back.
 unfoldable pub attributesBy : Line → ℕ → LineAttributes
-attributesBy l bearing = record { frc = l .frc; fow = l .fow; sector = sector (getD (lineNumbers l) bearing 0) }
+attributesBy l side = record { frc = l .frc; fow = l .fow; sector = getD (lineNumbers l) side 0 }

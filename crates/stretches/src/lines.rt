@@ -1,7 +1,6 @@
 // Lines of a stretch and the nodes at their ends, as the map in the work area has them.
 use buffers::wide;
 use fields::leg::Attributes;
-use fields::leg::sector;
 use work_area::FOW;
 use work_area::FRC;
 use work_area::LENGTH;
@@ -63,22 +62,16 @@ pub fn lowest_class(work: &[u32], lines: usize, list: &[u32]) -> u32
     class
 }
 
-// FRC, FOW and the sector of the line at `i`, by its number `bearing`.
-pub fn attributes_of(
-    work: &[u32],
-    lines: usize,
-    list: &[u32],
-    i: usize,
-    bearing: usize,
-) -> Attributes
-    requires { ⌜ Known lines (now list) × (i < length (now list)) × (bearing < lineSize) ⌝ }
+// FRC, FOW and a sector of the line at `i`, by its number `side`: the sector out or back.
+pub fn attributes_of(work: &[u32], lines: usize, list: &[u32], i: usize, side: usize) -> Attributes
+    requires { ⌜ Known lines (now list) × (i < length (now list)) × (side < lineSize) ⌝ }
     requires { ⌜ ((m : Map) × Held (now work) lines m) ⌝ }
     ensures { λ r. ⌜ ((m : Map) → Held (now (work .entry)) lines m
-        → attributesIn r ≡ attributesBy (lineAt m (getD (now (list .entry)) i 0)) bearing) ⌝ }
+        → attributesIn r ≡ attributesBy (lineAt m (getD (now (list .entry)) i 0)) side) ⌝ }
 {
     let frc = field_of(work, lines, list, i, FRC);
     let fow = field_of(work, lines, list, i, FOW);
-    let sector = sector(field_of(work, lines, list, i, bearing));
+    let sector = field_of(work, lines, list, i, side);
     Attributes { frc, fow, sector }
 }
 

@@ -12,8 +12,9 @@ use fields::coordinate::moved;
 use fields::leg::Arrival;
 use fields::leg::Attributes;
 use fields::leg::distance;
-use fields::leg::sector;
 use fields::offset::offset_byte;
+use fields::sector::sector;
+use model::limits::STEP_ADDED;
 use model::number_of;
 use references::leg::leg_at;
 use references::reference::Form;
@@ -142,14 +143,24 @@ fn show_offset(word: &[u8], offset: Offset) {
 }
 
 // The fields that the values of Tables 72 to 74 give: the tables named are those that print their bits.
+// Its bearings of 135, 227 and 290 degrees are drawn, as a map has them: 20 m along, east and north in decimetres.
 fn show_fields() {
     print(b"\nTable 76: ", longitude_code(LONGITUDE_1) as u64);
     print(b"\nTable 77: ", latitude_code(LATITUDE_1) as u64);
-    print(b"\nTable 79: ", sector(135) as u64);
+    print(
+        b"\nTable 79: ",
+        sector(STEP_ADDED + 141, STEP_ADDED - 141) as u64,
+    );
     print(b"\nTable 80: ", distance(5_610) as u64);
-    print(b"\nTable 84: ", sector(227) as u64);
+    print(
+        b"\nTable 84: ",
+        sector(STEP_ADDED - 146, STEP_ADDED - 136) as u64,
+    );
     print(b"\nTable 85: ", distance(2_740) as u64);
-    print(b"\nTable 89: ", sector(290) as u64);
+    print(
+        b"\nTable 89: ",
+        sector(STEP_ADDED - 188, STEP_ADDED + 68) as u64,
+    );
     print(b"\nTable 90: ", offset_byte(5_610, 1_500) as u64);
     write(b"\n");
 }

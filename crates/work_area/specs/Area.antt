@@ -48,11 +48,11 @@ lineFrc = 3
 abbrev pub lineFow : ℕ
 lineFow = 4
 
-abbrev pub bearingOut : ℕ
-bearingOut = 5
+abbrev pub sectorOut : ℕ
+sectorOut = 5
 
-abbrev pub bearingBack : ℕ
-bearingBack = 6
+abbrev pub sectorBack : ℕ
+sectorBack = 6
 
 -- ---- behind the map: the cells of searches
 
@@ -124,7 +124,7 @@ codesTo = bucketsFrom + buckets
 
 -- ---- a map that is held
 
--- The numbers of a node and of a line, in the order of the map's bytes.
+-- The numbers of a node and of a line, in the order of the map's bytes; a line's sectors stand where the map has the steps that they are found from (W3).
 abbrev pub nodeNumbers : Node → List ℕ
 nodeNumbers a = a .lon ∷ a .lat ∷ []
 

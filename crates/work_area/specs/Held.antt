@@ -3,7 +3,7 @@ use Prim.Native.Nat.{ℕ, zero, suc, _+_}
 use mathlib.Core.List.{List, [], _∷_, _++_}
 use lib.ListN.{getD}
 use Rattle.model.specs.Map.{Node, Line}
-use Rattle.work_area.specs.Area.{nodePlace, linePlace, latitude, endNode, lineLength, lineFrc, lineFow, bearingOut, bearingBack}
+use Rattle.work_area.specs.Area.{nodePlace, linePlace, latitude, endNode, lineLength, lineFrc, lineFow, sectorOut, sectorBack}
 
 unfoldable pub heldNode : List ℕ → ℕ → Node
 heldNode w i = record { lon = getD w (nodePlace i) 0; lat = getD w (nodePlace i + latitude) 0 }
@@ -17,8 +17,8 @@ lineFrom w at =
       length = getD w (at + lineLength) 0;
       frc = getD w (at + lineFrc) 0;
       fow = getD w (at + lineFow) 0;
-      out = getD w (at + bearingOut) 0;
-      back = getD w (at + bearingBack) 0;
+      out = getD w (at + sectorOut) 0;
+      back = getD w (at + sectorBack) 0;
     }
 
 unfoldable pub heldLine : List ℕ → ℕ → Line

@@ -26,7 +26,7 @@ pub const LINES: usize = NODE_NUMBERS * NODES;
 
 pub const LINE_NUMBERS: usize = 7;
 
-// Which number of a line is which.
+// Which number of a line is which. Its sectors are found once, while the map is read.
 pub const START: usize = 0;
 
 pub const END: usize = 1;
@@ -37,9 +37,9 @@ pub const FRC: usize = 3;
 
 pub const FOW: usize = 4;
 
-pub const BEARING_OUT: usize = 5;
+pub const SECTOR_OUT: usize = 5;
 
-pub const BEARING_BACK: usize = 6;
+pub const SECTOR_BACK: usize = 6;
 
 // Behind the map. A number for each line: the length found to it, and its predecessor.
 pub const LENGTHS: usize = LINES + LINE_NUMBERS * MAP_LINES;

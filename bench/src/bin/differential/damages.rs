@@ -2,29 +2,34 @@
 
 use plain::depot_map::{Ban, DepotMap};
 use plain::fields::{coordinate_code, NEGATIVE_FLAG, POSITIVE_FLAG, SHORTEST_REFERENCE};
-use plain::maps::{push_number, MapPlan, Xorshift};
+use plain::maps::{number_parts, push_number, MapPlan, Xorshift, LINE_NUMBERS, PAIR_NUMBERS};
 
 use crate::inputs::{random_bytes, EASTERNMOST, MOST_BANS, WESTERNMOST};
-use crate::points::{legs, place_of_p, steps, Step};
+use crate::points::{hops, legs, place_of_p, Hop};
 
 /// At the edges of the ranges of a map's numbers.
 #[rustfmt::skip]
-const EDGE_NUMBERS: [u32; 20] = [
-    0, 1, 2, 7, 8, 359, 360, 511, 512, 513, 1024, 1025, 150_000, 150_001,
+const EDGE_NUMBERS: [u32; 21] = [
+    0, 1, 2, 7, 8, 250, 500, 501, 511, 512, 513, 1024, 1025, 150_000, 150_001,
     18_000_000, 18_000_001, 35_999_998, 35_999_999, 36_000_000, u32::MAX,
 ];
+
+/// A step of 0 as it is stored, and steps that are out of range.
+const NO_STEP: u32 = 250;
+const TOO_FAR: [u32; 5] = [501, 502, 511, 512, u32::MAX];
 
 /// The bytes of a map with something changed. They may still be those of a map.
 pub fn damaged_map(rng: &mut Xorshift, plan: &MapPlan) -> Vec<u8> {
     let mut bytes = plan.encode();
     let part = any_part(rng, plan);
-    match rng.below(9) {
+    match rng.below(11) {
         0 => change_bytes(rng, &mut bytes[part..]),
         1 => bytes.truncate(part + rng.below((bytes.len() - part) as u32) as usize),
         2 => bytes.extend(random_bytes(rng, &[1, 2, 7])),
         3 => return with_same_codes(rng, plan),
         4 => return with_no_turn(rng, plan),
         5 => bytes = random_bytes(rng, &[0, 1, 2, 10, 60]),
+        6 | 7 => return with_faulty_steps(rng, plan),
         _ => return with_other_numbers(rng, plan),
     }
     bytes
@@ -52,15 +57,19 @@ fn change_bytes(rng: &mut Xorshift, bytes: &mut [u8]) {
 /// A node moved to another, or next to it; at times with a ban of no turn as well.
 fn with_same_codes(rng: &mut Xorshift, plan: &MapPlan) -> Vec<u8> {
     let mut plan = plan.clone();
+    move_node_to_another(rng, &mut plan);
+    match rng.below(4) {
+        0 => with_no_turn(rng, &plan),
+        _ => plan.encode(),
+    }
+}
+
+fn move_node_to_another(rng: &mut Xorshift, plan: &mut MapPlan) {
     let mut place = *rng.pick(&plan.nodes);
     place.longitude += rng.below(3) as i32 - 1;
     place.latitude += rng.below(3) as i32 - 1;
     let moved = rng.below(plan.nodes.len() as u32) as usize;
     plan.nodes[moved] = place;
-    match rng.below(4) {
-        0 => with_no_turn(rng, &plan),
-        _ => plan.encode(),
-    }
 }
 
 /// One ban more, or where there is no room in place of another, of lines that need not meet or of no
@@ -89,12 +98,11 @@ fn with_no_turn(rng: &mut Xorshift, plan: &MapPlan) -> Vec<u8> {
 
 /// One of the counts, coordinates, fields and bans becomes another number, or some do.
 fn with_other_numbers(rng: &mut Xorshift, plan: &MapPlan) -> Vec<u8> {
-    let bytes = plan.encode();
-    let numbers = bytes.split_inclusive(|&byte| byte < 0x80);
-    let mut numbers: Vec<Vec<u8>> = numbers.map(<[u8]>::to_vec).collect();
+    let mut numbers = all_numbers(plan);
     let (nodes, lines) = (plan.nodes.len() as u32, plan.lines.len() as u32);
     let count_of_lines = 1 + 2 * nodes;
-    let count_of_bans = count_of_lines + 1 + 7 * lines;
+    let line_numbers = LINE_NUMBERS as u32 * lines;
+    let count_of_bans = count_of_lines + 1 + line_numbers;
     for _ in 0..*rng.pick(&[1, 1, 3]) {
         let place = match rng.below(10) {
             0 => 0,
@@ -102,7 +110,7 @@ fn with_other_numbers(rng: &mut Xorshift, plan: &MapPlan) -> Vec<u8> {
             2 => count_of_bans,
             3..=5 => rng.within(1, 2 * nodes),
             6 => rng.within(count_of_bans, numbers.len() as u32 - 1),
-            _ => count_of_lines + rng.within(1, 7 * lines),
+            _ => count_of_lines + rng.within(1, line_numbers),
         };
         let number = &mut numbers[place as usize];
         *number = other_number(rng, number);
@@ -123,6 +131,59 @@ fn other_number(rng: &mut Xorshift, number: &[u8]) -> Vec<u8> {
         _ => push_number(&mut other, *rng.pick(&EDGE_NUMBERS)),
     }
     other
+}
+
+fn all_numbers(plan: &MapPlan) -> Vec<Vec<u8>> {
+    let bytes = plan.encode();
+    number_parts(&bytes).map(<[u8]>::to_vec).collect()
+}
+
+fn number(value: u32) -> Vec<u8> {
+    let mut bytes = Vec::new();
+    push_number(&mut bytes, value);
+    bytes
+}
+
+/// A pair of steps out of range or both 0, at times with a north step in no right form or with none.
+/// Then nodes may have the same codes as well, and the numbers behind the pair may be faulty.
+fn with_faulty_steps(rng: &mut Xorshift, plan: &MapPlan) -> Vec<u8> {
+    let mut plan = plan.clone();
+    if rng.below(4) == 0 {
+        move_node_to_another(rng, &mut plan);
+    }
+    let mut numbers = all_numbers(&plan);
+    let (east, north) = places_of_steps(rng, &plan);
+    if rng.below(4) == 0 {
+        let behind = rng.within(north as u32 + 1, numbers.len() as u32 - 1) as usize;
+        numbers[behind] = other_number(rng, &numbers[behind]);
+    }
+    let too_far = number(*rng.pick(&TOO_FAR));
+    match rng.below(6) {
+        0 => numbers[east] = too_far,
+        1 => numbers[north] = too_far,
+        2 => numbers[east..=north].fill(number(NO_STEP)),
+        3 => {
+            numbers[east] = number(NO_STEP);
+            numbers[north] = other_number(rng, &number(NO_STEP));
+        }
+        4 => {
+            numbers[east] = too_far;
+            numbers[north] = other_number(rng, &number(NO_STEP));
+        }
+        _ => {
+            numbers[east] = too_far;
+            numbers.truncate(north);
+        }
+    }
+    numbers.concat()
+}
+
+/// Where the east and the north step of some pair stand among the numbers of the map.
+fn places_of_steps(rng: &mut Xorshift, plan: &MapPlan) -> (usize, usize) {
+    let line = rng.below(plan.lines.len() as u32) as usize;
+    let next_line = 2 + 2 * plan.nodes.len() + LINE_NUMBERS * (line + 1);
+    let east = next_line - PAIR_NUMBERS * rng.within(1, 2) as usize;
+    (east, east + 1)
 }
 
 /// A reference with something changed, once or twice. It may still be one.
@@ -196,12 +257,12 @@ fn move_point(rng: &mut Xorshift, map: &DepotMap, bytes: &mut [u8]) {
 /// A later point moves to the 180th meridian, unless that is too far, or beside a node. Those after it
 /// stay.
 fn move_point_to_meridian(rng: &mut Xorshift, map: &DepotMap, bytes: &mut [u8]) {
-    let steps = steps(map, bytes);
-    if steps.is_empty() {
+    let hops = hops(map, bytes);
+    if hops.is_empty() {
         return move_point(rng, map, bytes);
     }
-    let place = rng.below(steps.len() as u32) as usize;
-    let Step { from, differences } = steps[place];
+    let place = rng.below(hops.len() as u32) as usize;
+    let Hop { from, differences } = hops[place];
     let mut to = from.place_at(differences);
     let node = *rng.pick(&map.nodes);
     to.latitude = *rng.pick(&[to.latitude, node.latitude]);
@@ -210,23 +271,23 @@ fn move_point_to_meridian(rng: &mut Xorshift, map: &DepotMap, bytes: &mut [u8]) 
         to.longitude = node.longitude + *rng.pick(&[-1, 1]);
     }
     let [longitude, latitude] = from.differences_to(to);
-    let step = [longitude - differences[0], latitude - differences[1]];
-    move_point_by(bytes, place + 1, step);
+    let way = [longitude - differences[0], latitude - differences[1]];
+    move_point_by(bytes, place + 1, way);
 }
 
-fn move_point_by(bytes: &mut [u8], point: usize, step: [i32; 2]) {
-    add_to_differences(bytes, point, step);
+fn move_point_by(bytes: &mut [u8], point: usize, way: [i32; 2]) {
+    add_to_differences(bytes, point, way);
     if point < legs(bytes) {
-        add_to_differences(bytes, point + 1, step.map(i32::wrapping_neg));
+        add_to_differences(bytes, point + 1, way.map(i32::wrapping_neg));
     }
 }
 
-fn add_to_differences(bytes: &mut [u8], point: usize, step: [i32; 2]) {
+fn add_to_differences(bytes: &mut [u8], point: usize, way: [i32; 2]) {
     let end = place_of_p(point);
     let (pairs, _) = bytes[end - 4..end].as_chunks_mut();
-    for (pair, step) in pairs.iter_mut().zip(step) {
+    for (pair, way) in pairs.iter_mut().zip(way) {
         *pair = i16::from_be_bytes(*pair)
-            .wrapping_add(step as i16)
+            .wrapping_add(way as i16)
             .to_be_bytes();
     }
 }

@@ -1,9 +1,10 @@
 //! Maps, stretches, offsets and references from a random source.
 
 use plain::depot_map::{Ban, DepotMap};
-use plain::fields::{brought_round, STATUS_BYTE};
+use plain::fields::{brought_round, Steps, LONGEST_STEP, STATUS_BYTE};
 use plain::maps::{
-    chain, grid, random_graph, random_walk, small_map, Bans, Lengths, MapPlan, Turns, Xorshift,
+    any_steps, chain, grid, nearest_steps, random_graph, random_walk, small_map, Bans, Lengths,
+    MapPlan, Turns, Xorshift,
 };
 use plain::writer::{reference_bytes, Stretch, MOST_LINES};
 
@@ -31,6 +32,9 @@ pub fn any_small_plan(rng: &mut Xorshift) -> MapPlan {
             plan.lines[line].length = *rng.pick(&EDGE_LENGTHS);
         }
     }
+    if rng.below(4) != 0 {
+        draw_steps(rng, &mut plan);
+    }
     match rng.below(8) {
         0 | 1 => move_to_corner(rng, &mut plan),
         2 => move_over_meridian(rng, &mut plan),
@@ -39,6 +43,47 @@ pub fn any_small_plan(rng: &mut Xorshift) -> MapPlan {
     }
     plan.bans = any_bans(rng, &plan);
     plan
+}
+
+/// A few directions for all lines, and for some lines steps beside them. So many lines have one sector
+/// by different steps, or sectors next to each other.
+fn draw_steps(rng: &mut Xorshift, plan: &mut MapPlan) {
+    let count = *rng.pick(&[1, 1, 2, 3, 4, 40]);
+    let directions: Vec<Steps> = (0..count).map(|_| steps_with_edges(rng)).collect();
+    let rarity = *rng.pick(&[1, 2, 8]);
+    for line in &mut plan.lines {
+        for steps in [&mut line.out, &mut line.back] {
+            *steps = *rng.pick(&directions);
+            if rng.below(rarity) == 0 {
+                *steps = steps_beside(rng, *steps);
+            }
+        }
+    }
+}
+
+/// At or next to the edge of a sector, at the ends of the range, or anything.
+fn steps_with_edges(rng: &mut Xorshift) -> Steps {
+    let reaches = [1, 2, 5, 200, 249, 250, rng.within(1, 250)];
+    let reach = *rng.pick(&reaches);
+    match rng.below(6) {
+        0 => nearest_steps(f64::from(90 * rng.below(4)), f64::from(reach)),
+        1 => {
+            let [east, north] = [(); 2].map(|()| *rng.pick(&[-1, 1]) * reach as i32);
+            Steps { east, north }
+        }
+        2 | 3 => nearest_steps(11.25 * f64::from(rng.below(32)), f64::from(reach)),
+        _ => any_steps(rng),
+    }
+}
+
+/// Steps that differ by one at most, unless both would be 0.
+fn steps_beside(rng: &mut Xorshift, steps: Steps) -> Steps {
+    let [east, north] = [steps.east, steps.north]
+        .map(|step| (step + rng.below(3) as i32 - 1).clamp(-LONGEST_STEP, LONGEST_STEP));
+    match (east, north) {
+        (0, 0) => steps,
+        _ => Steps { east, north },
+    }
 }
 
 /// Some turns of the map: none, one, a few or many, and some of them listed again.
@@ -109,6 +154,9 @@ pub fn full_size_plan(rng: &mut Xorshift, turn: u64) -> MapPlan {
         _ => chain(seed, Lengths::Equal),
     };
     let mut plan = plan.shuffled(seed);
+    if rng.below(2) == 0 {
+        draw_steps(rng, &mut plan);
+    }
     if rng.below(4) == 0 {
         move_over_meridian(rng, &mut plan);
     }

@@ -6,12 +6,14 @@
 
 mod c_functions;
 mod calls;
+mod counts;
 mod damages;
 mod inputs;
 mod memory;
 mod meridian;
 mod points;
 mod run;
+mod step_counts;
 
 use std::io;
 use std::process::ExitCode;

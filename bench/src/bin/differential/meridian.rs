@@ -5,7 +5,8 @@ use plain::maps::MapPlan;
 use plain::outcome::{Outcome, Reading, Refusal, WORK_AREA};
 use plain::writer::{write, Stretch};
 
-use crate::points::{steps, Step};
+use crate::counts::print_rows;
+use crate::points::{hops, Hop};
 
 /// How many calls went over the meridian eastward, and how many westward.
 type Ways = [u64; 2];
@@ -40,10 +41,10 @@ pub struct Meridian {
 
 impl Meridian {
     pub fn count_written(&mut self, map: &DepotMap, reference: &[u8]) {
-        let steps = steps(map, reference);
+        let hops = hops(map, reference);
         for way in [EAST, WEST] {
-            let across = || steps.iter().filter(|step| is_across(step, way));
-            let has = |difference| across().any(|step| step.differences[0] == difference);
+            let across = || hops.iter().filter(|hop| is_across(hop, way));
+            let has = |difference| across().any(|hop| hop.differences[0] == difference);
             count(&mut self.written[way], across().next().is_some());
             count(&mut self.written_greatest[way], has(GREATEST[way]));
             count(&mut self.written_least[way], has(LEAST[way]));
@@ -51,24 +52,24 @@ impl Meridian {
     }
 
     /// Of what is left of a stretch with refusal 10.
-    pub fn count_too_far(&mut self, map: &DepotMap, left: &Stretch) {
+    pub fn count_too_far(&mut self, map: &DepotMap, plan: &MapPlan, left: &Stretch) {
         for way in [EAST, WEST] {
             let is_too_far = has_nodes_apart(map, left, TOO_GREAT[way]);
-            let is_alone = is_too_far && is_written_with_sides_nearer(map, left);
+            let is_alone = is_too_far && is_written_with_sides_nearer(plan, left);
             count(&mut self.too_far[way], is_alone);
         }
     }
 
     pub fn count_read(&mut self, map: &DepotMap, reference: &[u8], outcome: &Outcome<Reading>) {
-        let steps = match outcome {
-            Ok(_) | Err(Refusal::PointWithoutNode(1..)) => steps(map, reference),
+        let hops = match outcome {
+            Ok(_) | Err(Refusal::PointWithoutNode(1..)) => hops(map, reference),
             Err(_) => return,
         };
         for way in [EAST, WEST] {
             if outcome.is_ok() {
-                let mut all = steps.iter();
-                count(&mut self.read[way], all.any(|step| is_across(step, way)));
-            } else if let Some(last) = steps.last() {
+                let mut all = hops.iter();
+                count(&mut self.read[way], all.any(|hop| is_across(hop, way)));
+            } else if let Some(last) = hops.last() {
                 count(&mut self.no_node[way], is_across(last, way));
                 let has_none = last.plain_longitude() == NO_LONGITUDE[way];
                 count(&mut self.no_longitude[way], has_none);
@@ -87,15 +88,7 @@ impl Meridian {
             ("refused 16", self.no_node),
             ("refused 16 at 17,999,999", self.no_longitude),
         ];
-        println!("over the 180th meridian, eastward and westward:");
-        for (what, [east, west]) in rows {
-            println!("  {what}: {east} {west}");
-        }
-        let missing = |(_, ways): &&(&str, Ways)| ways.contains(&0);
-        match rows.iter().find(missing) {
-            Some((what, _)) => Err(format!("no call over the 180th meridian: {what}")),
-            None => Ok(()),
-        }
+        print_rows("over the 180th meridian, eastward and westward", &rows)
     }
 }
 
@@ -103,10 +96,10 @@ fn count(calls: &mut u64, is_one: bool) {
     *calls += u64::from(is_one);
 }
 
-fn is_across(step: &Step, way: usize) -> bool {
+fn is_across(hop: &Hop, way: usize) -> bool {
     match way {
-        EAST => step.plain_longitude() >= 18_000_000,
-        _ => step.plain_longitude() < -18_000_000,
+        EAST => hop.plain_longitude() >= 18_000_000,
+        _ => hop.plain_longitude() < -18_000_000,
     }
 }
 
@@ -125,8 +118,8 @@ fn has_nodes_apart(map: &DepotMap, stretch: &Stretch, difference: i32) -> bool {
 }
 
 /// Whether the stretch is written where all nodes on one side of the meridian are one nearer to it.
-fn is_written_with_sides_nearer(map: &DepotMap, stretch: &Stretch) -> bool {
-    let mut plan = MapPlan::of(map);
+fn is_written_with_sides_nearer(plan: &MapPlan, stretch: &Stretch) -> bool {
+    let mut plan = plan.clone();
     let west_of_greenwich = plan.nodes.iter_mut().filter(|node| node.longitude < 0);
     west_of_greenwich.for_each(|node| node.longitude -= 1);
     let (pos, neg) = (stretch.positive, stretch.negative);

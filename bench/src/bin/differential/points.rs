@@ -14,26 +14,26 @@ pub fn place_of_p(point: usize) -> usize {
 
 /// From a point that has a node to the next, which need not have one.
 #[derive(Clone, Copy)]
-pub struct Step {
+pub struct Hop {
     pub from: Node,
     /// Of longitude and latitude, as the bytes have them.
     pub differences: [i32; 2],
 }
 
-impl Step {
-    /// The longitude that the step leads to before it is brought round.
+impl Hop {
+    /// The longitude that the hop leads to before it is brought round.
     pub fn plain_longitude(&self) -> i32 {
         self.from.longitude + self.differences[0]
     }
 }
 
-/// The steps of a reference of 16 bytes at least, up to the first point without a node.
-pub fn steps(map: &DepotMap, reference: &[u8]) -> Vec<Step> {
+/// The hops of a reference of 16 bytes at least, up to the first point without a node.
+pub fn hops(map: &DepotMap, reference: &[u8]) -> Vec<Hop> {
     let code = |at: usize| {
         let bytes = [reference[at], reference[at + 1], reference[at + 2], 0];
         i32::from_be_bytes(bytes) >> 8
     };
-    let mut steps = Vec::new();
+    let mut hops = Vec::new();
     let mut node = map.node_with_codes(code(1), code(4));
     for point in 1..=legs(reference) {
         let Some(from) = node.map(|node| map.node(node)) else {
@@ -41,9 +41,9 @@ pub fn steps(map: &DepotMap, reference: &[u8]) -> Vec<Step> {
         };
         let differences = differences(reference, point);
         node = map.node_at(from.place_at(differences));
-        steps.push(Step { from, differences });
+        hops.push(Hop { from, differences });
     }
-    steps
+    hops
 }
 
 /// They stand before P of a later point.

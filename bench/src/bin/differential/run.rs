@@ -12,6 +12,7 @@ use crate::inputs::{
     random_bytes, reference_along_chain,
 };
 use crate::meridian::Meridian;
+use crate::step_counts::{self, StepCounts};
 
 /// Of so many maps one is of full size, and one is for long lists.
 const FULL_SIZE_EVERY: u64 = 10;
@@ -19,9 +20,11 @@ const FULL_SIZE_EVERY: u64 = 10;
 const ENOUGH_FOR_LINES: usize = 4 * MOST_LINES_READ;
 
 /// How many calls had each answer: accepted, and then every refusal by its number.
-type Answers = [u64; 24];
-const OF_WRITER: [usize; 12] = [2, 3, 4, 5, 6, 23, 7, 8, 21, 9, 10, 11];
-const OF_READER: [usize; 16] = [2, 3, 4, 5, 6, 23, 12, 13, 14, 15, 16, 17, 18, 22, 19, 20];
+type Answers = [u64; 25];
+const OF_WRITER: [usize; 13] = [2, 3, 4, 5, 24, 6, 23, 7, 8, 21, 9, 10, 11];
+const OF_READER: [usize; 17] = [
+    2, 3, 4, 5, 24, 6, 23, 12, 13, 14, 15, 16, 17, 18, 22, 19, 20,
+];
 
 #[derive(Default)]
 pub struct Run {
@@ -33,12 +36,21 @@ pub struct Run {
     /// Calls with refusal 21 in which all banned turns are in lines skipped whole.
     banned_where_skipped: u64,
     meridian: Meridian,
+    steps: StepCounts,
 }
 
-/// A map with its bytes.
+/// A map with its bytes and its plan, which has the steps of its lines.
 struct Sample {
     bytes: Vec<u8>,
     map: DepotMap,
+    plan: MapPlan,
+}
+
+impl Sample {
+    fn new(bytes: Vec<u8>, map: DepotMap) -> Sample {
+        let plan = MapPlan::of_bytes(&bytes);
+        Sample { bytes, map, plan }
+    }
 }
 
 impl Run {
@@ -83,7 +95,7 @@ impl Run {
         let Ok(map) = DepotMap::decode(&bytes) else {
             return self.on_no_map(rng, &bytes);
         };
-        let sample = Sample { bytes, map };
+        let sample = Sample::new(bytes, map);
         for _ in 0..stretches {
             self.stretch(rng, &sample)?;
         }
@@ -126,13 +138,13 @@ impl Run {
             neg,
             room: *rng.pick(&rooms) as usize,
         };
-        let Ok(reference) = self.write_on(&sample.map, call)? else {
+        let Ok(reference) = self.write_on(sample, call)? else {
             return Ok(());
         };
         let length = reference.len() as u32;
         let rooms = [length, length, length - 1, rng.below(length)];
         let room = *rng.pick(&rooms) as usize;
-        let _ = self.write_on(&sample.map, WriteCall { room, ..call })?;
+        let _ = self.write_on(sample, WriteCall { room, ..call })?;
         for _ in 0..3 {
             let damaged = damaged_reference(rng, &sample.map, &reference);
             self.reference(rng, sample, &damaged)?;
@@ -154,13 +166,13 @@ impl Run {
             reference,
             room: *rng.pick(&rooms),
         };
-        let Ok(reading) = self.read_on(&sample.map, call)? else {
+        let Ok(reading) = self.read_on(sample, call)? else {
             return Ok(());
         };
         let enough = 4 * reading.lines.len();
         let room = *rng.pick(&[enough, enough + 3, enough - 1, enough - 4, 0]);
         let call = ReadCall { room, ..call };
-        self.read_on(&sample.map, call).map(drop)
+        self.read_on(sample, call).map(drop)
     }
 
     /// References of about 1,024 lines and of many more.
@@ -171,6 +183,7 @@ impl Run {
         }
         let bytes = plan.encode();
         let map = DepotMap::decode(&bytes).map_err(|refusal| refusal.to_string())?;
+        let sample = Sample::new(bytes, map);
         for lines in [
             MOST_LINES_READ - 1,
             MOST_LINES_READ,
@@ -178,18 +191,22 @@ impl Run {
             10_000,
         ] {
             let call = ReadCall {
-                map: &bytes,
-                reference: &reference_along_chain(&map, lines),
+                map: &sample.bytes,
+                reference: &reference_along_chain(&sample.map, lines),
                 room: *rng.pick(&[ENOUGH_FOR_LINES, ENOUGH_FOR_LINES - 1, 8 * lines]),
             };
-            let _ = self.read_on(&map, call)?;
+            let _ = self.read_on(&sample, call)?;
         }
         Ok(())
     }
 
-    fn read_on(&mut self, map: &DepotMap, call: ReadCall) -> Result<Outcome<Reading>, String> {
+    fn read_on(&mut self, sample: &Sample, call: ReadCall) -> Result<Outcome<Reading>, String> {
         let outcome = self.read(call)?;
-        self.meridian.count_read(map, call.reference, &outcome);
+        self.meridian
+            .count_read(&sample.map, call.reference, &outcome);
+        if let Ok(reading) = &outcome {
+            self.steps.count_read(&sample.plan, &reading.lines);
+        }
         Ok(outcome)
     }
 
@@ -198,14 +215,18 @@ impl Run {
         let compared = call.compare();
         let outcome = compared.map_err(|difference| format!("{call}\n{difference}"))?;
         count(&mut self.reads, &outcome);
+        if let Err(Refusal::Step) = outcome {
+            self.steps.count_refused(call.map, step_counts::READER);
+        }
         let lines = outcome.as_ref().map_or(0, |reading| reading.lines.len());
         self.most_lines = self.most_lines.max(lines);
         Ok(outcome)
     }
 
     /// What is written is read back.
-    fn write_on(&mut self, map: &DepotMap, call: WriteCall) -> Result<Outcome<Vec<u8>>, String> {
+    fn write_on(&mut self, sample: &Sample, call: WriteCall) -> Result<Outcome<Vec<u8>>, String> {
         let outcome = self.write(call)?;
+        let map = &sample.map;
         let lines = line_numbers(call.stretch);
         let given = Stretch {
             lines: &lines,
@@ -215,11 +236,12 @@ impl Run {
         match &outcome {
             Ok(reference) => {
                 self.meridian.count_written(map, reference);
-                self.read_back(map, call, reference, &given.without_skipped_lines(map))?;
+                let left = given.without_skipped_lines(map);
+                self.read_back(sample, call, reference, &left)?;
             }
             Err(Refusal::NoUsablePoints) => {
                 let left = given.without_skipped_lines(map);
-                self.meridian.count_too_far(map, &left);
+                self.meridian.count_too_far(map, &sample.plan, &left);
             }
             Err(Refusal::BannedInStretch) => {
                 let is_skipped = is_banned_where_skipped(map, &given);
@@ -235,6 +257,9 @@ impl Run {
         let compared = call.compare();
         let outcome = compared.map_err(|difference| format!("{call}\n{difference}"))?;
         count(&mut self.writes, &outcome);
+        if let Err(Refusal::Step) = outcome {
+            self.steps.count_refused(call.map, step_counts::WRITER);
+        }
         let length = outcome.as_ref().map_or(0, Vec::len);
         self.longest_reference = self.longest_reference.max(length);
         Ok(outcome)
@@ -244,7 +269,7 @@ impl Run {
     /// line buffer is just long enough.
     fn read_back(
         &mut self,
-        map: &DepotMap,
+        sample: &Sample,
         written: WriteCall,
         reference: &[u8],
         left: &Stretch,
@@ -254,7 +279,7 @@ impl Run {
             reference,
             room: 4 * left.lines.len(),
         };
-        let read = self.read_on(map, call)?;
+        let read = self.read_on(sample, call)?;
         if !read.as_ref().is_ok_and(|reading| stands_for(reading, left)) {
             return Err(format!("{written}\n{call}\n{read:?} for {left:?}"));
         }
@@ -271,6 +296,7 @@ impl Run {
             return Err("no banned turn was in lines skipped whole alone".to_string());
         }
         self.meridian.report()?;
+        self.steps.report()?;
         print_answers("write", &self.writes, &OF_WRITER)?;
         print_answers("read", &self.reads, &OF_READER)
     }

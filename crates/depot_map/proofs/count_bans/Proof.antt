@@ -1,8 +1,8 @@
 -- `count_bans` meets its contract: a refused count, or the stage of the banned turns.
-use Rattle.depot_map.specs.Step.{faultOf}
+use Rattle.depot_map.specs.Part.{faultOf}
 use Rattle.model.specs.Map.{decodeLines}
 use Rattle.buffers.proofs.Kept.{kept-none}
-use Rattle.depot_map.proofs.Steps.{field-on, field-off, field-range}
+use Rattle.depot_map.proofs.Numbers.{field-on, field-off, field-range}
 use Rattle.depot_map.proofs.Stages.{stage-faulty, stage-then}
 use native.Mathlib.Omega.{arith}
 use borrow.Author.Needs.{needs}

@@ -1,8 +1,8 @@
 -- `read_map` meets its contract: a refused count, or the stage of the nodes.
-use Rattle.depot_map.specs.Step.{faultOf}
+use Rattle.depot_map.specs.Part.{faultOf}
 use Rattle.model.specs.Map.{decode}
 use Rattle.buffers.proofs.Kept.{kept-none}
-use Rattle.depot_map.proofs.Steps.{field-on, field-off, field-range}
+use Rattle.depot_map.proofs.Numbers.{field-on, field-off, field-range}
 use Rattle.depot_map.proofs.Stages.{stage-faulty, stage-then, map-is-read}
 use native.Mathlib.Omega.{arith}
 use borrow.Author.Needs.{needs}

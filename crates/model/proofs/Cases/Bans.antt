@@ -59,7 +59,7 @@ abbrev longerNorth : List Turn → Map
 longerNorth bans =
     record {
       nodes = ridge .nodes;
-      lines = line 0 1 1_000 90 270 ∷ line 1 3 1_000 90 270 ∷ line 1 2 500 0 180 ∷ line 2 3 900 135 272 ∷ [];
+      lines = line 0 1 1_000 8 24 ∷ line 1 3 1_000 8 24 ∷ line 1 2 500 0 16 ∷ line 2 3 900 12 24 ∷ [];
       bans = bans;
     }
 
@@ -186,7 +186,7 @@ abbrev pub around : Map
 around =
     record {
       nodes = node 0 0 ∷ node 1_000 0 ∷ node 2_000 0 ∷ node 1_000 1_000 ∷ [];
-      lines = line 0 1 600 90 270 ∷ line 1 2 600 90 270 ∷ line 1 3 300 0 180 ∷ line 3 1 300 180 0 ∷ [];
+      lines = line 0 1 600 8 24 ∷ line 1 2 600 8 24 ∷ line 1 3 300 0 16 ∷ line 3 1 300 16 0 ∷ [];
       bans = turn 0 1 ∷ [];
     }
 

@@ -27,11 +27,11 @@ bypass =
           ∷ record { lon = 18_102_500; lat = 8_899_000 }
           ∷ [];
       lines =
-          record { start = 0; end = 1; length = 1_000; frc = 2; fow = 5; out = 90; back = 270 }
-          ∷ record { start = 1; end = 2; length = 1_000; frc = 4; fow = 1; out = 100; back = 280 }
-          ∷ record { start = 2; end = 4; length = 500; frc = 3; fow = 6; out = 135; back = 300 }
-          ∷ record { start = 1; end = 3; length = 750; frc = 4; fow = 1; out = 0; back = 180 }
-          ∷ record { start = 3; end = 4; length = 750; frc = 3; fow = 6; out = 180; back = 300 }
+          record { start = 0; end = 1; length = 1_000; frc = 2; fow = 5; out = 8; back = 24 }
+          ∷ record { start = 1; end = 2; length = 1_000; frc = 4; fow = 1; out = 8; back = 24 }
+          ∷ record { start = 2; end = 4; length = 500; frc = 3; fow = 6; out = 12; back = 26 }
+          ∷ record { start = 1; end = 3; length = 750; frc = 4; fow = 1; out = 0; back = 16 }
+          ∷ record { start = 3; end = 4; length = 750; frc = 3; fow = 6; out = 16; back = 26 }
           ∷ [];
       bans = [];
     }

@@ -22,10 +22,10 @@ detour =
     record {
       nodes = node 0 0 ∷ node 1_000 0 ∷ node 1_000 1_000 ∷ node 2_000 0 ∷ [];
       lines =
-          line 0 1 1_000 90 270
-          ∷ line 1 3 1_000 90 270
-          ∷ record { start = 1; end = 2; length = 100; frc = 5; fow = 3; out = 0; back = 180 }
-          ∷ line 2 3 100 135 315
+          line 0 1 1_000 8 24
+          ∷ line 1 3 1_000 8 24
+          ∷ record { start = 1; end = 2; length = 100; frc = 5; fow = 3; out = 0; back = 16 }
+          ∷ line 2 3 100 12 28
           ∷ [];
       bans = [];
     }
@@ -58,7 +58,7 @@ abbrev pub long : Map
 long =
     record {
       nodes = node 0 0 ∷ node 1_000 0 ∷ node 2_000 0 ∷ [];
-      lines = line 0 1 150_000 90 270 ∷ line 1 2 1 90 270 ∷ [];
+      lines = line 0 1 150_000 8 24 ∷ line 1 2 1 8 24 ∷ [];
       bans = [];
     }
 
@@ -77,17 +77,17 @@ pub too-long-refused : (room : ℕ) →
 unfolding computing
 too-long-refused room = ReadOn.no-leg {legs = leg 0 2 255 (matching (road 24)) ∷ []} refl (LegsRead.unread too-long)
 
--- A line, then four side by side that differ in FRC, in FOW, and in both bearings.
+-- A line, then four side by side that differ in FRC, in FOW, and in both sectors.
 abbrev pub marks : Map
 marks =
     record {
       nodes = node 0 0 ∷ node 1_000 0 ∷ node 2_000 0 ∷ [];
       lines =
-          line 0 1 1_000 90 270
-          ∷ line 1 2 100 90 270
-          ∷ record { start = 1; end = 2; length = 100; frc = 2; fow = 3; out = 90; back = 270 }
-          ∷ record { start = 1; end = 2; length = 100; frc = 3; fow = 4; out = 90; back = 270 }
-          ∷ line 1 2 100 180 90
+          line 0 1 1_000 8 24
+          ∷ line 1 2 100 8 24
+          ∷ record { start = 1; end = 2; length = 100; frc = 2; fow = 3; out = 8; back = 24 }
+          ∷ record { start = 1; end = 2; length = 100; frc = 3; fow = 4; out = 8; back = 24 }
+          ∷ line 1 2 100 16 8
           ∷ [];
       bans = [];
     }

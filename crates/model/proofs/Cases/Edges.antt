@@ -1,11 +1,12 @@
--- The cases marked [M] in paper 01, "At the edges", as one theorem; and the two numbers of "The depot map".
+-- The cases marked [M] in paper 01, "At the edges", and in paper 02, W3, as one theorem; and the two numbers of "The depot map".
 use Prim.Native.Nat.{ℕ, _≤_}
 use mathlib.Core.Path.{_≡_, refl}
 use mathlib.Core.List.{List, [], _∷_}
 use native.Mathlib.Omega.{arith}
 use Rattle.model.specs.declared.Span.{Span}
 use Rattle.model.specs.Number.{number, got, faulty}
-use Rattle.model.specs.Field.{code, distance, sector}
+use Rattle.model.specs.Field.{code, distance}
+use Rattle.model.specs.Sector.{sector}
 use Rattle.model.specs.Map.{Map, MapAnswer, decode}
 use Rattle.model.specs.Lines.{total}
 use Rattle.model.specs.Reference.{byte, Reference}
@@ -28,14 +29,15 @@ pub record Edges : Type 0 where
   pub codes : lon 18_000_000 ∷ lon 18_000_001 ∷ lon 17_999_999 ∷ lon 18_000_002 ∷ lon 18_000_003 ∷ lon 18_100_000 ∷ lon 35_999_998 ∷ [] ≡
       0 ∷ 0 ∷ 0 ∷ 1 ∷ 1 ∷ 46_603 ∷ 8_388_607 ∷ []
   pub distances : distance 585 ∷ distance 586 ∷ distance 150_000 ∷ [] ≡ 0 ∷ 1 ∷ 255 ∷ []
-  pub sectors : sector 11 ∷ sector 12 ∷ sector 359 ∷ [] ≡ 0 ∷ 1 ∷ 31 ∷ []
+  -- "(0, 5) gives 0, (5, 5) gives 4, (-5, 0) gives 24" (paper 02, W3, in place of those on bearings).
+  pub sectors : sector 250 255 ∷ sector 255 255 ∷ sector 245 250 ∷ [] ≡ 0 ∷ 4 ∷ 24 ∷ []
   pub byte-80-on-1000 : SpanRead 1_000 (byte 0x80) (record { least = 500; greatest = 503 })
   pub byte-1-on-100 : (m : Map) (r : Reference) (lss : List (List ℕ)) → total m (firstLeg lss) ≡ 100 → r .pos ≡ byte 1 → Ends m r lss 19
   pub negative-byte-1-on-100 : (m : Map) (r : Reference) (lss : List (List ℕ)) → total m (lastLeg lss) ≡ 100 → r .neg ≡ byte 1 →
       Ends m r lss 19
   pub longitudes-0-and-1 : decode
       (2 ∷ 0x80 ∷ 0xD1 ∷ 0xCA ∷ 0x08 ∷ 0xC0 ∷ 0xA8 ∷ 0xA5 ∷ 0x04 ∷ 0x81 ∷ 0xD1 ∷ 0xCA ∷ 0x08 ∷ 0xC0 ∷ 0xA8 ∷ 0xA5 ∷ 0x04 ∷ 1 ∷ 0 ∷ 1
-      ∷ 0xE8 ∷ 0x07 ∷ 3 ∷ 3 ∷ 90 ∷ 0x8E ∷ 0x02 ∷ 0 ∷ []) ≡
+      ∷ 0xE8 ∷ 0x07 ∷ 3 ∷ 3 ∷ 0xC2 ∷ 0x03 ∷ 0xFA ∷ 0x01 ∷ 50 ∷ 0xFA ∷ 0x01 ∷ 0 ∷ []) ≡
       MapAnswer.refused (row 6)
   pub number-300 : number (0xAC ∷ 0x02 ∷ []) ≡ got 300 []
   pub not-shortest : number (0x80 ∷ 0x00 ∷ []) ≡ faulty

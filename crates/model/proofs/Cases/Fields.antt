@@ -6,7 +6,7 @@ use mathlib.Core.List.{List, [], _∷_, map}
 use native.Mathlib.Omega.{arith}
 use lib.ListN.{replicate}
 use Rattle.model.specs.Refusal.{row}
-use Rattle.model.specs.Field.{code, sector, offsetByte}
+use Rattle.model.specs.Field.{code, offsetByte}
 use Rattle.model.specs.Map.{Node, Map, lonCode, latCode}
 use Rattle.model.specs.Difference.{Near, DifferencesFit, difference, moved, brought, lonDifference, lonSum, signed, differences, standsAt}
 use Rattle.model.specs.Lines.{total, lowest, leaving, arriving}
@@ -23,8 +23,8 @@ toAndFro =
     record {
       nodes = node 0 0 ∷ node 10 20 ∷ [];
       lines =
-          record { start = 0; end = 1; length = 10; frc = 3; fow = 5; out = 90; back = 180 }
-          ∷ record { start = 1; end = 0; length = 20; frc = 5; fow = 2; out = 270; back = 45 }
+          record { start = 0; end = 1; length = 10; frc = 3; fow = 5; out = 8; back = 16 }
+          ∷ record { start = 1; end = 0; length = 20; frc = 5; fow = 2; out = 24; back = 4 }
           ∷ [];
       bans = [];
     }
@@ -51,7 +51,6 @@ pub record FieldCases : Type 0 where
   pub codes : lon 17_999_998 ∷ lon 17_999_997 ∷ lon 17_900_000 ∷ lon 0 ∷ [] ≡ 0xFF_FF_FF ∷ 0xFF_FF_FF ∷ 0xFF_49_F5 ∷ 0x80_00_00 ∷ []
   pub latitudes : code 9_000_000 18_000_000 ∷ code 9_000_000 0 ∷ [] ≡ 0x40_00_00 ∷ 0xC0_00_00 ∷ []
   pub node-codes : lonCode (node 100_000 2) ∷ latCode (node 2 100_000) ∷ [] ≡ 46_603 ∷ 46_603 ∷ []
-  pub sectors : map sector (0 ∷ 44 ∷ 45 ∷ 90 ∷ 180 ∷ 270 ∷ []) ≡ 0 ∷ 3 ∷ 4 ∷ 8 ∷ 16 ∷ 24 ∷ []
   pub offset-bytes : map (offsetByte 1_000) (3 ∷ 4 ∷ 500 ∷ 999 ∷ []) ≡ 0 ∷ 1 ∷ 128 ∷ 255 ∷ []
   -- On a leg of 257 an offset of 1 is just below 1 of 256 parts.
   pub offset-just-below : map (offsetByte 257) (1 ∷ 2 ∷ 256 ∷ []) ≡ 0 ∷ 1 ∷ 255 ∷ []
@@ -122,7 +121,6 @@ field-cases =
       codes = refl;
       latitudes = refl;
       node-codes = refl;
-      sectors = refl;
       offset-bytes = refl;
       offset-just-below = refl;
       sixteen-bits = refl;

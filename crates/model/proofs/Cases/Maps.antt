@@ -1,4 +1,4 @@
--- Worked cases of paper 01, "The depot map", of W1's banned turns, and of refusals 2 to 6 and 23: one table, one theorem.
+-- Worked cases of paper 01, "The depot map", of W1's banned turns, of W3's steps, and of refusals 2 to 6, 23 and 24: one table, one theorem.
 use Prim.Native.Nat.{ℕ}
 use mathlib.Core.Path.{_≡_, refl}
 use mathlib.Core.List.{List, [], _∷_, map}
@@ -24,12 +24,17 @@ oneLine numbers = twoNodes (1 ∷ numbers)
 abbrev close : List ℕ → List ℕ
 close rest = 2 ∷ 0 ∷ 0 ∷ 1 ∷ 0 ∷ rest
 
+-- One line, whose steps are all -250.
 abbrev pub someLine : List ℕ → List ℕ
-someLine rest = 1 ∷ 0 ∷ 1 ∷ 10 ∷ 3 ∷ 3 ∷ 90 ∷ 90 ∷ rest
+someLine rest = 1 ∷ 0 ∷ 1 ∷ 10 ∷ 3 ∷ 3 ∷ 0 ∷ 0 ∷ 0 ∷ 0 ∷ rest
 
 -- Two lines, to and fro.
 abbrev twoLines : List ℕ → List ℕ
-twoLines rest = 2 ∷ 0 ∷ 1 ∷ 10 ∷ 3 ∷ 3 ∷ 90 ∷ 90 ∷ 1 ∷ 0 ∷ 20 ∷ 3 ∷ 3 ∷ 90 ∷ 90 ∷ rest
+twoLines rest = 2 ∷ 0 ∷ 1 ∷ 10 ∷ 3 ∷ 3 ∷ 0 ∷ 0 ∷ 0 ∷ 0 ∷ 1 ∷ 0 ∷ 20 ∷ 3 ∷ 3 ∷ 0 ∷ 0 ∷ 0 ∷ 0 ∷ rest
+
+-- One line of which the steps are given.
+abbrev pub drawnLine : List ℕ → List ℕ
+drawnLine steps = oneLine (0 ∷ 1 ∷ 1 ∷ 7 ∷ 7 ∷ steps)
 
 pub record MapCases : Type 0 where
   -- "In groups of seven bits, lowest group first", "in its shortest form and at most 4,294,967,295".
@@ -53,35 +58,50 @@ pub record MapCases : Type 0 where
   -- Counts of 1 and 1,024 lines; 0 and 1,025.
   pub line-counts : Refuses 2 (twoNodes [] ∷ twoNodes (1 ∷ []) ∷ twoNodes (0x80 ∷ 0x08 ∷ []) ∷ [])
   pub bad-line-counts : Refuses 3 (twoNodes (0 ∷ []) ∷ twoNodes (0x81 ∷ 0x08 ∷ []) ∷ [])
-  -- Start node, end node (also not shortest), length 1 and 150,000, FRC 7, FOW 7, bearing out 359.
+  -- Start node, end node (also not shortest), length 1 and 150,000, FRC 7, FOW 7.
   pub line-fields : Refuses 2
       (oneLine (1 ∷ []) ∷ oneLine (0 ∷ 1 ∷ []) ∷ oneLine (0 ∷ 0x80 ∷ 0 ∷ []) ∷ oneLine (0 ∷ 1 ∷ 1 ∷ [])
-      ∷ oneLine (0 ∷ 1 ∷ 0xF0 ∷ 0x93 ∷ 0x09 ∷ []) ∷ oneLine (0 ∷ 1 ∷ 1 ∷ 7 ∷ []) ∷ oneLine (0 ∷ 1 ∷ 1 ∷ 7 ∷ 7 ∷ [])
-      ∷ oneLine (0 ∷ 1 ∷ 1 ∷ 7 ∷ 7 ∷ 0xE7 ∷ 0x02 ∷ []) ∷ [])
-  -- Start node 2, end node 2, equal ends (also before a number not shortest), length 0 and 150,001, FRC 8, FOW 8, bearings of 360.
+      ∷ oneLine (0 ∷ 1 ∷ 0xF0 ∷ 0x93 ∷ 0x09 ∷ []) ∷ oneLine (0 ∷ 1 ∷ 1 ∷ 7 ∷ []) ∷ oneLine (0 ∷ 1 ∷ 1 ∷ 7 ∷ 7 ∷ []) ∷ [])
+  -- Start node 2, end node 2, equal ends (also before a number not shortest), length 0 and 150,001, FRC 8, FOW 8, also before a step of 251.
   pub bad-line-fields : Refuses 5
       (oneLine (2 ∷ []) ∷ oneLine (0 ∷ 2 ∷ []) ∷ oneLine (1 ∷ 1 ∷ []) ∷ oneLine (0 ∷ 0 ∷ 0x80 ∷ 0 ∷ []) ∷ oneLine (0 ∷ 1 ∷ 0 ∷ [])
       ∷ oneLine (0 ∷ 1 ∷ 0xF1 ∷ 0x93 ∷ 0x09 ∷ []) ∷ oneLine (0 ∷ 1 ∷ 1 ∷ 8 ∷ []) ∷ oneLine (0 ∷ 1 ∷ 1 ∷ 7 ∷ 8 ∷ [])
-      ∷ oneLine (0 ∷ 1 ∷ 1 ∷ 7 ∷ 7 ∷ 0xE8 ∷ 0x02 ∷ []) ∷ oneLine (0 ∷ 1 ∷ 1 ∷ 7 ∷ 7 ∷ 0 ∷ 0xE8 ∷ 0x02 ∷ []) ∷ [])
-  -- The upper ends of all ranges, and seven fields that differ.
+      ∷ oneLine (0 ∷ 1 ∷ 1 ∷ 7 ∷ 8 ∷ 0xF5 ∷ 0x03 ∷ []) ∷ [])
+  -- Steps (W3). East -250, 250 and 0; with them north -250, 250 and 0, but not both 0; the same of the steps back. Both 0 where the second number is
+  -- not shortest.
+  pub steps : Refuses 2
+      (drawnLine (0 ∷ []) ∷ drawnLine (0xF4 ∷ 0x03 ∷ []) ∷ drawnLine (0xFA ∷ 0x01 ∷ []) ∷ drawnLine (0 ∷ 0xF4 ∷ 0x03 ∷ [])
+      ∷ drawnLine (0xFA ∷ 0x01 ∷ 0 ∷ []) ∷ drawnLine (0xF4 ∷ 0x03 ∷ 0xFA ∷ 0x01 ∷ []) ∷ drawnLine (0 ∷ 0 ∷ 0xFA ∷ 0x01 ∷ [])
+      ∷ drawnLine (0 ∷ 0 ∷ 0xFA ∷ 0x01 ∷ 0xF4 ∷ 0x03 ∷ []) ∷ drawnLine (0xFA ∷ 0x01 ∷ 0xFA ∷ 0x81 ∷ 0 ∷ []) ∷ [])
+  -- East 251, also before a number not shortest; north 251; "both zero"; the same of the steps back. East 4,294,967,045.
+  pub bad-steps : Refuses 24
+      (drawnLine (0xF5 ∷ 0x03 ∷ []) ∷ drawnLine (0xF5 ∷ 0x03 ∷ 0x80 ∷ 0 ∷ []) ∷ drawnLine (0 ∷ 0xF5 ∷ 0x03 ∷ []) ∷ drawnLine (0xFA ∷ 0x01 ∷ 0xFA ∷ 0x01 ∷ [])
+      ∷ drawnLine (0 ∷ 0 ∷ 0xF5 ∷ 0x03 ∷ []) ∷ drawnLine (0 ∷ 0 ∷ 0xF5 ∷ 0x03 ∷ 0x80 ∷ 0 ∷ []) ∷ drawnLine (0 ∷ 0 ∷ 0 ∷ 0xF5 ∷ 0x03 ∷ [])
+      ∷ drawnLine (0 ∷ 0 ∷ 0xFA ∷ 0x01 ∷ 0xFA ∷ 0x01 ∷ []) ∷ drawnLine (0xFF ∷ 0xFF ∷ 0xFF ∷ 0xFF ∷ 0x0F ∷ []) ∷ [])
+  -- 24 before left-over bytes, before 6 and before the next line's 5.
+  pub step-first : Refuses 24
+      (twoNodes (1 ∷ 0 ∷ 1 ∷ 10 ∷ 3 ∷ 3 ∷ 0 ∷ 0 ∷ 0xFA ∷ 0x01 ∷ 0xFA ∷ 0x01 ∷ 0 ∷ 0 ∷ []) ∷ close (1 ∷ 0 ∷ 1 ∷ 10 ∷ 3 ∷ 3 ∷ 0 ∷ 0xF5 ∷ 0x03 ∷ [])
+      ∷ twoNodes (2 ∷ 0 ∷ 1 ∷ 10 ∷ 3 ∷ 3 ∷ 0xF5 ∷ 0x03 ∷ 0 ∷ 0 ∷ 0 ∷ 9 ∷ []) ∷ [])
+  -- The upper ends of all ranges, and nine fields that differ: steps (-240, -150) and (-150, -130).
   pub greatest : decode
-      (2 ∷ 0xFE ∷ 0xA1 ∷ 0x95 ∷ 0x11 ∷ 0x80 ∷ 0xD1 ∷ 0xCA ∷ 0x08 ∷ 0 ∷ 5 ∷ 1 ∷ 0 ∷ 1 ∷ 0xF0 ∷ 0x93 ∷ 0x09 ∷ 7 ∷ 7 ∷ 0xE7 ∷ 0x02 ∷ 0xE7 ∷ 0x02 ∷ 0 ∷ []) ≡
+      (2 ∷ 0xFE ∷ 0xA1 ∷ 0x95 ∷ 0x11 ∷ 0x80 ∷ 0xD1 ∷ 0xCA ∷ 0x08 ∷ 0 ∷ 5 ∷ 1 ∷ 0 ∷ 1 ∷ 0xF0 ∷ 0x93 ∷ 0x09 ∷ 7 ∷ 7
+      ∷ 0xF4 ∷ 0x03 ∷ 0xF4 ∷ 0x03 ∷ 0xF4 ∷ 0x03 ∷ 0xF4 ∷ 0x03 ∷ 0 ∷ []) ≡
       whole
       (record {
         nodes = record { lon = 35_999_998; lat = 18_000_000 } ∷ record { lon = 0; lat = 5 } ∷ [];
-        lines = record { start = 0; end = 1; length = 150_000; frc = 7; fow = 7; out = 359; back = 359 } ∷ [];
+        lines = record { start = 0; end = 1; length = 150_000; frc = 7; fow = 7; out = 4; back = 4 } ∷ [];
         bans = [];
       })
-  pub in-order : decode (oneLine (1 ∷ 0 ∷ 0xAC ∷ 0x02 ∷ 2 ∷ 5 ∷ 90 ∷ 100 ∷ 0 ∷ [])) ≡
+  pub in-order : decode (oneLine (1 ∷ 0 ∷ 0xAC ∷ 0x02 ∷ 2 ∷ 5 ∷ 10 ∷ 100 ∷ 100 ∷ 120 ∷ 0 ∷ [])) ≡
       whole
       (record {
         nodes = record { lon = 0; lat = 0 } ∷ record { lon = 100; lat = 0 } ∷ [];
-        lines = record { start = 1; end = 0; length = 300; frc = 2; fow = 5; out = 90; back = 100 } ∷ [];
+        lines = record { start = 1; end = 0; length = 300; frc = 2; fow = 5; out = 21; back = 20 } ∷ [];
         bans = [];
       })
   -- "Left-over bytes come last", but before refusal 6, which 5 precedes as well. Also two nodes that do not stand side by side.
   pub left-over : Refuses 2 (twoNodes (someLine (0 ∷ 0 ∷ [])) ∷ close (someLine (0 ∷ 0 ∷ [])) ∷ [])
-  pub line-first : Refuses 5 (close (1 ∷ 0 ∷ 0 ∷ []) ∷ oneLine (0 ∷ 1 ∷ 1 ∷ 7 ∷ 7 ∷ 0 ∷ 0xE8 ∷ 0x02 ∷ 0 ∷ []) ∷ [])
+  pub line-first : Refuses 5 (close (1 ∷ 0 ∷ 0 ∷ []) ∷ oneLine (0 ∷ 1 ∷ 1 ∷ 7 ∷ 8 ∷ 0 ∷ 0 ∷ 0 ∷ 0 ∷ 0 ∷ 0 ∷ []) ∷ [])
   pub same-codes : Refuses 6 (close (someLine (0 ∷ [])) ∷ (3 ∷ 0 ∷ 0 ∷ 100 ∷ 0 ∷ 1 ∷ 0 ∷ someLine (0 ∷ [])) ∷ [])
   -- Counts of 1 and 512 banned turns, and none; 513. A pair's numbers: missing, or not shortest, also after a pair that names no line.
   pub ban-counts : Refuses 2 (twoNodes (someLine []) ∷ twoNodes (someLine (1 ∷ [])) ∷ twoNodes (someLine (0x80 ∷ 0x04 ∷ [])) ∷ [])
@@ -94,8 +114,8 @@ pub record MapCases : Type 0 where
       (record {
         nodes = record { lon = 0; lat = 0 } ∷ record { lon = 100; lat = 0 } ∷ [];
         lines =
-            record { start = 0; end = 1; length = 10; frc = 3; fow = 3; out = 90; back = 90 }
-            ∷ record { start = 1; end = 0; length = 20; frc = 3; fow = 3; out = 90; back = 90 }
+            record { start = 0; end = 1; length = 10; frc = 3; fow = 3; out = 20; back = 20 }
+            ∷ record { start = 1; end = 0; length = 20; frc = 3; fow = 3; out = 20; back = 20 }
             ∷ [];
         bans = record { first = 1; second = 0 } ∷ record { first = 0; second = 1 } ∷ record { first = 1; second = 0 } ∷ [];
       })
@@ -122,6 +142,9 @@ map-cases =
       bad-line-counts = refl;
       line-fields = refl;
       bad-line-fields = refl;
+      steps = refl;
+      bad-steps = refl;
+      step-first = refl;
       greatest = refl;
       in-order = refl;
       left-over = refl;

@@ -19,7 +19,7 @@ with pos neg = record { lon = 0; lat = 0; points = []; arrives = road 0; pos = b
 
 -- Lines of 2 and of 3 decimetres.
 abbrev short : Map
-short = record { nodes = node 0 0 ∷ node 1_000 0 ∷ []; lines = line 0 1 2 90 270 ∷ line 0 1 3 90 270 ∷ []; bans = [] }
+short = record { nodes = node 0 0 ∷ node 1_000 0 ∷ []; lines = line 0 1 2 8 24 ∷ line 0 1 3 8 24 ∷ []; bans = [] }
 
 abbrev span : ℕ → ℕ → Span
 span least greatest = record { least = least; greatest = greatest }

@@ -47,8 +47,8 @@ uneven =
     record {
       nodes = node 0 0 ∷ node 1_000 0 ∷ node 2_000 0 ∷ [];
       lines =
-          line 0 1 1_000 90 270
-          ∷ record { start = 1; end = 2; length = 1_000; frc = 5; fow = 3; out = 90; back = 270 }
+          line 0 1 1_000 8 24
+          ∷ record { start = 1; end = 2; length = 1_000; frc = 5; fow = 3; out = 8; back = 24 }
           ∷ [];
       bans = [];
     }
@@ -83,7 +83,7 @@ lost =
 
 -- The end of a map's bytes: a line from node 0 to node 1; and a map whose two nodes have longitudes stored as 0 and 1.
 abbrev oneLine : List ℕ
-oneLine = 1 ∷ 0 ∷ 1 ∷ 10 ∷ 3 ∷ 3 ∷ 90 ∷ 90 ∷ 0 ∷ []
+oneLine = 1 ∷ 0 ∷ 1 ∷ 10 ∷ 3 ∷ 3 ∷ 0 ∷ 0 ∷ 0 ∷ 0 ∷ 0 ∷ []
 
 abbrev clashing : List ℕ
 clashing = 2 ∷ 0 ∷ 0 ∷ 1 ∷ 0 ∷ oneLine
@@ -96,12 +96,12 @@ pub record Pins : Type 0 where
   -- A map of three nodes and two lines has no line 2, wherever it stands in the stretch.
   pub no-line-2 : map (checkStretch long) (stretchOf (2 ∷ []) 0 0 ∷ stretchOf (2 ∷ 0 ∷ []) 0 0 ∷ stretchOf (0 ∷ 2 ∷ 1 ∷ []) 0 0 ∷ []) ≡
       replicate 3 (StretchAnswer.refused (row 7))
-  -- FRC 0, FOW 0 and bearings of 0 are in their ranges.
-  pub lowest-values : decode (2 ∷ 0 ∷ 0 ∷ 100 ∷ 0 ∷ 1 ∷ 0 ∷ 1 ∷ 10 ∷ 0 ∷ 0 ∷ 0 ∷ 0 ∷ 0 ∷ []) ≡
+  -- FRC 0, FOW 0 and steps of -250 are in their ranges.
+  pub lowest-values : decode (2 ∷ 0 ∷ 0 ∷ 100 ∷ 0 ∷ 1 ∷ 0 ∷ 1 ∷ 10 ∷ 0 ∷ 0 ∷ 0 ∷ 0 ∷ 0 ∷ 0 ∷ 0 ∷ []) ≡
       whole
       (record {
         nodes = record { lon = 0; lat = 0 } ∷ record { lon = 100; lat = 0 } ∷ [];
-        lines = record { start = 0; end = 1; length = 10; frc = 0; fow = 0; out = 0; back = 0 } ∷ [];
+        lines = record { start = 0; end = 1; length = 10; frc = 0; fow = 0; out = 20; back = 20 } ∷ [];
         bans = [];
       })
   -- Two nodes with the same codes, neither of them the first: longitudes stored as 9, 0 and 1; and two with another between: 0, 9 and 1.

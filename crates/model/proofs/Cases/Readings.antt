@@ -15,7 +15,7 @@ use Rattle.model.proofs.Cases.Ridge.{node, line, road, point, leg}
 
 -- Two lines side by side with equal marks, the second one longer.
 abbrev pub pair : Map
-pair = record { nodes = node 0 0 ∷ node 1_000 0 ∷ []; lines = line 0 1 600 90 270 ∷ line 0 1 700 90 270 ∷ []; bans = [] }
+pair = record { nodes = node 0 0 ∷ node 1_000 0 ∷ []; lines = line 0 1 600 8 24 ∷ line 0 1 700 8 24 ∷ []; bans = [] }
 
 -- The longer one is a reading too: least is "with the same first line".
 pub pair-several : Several pair (leg 0 1 1 any)
@@ -34,7 +34,7 @@ abbrev pub fork : Map
 fork =
     record {
       nodes = node 0 0 ∷ node 1_000 0 ∷ node 2_000 0 ∷ node 3_000 0 ∷ [];
-      lines = line 0 1 100 90 270 ∷ line 1 2 500 90 270 ∷ line 1 2 550 90 270 ∷ line 2 3 100 90 270 ∷ [];
+      lines = line 0 1 100 8 24 ∷ line 1 2 500 8 24 ∷ line 1 2 550 8 24 ∷ line 2 3 100 8 24 ∷ [];
       bans = [];
     }
 
@@ -55,7 +55,7 @@ abbrev pub merge : Map
 merge =
     record {
       nodes = node 0 0 ∷ node 1_000 0 ∷ node 2_000 0 ∷ [];
-      lines = line 0 1 500 90 270 ∷ line 0 1 550 90 270 ∷ line 1 2 100 90 270 ∷ [];
+      lines = line 0 1 500 8 24 ∷ line 0 1 550 8 24 ∷ line 1 2 100 8 24 ∷ [];
       bans = [];
     }
 

@@ -12,6 +12,8 @@ use Rattle.model.specs.Choice.{legOf, stretchBytes}
 use Rattle.model.specs.Locate.{located, locate}
 use Rattle.model.proofs.Cases.Computing.{computing}
 
+-- "The ridge map takes steps of the same sectors" (W3): (200, 0) east, (-200, 0) west, (0, 200) north, (0, -200) south, (141, -141) for 135 degrees and
+-- (-200, 7) for 272.
 abbrev pub mapBytes : List ℕ
 mapBytes =
     4
@@ -20,10 +22,10 @@ mapBytes =
     ∷ 0xE8 ∷ 0xD8 ∷ 0xCA ∷ 0x08 ∷ 0xA8 ∷ 0xB0 ∷ 0xA5 ∷ 0x04
     ∷ 0xD0 ∷ 0xE0 ∷ 0xCA ∷ 0x08 ∷ 0xC0 ∷ 0xA8 ∷ 0xA5 ∷ 0x04
     ∷ 4
-    ∷ 0 ∷ 1 ∷ 0xE8 ∷ 0x07 ∷ 3 ∷ 3 ∷ 90 ∷ 0x8E ∷ 0x02
-    ∷ 1 ∷ 3 ∷ 0xE8 ∷ 0x07 ∷ 3 ∷ 3 ∷ 90 ∷ 0x8E ∷ 0x02
-    ∷ 1 ∷ 2 ∷ 0xF4 ∷ 0x03 ∷ 3 ∷ 3 ∷ 0 ∷ 0xB4 ∷ 0x01
-    ∷ 2 ∷ 3 ∷ 0xF4 ∷ 0x03 ∷ 3 ∷ 3 ∷ 0x87 ∷ 0x01 ∷ 0x90 ∷ 0x02
+    ∷ 0 ∷ 1 ∷ 0xE8 ∷ 0x07 ∷ 3 ∷ 3 ∷ 0xC2 ∷ 0x03 ∷ 0xFA ∷ 0x01 ∷ 50 ∷ 0xFA ∷ 0x01
+    ∷ 1 ∷ 3 ∷ 0xE8 ∷ 0x07 ∷ 3 ∷ 3 ∷ 0xC2 ∷ 0x03 ∷ 0xFA ∷ 0x01 ∷ 50 ∷ 0xFA ∷ 0x01
+    ∷ 1 ∷ 2 ∷ 0xF4 ∷ 0x03 ∷ 3 ∷ 3 ∷ 0xFA ∷ 0x01 ∷ 0xC2 ∷ 0x03 ∷ 0xFA ∷ 0x01 ∷ 50
+    ∷ 2 ∷ 3 ∷ 0xF4 ∷ 0x03 ∷ 3 ∷ 3 ∷ 0x87 ∷ 0x03 ∷ 109 ∷ 50 ∷ 0x81 ∷ 0x02
     ∷ 0
     ∷ []
 
@@ -31,7 +33,7 @@ mapBytes =
 abbrev pub node : ℕ → ℕ → Node
 node east north = record { lon = 18_000_000 + east; lat = 9_000_000 + north }
 
--- A line of FRC 3 and FOW 3.
+-- A line of FRC 3 and FOW 3, by its sectors.
 abbrev pub line : ℕ → ℕ → ℕ → ℕ → ℕ → Line
 line start end length out back = record { start = start; end = end; length = length; frc = 3; fow = 3; out = out; back = back }
 
@@ -39,7 +41,7 @@ abbrev pub ridge : Map
 ridge =
     record {
       nodes = node 0 0 ∷ node 1_000 0 ∷ node 1_000 1_000 ∷ node 2_000 0 ∷ [];
-      lines = line 0 1 1_000 90 270 ∷ line 1 3 1_000 90 270 ∷ line 1 2 500 0 180 ∷ line 2 3 500 135 272 ∷ [];
+      lines = line 0 1 1_000 8 24 ∷ line 1 3 1_000 8 24 ∷ line 1 2 500 0 16 ∷ line 2 3 500 12 24 ∷ [];
       bans = [];
     }
 
@@ -55,7 +57,7 @@ threeFrom500 =
 abbrev pub twoPoints : List ℕ
 twoPoints = 0x0B ∷ 0 ∷ 0 ∷ 0 ∷ 0 ∷ 0 ∷ 0 ∷ 0x1B ∷ 0x68 ∷ 0x03 ∷ 0x07 ∷ 0xD0 ∷ 0 ∷ 0 ∷ 0x1B ∷ 0x18 ∷ []
 
--- FRC 3, FOW 3 and a sector: 8 for 90 degrees, 24 for 270 and for 272.
+-- FRC 3, FOW 3 and a sector: 8 east, 24 west.
 abbrev pub road : ℕ → LineAttributes
 road sector = record { frc = 3; fow = 3; sector = sector }
 

@@ -61,7 +61,7 @@ bypassed = record { lines = 0 ∷ 1 ∷ 2 ∷ []; pos = 500; neg = 250 }
 
 -- Two lines in a row, to nodes 32,768 apart: "differences fit 16 bits", and this one does not.
 abbrev pub apart : Node → Node → Map
-apart middle end = record { nodes = node 0 0 ∷ middle ∷ end ∷ []; lines = line 0 1 1_000 90 270 ∷ line 1 2 1_000 90 270 ∷ []; bans = [] }
+apart middle end = record { nodes = node 0 0 ∷ middle ∷ end ∷ []; lines = line 0 1 1_000 8 24 ∷ line 1 2 1_000 8 24 ∷ []; bans = [] }
 
 abbrev pub eastwards : Map
 eastwards = apart (node 1_000 0) (node 32_768 0)
@@ -94,7 +94,7 @@ abbrev pub straight : Map
 straight =
     record {
       nodes = node 0 0 ∷ node 1_000 0 ∷ node 2_000 0 ∷ node 3_000 0 ∷ [];
-      lines = line 0 1 9_000 90 270 ∷ line 1 2 5_000 90 270 ∷ line 2 3 5_000 90 270 ∷ [];
+      lines = line 0 1 9_000 8 24 ∷ line 1 2 5_000 8 24 ∷ line 2 3 5_000 8 24 ∷ [];
       bans = [];
     }
 
@@ -118,7 +118,7 @@ sideways =
     record {
       nodes = node 0 0 ∷ node 1_000 0 ∷ node 2_000 0 ∷ node 3_000 0 ∷ [];
       lines =
-          line 0 1 100 90 270 ∷ line 1 2 1_800 90 270 ∷ line 2 3 100 90 270 ∷ line 1 2 100 90 270 ∷ line 1 3 1_900 90 270 ∷ [];
+          line 0 1 100 8 24 ∷ line 1 2 1_800 8 24 ∷ line 2 3 100 8 24 ∷ line 1 2 100 8 24 ∷ line 1 3 1_900 8 24 ∷ [];
       bans = [];
     }
 
@@ -135,7 +135,7 @@ abbrev pub shortcut : Map
 shortcut =
     record {
       nodes = node 0 0 ∷ node 1_000 0 ∷ node 2_000 0 ∷ node 3_000 0 ∷ [];
-      lines = line 0 1 100 90 270 ∷ line 1 2 200 90 270 ∷ line 2 3 100 90 270 ∷ line 1 2 100 90 270 ∷ [];
+      lines = line 0 1 100 8 24 ∷ line 1 2 200 8 24 ∷ line 2 3 100 8 24 ∷ line 1 2 100 8 24 ∷ [];
       bans = [];
     }
 

@@ -1,7 +1,7 @@
 -- Wrong readings of a map that the promises shut out: no call of the reader on these bytes, whatever its reference and its buffers, can be answered so.
 use Prim.Native.Nat.{ℕ, _≤_}
 use mathlib.Core.Path.{_≡_, refl}
-use mathlib.Core.List.{List, [], _∷_, _++_}
+use mathlib.Core.List.{List, [], _∷_}
 use lib.ListN.{length}
 use borrow.Author.Tests.{le-ltb}
 use Rattle.model.specs.declared.Refusal.{Refusal}
@@ -12,7 +12,7 @@ use Rattle.model.specs.Outcome.{ReadOutcome, Reads}
 use Rattle.model.specs.Work.{workLength}
 use Rattle.model.specs.Call.{ReadCall}
 use Rattle.model.proofs.Cases.Computing.{computing}
-use Rattle.model.proofs.Cases.Maps.{twoNodes, oneLine, someLine}
+use Rattle.model.proofs.Cases.Maps.{twoNodes, oneLine, someLine, drawnLine}
 use Rattle.model.proofs.Cases.WrongReaders.{no-list-where-refused, only-this-refusal}
 use Rattle.model.specs.declared.ReadAnswer.the-variants as Reader
 
@@ -35,10 +35,20 @@ only-refused mb n d =
           other (only-this-refusal (row n) (refused-map mb ref (row n) (length work) (length lines) full d) c);
     }
 
--- A reader that takes a bearing of 360 degrees.
-pub no-bearing-of-360 : OnlyRefused (oneLine (0 ∷ 1 ∷ 1 ∷ 7 ∷ 7 ∷ 0 ∷ 0xE8 ∷ 0x02 ∷ [])) 5
+-- A reader that takes a step of 251 decimetres, here the last number but one: it would take the whole map (W3).
+pub no-step-of-251 : OnlyRefused (drawnLine (0 ∷ 0 ∷ 0 ∷ 0xF5 ∷ 0x03 ∷ 0 ∷ [])) 24
 unfolding computing
-no-bearing-of-360 = only-refused _ 5 refl
+no-step-of-251 = only-refused _ 24 refl
+
+-- One that takes steps that are both 0: it would take the whole map (W3).
+pub no-steps-of-0 : OnlyRefused (drawnLine (0 ∷ 0 ∷ 0xFA ∷ 0x01 ∷ 0xFA ∷ 0x01 ∷ 0 ∷ [])) 24
+unfolding computing
+no-steps-of-0 = only-refused _ 24 refl
+
+-- One that looks for a step's number before it tests the one before it: "80 00" behind an east step of 251 would be refused with 2 (W3).
+pub no-step-passed-over : OnlyRefused (drawnLine (0xF5 ∷ 0x03 ∷ 0x80 ∷ 0 ∷ [])) 24
+unfolding computing
+no-step-passed-over = only-refused _ 24 refl
 
 -- One that takes a line whose ends are equal: it would miss the next number.
 pub no-equal-ends : OnlyRefused (oneLine (1 ∷ 1 ∷ [])) 5

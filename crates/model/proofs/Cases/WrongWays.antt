@@ -34,7 +34,7 @@ abbrev pub beyond : Map
 beyond =
     record {
       nodes = node 0 0 ∷ node 1_000 0 ∷ node 1_000 1_000 ∷ node 2_000 0 ∷ node 3_000 0 ∷ [];
-      lines = line 0 1 1_000 90 270 ∷ line 1 3 1_000 90 270 ∷ line 1 2 500 0 180 ∷ line 2 3 500 135 272 ∷ line 3 4 1_000 90 270 ∷ [];
+      lines = line 0 1 1_000 8 24 ∷ line 1 3 1_000 8 24 ∷ line 1 2 500 0 16 ∷ line 2 3 500 12 24 ∷ line 3 4 1_000 8 24 ∷ [];
       bans = [];
     }
 
@@ -127,11 +127,11 @@ detourBeyond =
     record {
       nodes = node 0 0 ∷ node 1_000 0 ∷ node 1_000 1_000 ∷ node 2_000 0 ∷ node 3_000 0 ∷ [];
       lines =
-          line 0 1 1_000 90 270
-          ∷ line 1 3 1_000 90 270
-          ∷ record { start = 1; end = 2; length = 100; frc = 5; fow = 3; out = 0; back = 180 }
-          ∷ line 2 3 100 135 315
-          ∷ line 3 4 1_000 90 270
+          line 0 1 1_000 8 24
+          ∷ line 1 3 1_000 8 24
+          ∷ record { start = 1; end = 2; length = 100; frc = 5; fow = 3; out = 0; back = 16 }
+          ∷ line 2 3 100 12 28
+          ∷ line 3 4 1_000 8 24
           ∷ [];
       bans = [];
     }

@@ -73,6 +73,9 @@ enum-told-19 c = search needs
 enum-told-20 : tie.Need-enum-told-20
 enum-told-20 c = search needs
 
+enum-told-21 : tie.Need-enum-told-21
+enum-told-21 c = search needs
+
 returns : tie.Need-returns
 unfolding numberOf placeOf refusalOf
 returns c = (simp (c .enum-told .given .1), simp (c .enum-told .given .1))
@@ -165,6 +168,10 @@ returns-23 : tie.Need-returns-23
 unfolding numberOf placeOf refusalOf
 returns-23 c = (simp (c .enum-told20 .given .1), simp (c .enum-told20 .given .1))
 
+returns-24 : tie.Need-returns-24
+unfolding numberOf placeOf refusalOf
+returns-24 c = (simp (c .enum-told21 .given .1), simp (c .enum-told21 .given .1))
+
 pub row-of-spec : {M : Type 1} → statement M
 row-of-spec =
     tie.close
@@ -192,6 +199,7 @@ row-of-spec =
     enum-told-18
     enum-told-19
     enum-told-20
+    enum-told-21
     returns
     returns-2
     returns-3
@@ -214,4 +222,5 @@ row-of-spec =
     returns-20
     returns-21
     returns-22
-    returns-23)
+    returns-23
+    returns-24)

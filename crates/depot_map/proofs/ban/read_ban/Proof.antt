@@ -1,8 +1,8 @@
 -- `read_ban` meets its contract: a refused number, or what is left after it.
-use Rattle.depot_map.specs.Step.{faultOf}
+use Rattle.depot_map.specs.Part.{faultOf}
 use Rattle.model.specs.Map.{readBan}
 use Rattle.depot_map.specs.Bans.{readSecond}
-use Rattle.depot_map.proofs.Steps.{field-on, field-off}
+use Rattle.depot_map.proofs.Numbers.{field-on, field-off}
 use Rattle.depot_map.proofs.Bans.{read-then, refused-read}
 use borrow.Author.Needs.{needs}
 use Rattle.depot_map.proofs.ban.read_ban.Statement.{statement}

@@ -1,7 +1,7 @@
 -- `read_second` meets its contract: a refused number, or a turn that is put or does not fit.
-use Rattle.depot_map.specs.Step.{faultOf}
+use Rattle.depot_map.specs.Part.{faultOf}
 use Rattle.depot_map.specs.Bans.{readSecond}
-use Rattle.depot_map.proofs.Steps.{field-on, field-off}
+use Rattle.depot_map.proofs.Numbers.{field-on, field-off}
 use Rattle.depot_map.proofs.Bans.{got-read, refused-read}
 use borrow.Author.Needs.{needs}
 use Rattle.depot_map.proofs.ban.read_second.Statement.{statement}

@@ -5,10 +5,10 @@ use mathlib.Core.List.{List}
 use Prim.Native.Nat.{ℕ}
 use denote.Ref.{now}
 use Rattle.model.specs.Number.{number, got}
-use Rattle.depot_map.specs.Step.{faultOf}
+use Rattle.depot_map.specs.Part.{faultOf}
 use Rattle.buffers.specs.Taken.{taken}
-use Rattle.depot_map.specs.Step.{goOn}
-use Rattle.depot_map.proofs.Steps.{field-faulty, field-in, field-low, field-high}
+use Rattle.depot_map.specs.Part.{goOn}
+use Rattle.depot_map.proofs.Numbers.{field-faulty, field-in, field-low, field-high}
 use borrow.Author.Needs.{needs}
 use Rattle.depot_map.proofs.field.field.Statement.{statement}
 use Rattle.depot_map.proofs.field.field.Tie as tie

@@ -1,10 +1,9 @@
--- `read_attributes` meets its contract: five numbers read, and then stored.
+-- `read_attributes` meets its contract: three numbers and twice two steps read, and then stored.
 use mathlib.Core.Path.{_∙_}
 use lib.ListN.{length-set}
 use native.Mathlib.Numerals.{towards-suc}
-use Rattle.depot_map.specs.Step.{faultOf}
-use Rattle.depot_map.specs.Step.{readAttributes}
-use Rattle.depot_map.proofs.Steps.{field-on, field-off, step-refused}
+use Rattle.depot_map.specs.Part.{faultOf, readAttributes}
+use Rattle.depot_map.proofs.Numbers.{field-on, field-off, steps-on, steps-off, part-refused}
 use Rattle.depot_map.proofs.Parts.{attributes-read}
 use native.Mathlib.Omega.{arith}
 use borrow.Author.Needs.{needs}
@@ -30,7 +29,7 @@ returns : tie.Need-returns
 unfolding readAttributes faultOf
 returns c =
     let why = c .enum-told .given .1 in
-    step-refused _ why (λ rest.
+    part-refused _ why (λ rest.
     field-off (c .before .before .field .ensures) why _)
 
 field-requires-2 : tie.Need-field-requires-2
@@ -47,7 +46,7 @@ unfolding readAttributes faultOf
 returns-2 c =
     let len = c .before .before .before in
     let why = c .enum-told2 .given .1 in
-    step-refused _ why (λ rest.
+    part-refused _ why (λ rest.
     field-on (len .before .before .before .field .ensures) (len .before .len .given .1) _
     ∙ field-off (c .before .before .field2 .ensures) why _)
 
@@ -66,13 +65,13 @@ returns-3 c =
     let frc = c .before .before .before in
     let len = frc .before .before .before .before in
     let why = c .enum-told3 .given .1 in
-    step-refused _ why (λ rest.
+    part-refused _ why (λ rest.
     field-on (len .before .before .before .field .ensures) (len .before .len .given .1) _
     ∙ field-on (frc .before .before .before .field2 .ensures) (frc .before .frc .given .1) _
     ∙ field-off (c .before .before .field3 .ensures) why _)
 
-field-requires-4 : tie.Need-field-requires-4
-field-requires-4 c κs = search needs
+read-steps-requires : tie.Need-read-steps-requires
+read-steps-requires c κs = search needs
 
 enum-known-out : tie.Need-enum-known-out
 enum-known-out c = search needs
@@ -87,14 +86,14 @@ returns-4 c =
     let frc = fow .before .before .before .before in
     let len = frc .before .before .before .before in
     let why = c .enum-told4 .given .1 in
-    step-refused _ why (λ rest.
+    part-refused _ why (λ rest.
     field-on (len .before .before .before .field .ensures) (len .before .len .given .1) _
     ∙ field-on (frc .before .before .before .field2 .ensures) (frc .before .frc .given .1) _
     ∙ field-on (fow .before .before .before .field3 .ensures) (fow .before .fow .given .1) _
-    ∙ field-off (c .before .before .field4 .ensures) why _)
+    ∙ steps-off (c .before .before .read-steps .ensures) why _)
 
-field-requires-5 : tie.Need-field-requires-5
-field-requires-5 c κs = search needs
+read-steps-requires-2 : tie.Need-read-steps-requires-2
+read-steps-requires-2 c κs = search needs
 
 enum-known-back : tie.Need-enum-known-back
 enum-known-back c = search needs
@@ -110,12 +109,12 @@ returns-5 c =
     let frc = fow .before .before .before .before in
     let len = frc .before .before .before .before in
     let why = c .enum-told5 .given .1 in
-    step-refused _ why (λ rest.
+    part-refused _ why (λ rest.
     field-on (len .before .before .before .field .ensures) (len .before .len .given .1) _
     ∙ field-on (frc .before .before .before .field2 .ensures) (frc .before .frc .given .1) _
     ∙ field-on (fow .before .before .before .field3 .ensures) (fow .before .fow .given .1) _
-    ∙ field-on (out .before .before .before .field4 .ensures) (out .before .out .given .1) _
-    ∙ field-off (c .before .before .field5 .ensures) why _)
+    ∙ steps-on (out .before .before .before .read-steps .ensures) (out .before .out .given .1) _
+    ∙ steps-off (c .before .before .read-steps2 .ensures) why _)
 
 add-work : tie.Need-add-work
 add-work c = omega (arith, at-start c .pre, at-start c .good .1 .1 .0)
@@ -175,8 +174,8 @@ returns-6 c =
     (len .before .before .before .field .ensures) (len .before .len .given .1)
     (frc .before .before .before .field2 .ensures) (frc .before .frc .given .1)
     (fow .before .before .before .field3 .ensures) (fow .before .fow .given .1)
-    (out .before .before .before .field4 .ensures) (out .before .out .given .1)
-    (c .before .before .before .field5 .ensures) (c .before .back .given .1)
+    (out .before .before .before .read-steps .ensures) (out .before .out .given .1)
+    (c .before .before .before .read-steps2 .ensures) (c .before .back .given .1)
     (at-start c .pre) (simp towards-suc)
 
 pub read-attributes-spec : {M : Type 1} → statement M
@@ -195,11 +194,11 @@ read-attributes-spec =
     enum-known-fow
     enum-told-3
     returns-3
-    field-requires-4
+    read-steps-requires
     enum-known-out
     enum-told-4
     returns-4
-    field-requires-5
+    read-steps-requires-2
     enum-known-back
     enum-told-5
     returns-5

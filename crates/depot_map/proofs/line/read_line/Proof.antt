@@ -2,9 +2,9 @@
 use mathlib.Core.Path.{_∙_}
 use lib.ListN.{length-set}
 use native.Mathlib.Numerals.{towards-suc}
-use Rattle.depot_map.specs.Step.{faultOf}
+use Rattle.depot_map.specs.Part.{faultOf}
 use Rattle.model.specs.Map.{readLine}
-use Rattle.depot_map.proofs.Steps.{field-on, field-off, step-refused}
+use Rattle.depot_map.proofs.Numbers.{field-on, field-off, part-refused}
 use Rattle.depot_map.proofs.Parts.{line-equal, line-read}
 use native.Mathlib.Omega.{arith}
 use borrow.Author.Needs.{needs}
@@ -27,7 +27,7 @@ returns : tie.Need-returns
 unfolding readLine faultOf
 returns c =
     let why = c .enum-told .given .1 in
-    step-refused _ why (λ rest. field-off (c .before .before .field .ensures) why _)
+    part-refused _ why (λ rest. field-off (c .before .before .field .ensures) why _)
 
 sub-field-2 : tie.Need-sub-field-2
 sub-field-2 c = search needs
@@ -46,7 +46,7 @@ unfolding readLine faultOf
 returns-2 c =
     let start = c .before .before .before in
     let why = c .enum-told2 .given .1 in
-    step-refused _ why (λ rest.
+    part-refused _ why (λ rest.
     field-on (start .before .before .before .field .ensures) (start .before .start .given .1) _
     ∙ field-off (c .before .before .field2 .ensures) why _)
 

@@ -2,9 +2,9 @@
 use mathlib.Core.Path.{_∙_}
 use lib.ListN.{length-set}
 use native.Mathlib.Numerals.{towards-suc}
-use Rattle.depot_map.specs.Step.{faultOf}
+use Rattle.depot_map.specs.Part.{faultOf}
 use Rattle.model.specs.Map.{readNode}
-use Rattle.depot_map.proofs.Steps.{field-on, field-off, step-refused}
+use Rattle.depot_map.proofs.Numbers.{field-on, field-off, part-refused}
 use Rattle.depot_map.proofs.Parts.{node-read}
 use native.Mathlib.Omega.{arith}
 use borrow.Author.Needs.{needs}
@@ -24,7 +24,7 @@ returns : tie.Need-returns
 unfolding readNode faultOf
 returns c =
     let why = c .enum-told .given .1 in
-    step-refused _ why (λ rest. field-off (c .before .before .field .ensures) why _)
+    part-refused _ why (λ rest. field-off (c .before .before .field .ensures) why _)
 
 field-requires-2 : tie.Need-field-requires-2
 field-requires-2 c κs = search needs
@@ -40,7 +40,7 @@ unfolding readNode faultOf
 returns-2 c =
     let lon = c .before .before .before in
     let why = c .enum-told2 .given .1 in
-    step-refused _ why (λ rest.
+    part-refused _ why (λ rest.
     field-on (lon .before .before .before .field .ensures) (lon .before .lon .given .1) _
     ∙ field-off (c .before .before .field2 .ensures) why _)
 

@@ -1,7 +1,6 @@
 -- `has_attributes` meets its contract: the attributes are the same where each of the three is.
 use borrow.Author.Needs.{needs}
 use mathlib.Core.Path.{sym, ap, _∙_}
-use Rattle.model.specs.Field.{sector}
 use Rattle.model.specs.Lines.{LineAttributes}
 use Rattle.legs.specs.Verdict.{attributesAt}
 use Rattle.fields.specs.Leg.{attributesIn}
@@ -25,20 +24,16 @@ returns-2 c = λ e. c .if2 .taken (c .before .before .field2 .ensures ∙ ap (λ
 field-requires-3 : tie.Need-field-requires-3
 field-requires-3 c κs = search needs
 
-sector-requires : tie.Need-sector-requires
-sector-requires c κs = search needs
-
 returns-3 : tie.Need-returns-3
 unfolding attributesAt attributesIn
-returns-3 c = λ e.
-    c .if3 .taken (c .before .before .sector .ensures ∙ ap sector (c .before .before .before .field3 .ensures) ∙ ap (λ (x : LineAttributes). x .sector) e)
+returns-3 c = λ e. c .if3 .taken (c .before .before .field3 .ensures ∙ ap (λ (x : LineAttributes). x .sector) e)
 
 returns-4 : tie.Need-returns-4
 unfolding attributesAt attributesIn
 returns-4 c =
-    let frc = sym (c .before .before .before .before .before .before .before .before .before .field .ensures) ∙ c .before .before .before .before .before .before .before .if1 .left in
-    let fow = sym (c .before .before .before .before .before .before .field2 .ensures) ∙ c .before .before .before .before .if2 .left in
-    let sectored = ap sector (sym (c .before .before .before .field3 .ensures)) ∙ sym (c .before .before .sector .ensures) ∙ c .if3 .left in
+    let frc = sym (c .before .before .before .before .before .before .before .before .field .ensures) ∙ c .before .before .before .before .before .before .if1 .left in
+    let fow = sym (c .before .before .before .before .before .field2 .ensures) ∙ c .before .before .before .if2 .left in
+    let sectored = sym (c .before .before .field3 .ensures) ∙ c .if3 .left in
     λ t. record { frc = frc t; fow = fow t; sector = sectored t }
 
 pub has-attributes-spec : {M : Type 1} → statement M
@@ -50,6 +45,5 @@ has-attributes-spec =
     field-requires-2
     returns-2
     field-requires-3
-    sector-requires
     returns-3
     returns-4)

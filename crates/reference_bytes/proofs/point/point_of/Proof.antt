@@ -26,8 +26,8 @@ lowest-class-requires c κs = let p = c .before .before .before .pre in (p .0 .0
 total-length-requires : tie.Need-total-length-requires
 total-length-requires c κs = let p = c .before .before .before .before .pre in (p .0, (p .1 .0, p .1 .2))
 
-step-of-requires : tie.Need-step-of-requires
-step-of-requires c κs = let p = c .before .before .before .before .before .pre in (p .0 .0, p .1)
+differences-of-requires : tie.Need-differences-of-requires
+differences-of-requires c κs = let p = c .before .before .before .before .before .pre in (p .0 .0, p .1)
 
 mul-p : tie.Need-mul-p
 mul-p c = omega (arith, bounds (c .before .before))
@@ -50,7 +50,7 @@ distance-requires c κs = search needs
 returns : tie.Need-returns
 returns c m last h g =
     point-is (h .formed) g (c .before .before .before .before .before .before .before .attributes-of .result) _ _ (c .before .before .before .before .before .before .before .attributes-of .ensures m h) (c .before .before .before .before .before .before .lowest-class .ensures m h)
-    (c .before .before .before .before .before .total-length .ensures m h) (c .before .before .before .before .step-of .result) _ (c .distance .ensures) (c .before .before .before .before .step-of .ensures m last h g)
+    (c .before .before .before .before .before .total-length .ensures m h) (c .before .before .before .before .differences-of .result) _ (c .distance .ensures) (c .before .before .before .before .differences-of .ensures m last h g)
 
 pub point-of-spec : {M : Type 1} → statement M
 point-of-spec =
@@ -59,7 +59,7 @@ point-of-spec =
     attributes-of-requires
     lowest-class-requires
     total-length-requires
-    step-of-requires
+    differences-of-requires
     mul-p
     add-p
     mul-q

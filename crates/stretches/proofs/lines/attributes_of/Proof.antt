@@ -1,6 +1,4 @@
 -- `attributes_of` meets its contract.
-use mathlib.Core.Path.{_∙_, ap}
-use Rattle.model.specs.Field.{sector}
 use Rattle.fields.specs.Leg.{attributesIn}
 use Rattle.stretches.specs.Attributes.{attributesBy}
 use borrow.Author.Needs.{needs}
@@ -16,15 +14,12 @@ field-of-requires-2 c κs = search needs
 field-of-requires-3 : tie.Need-field-of-requires-3
 field-of-requires-3 c κs = search needs
 
-sector-requires : tie.Need-sector-requires
-sector-requires c κs = search needs
-
 returns : tie.Need-returns
 unfolding attributesIn attributesBy
 returns c m h =
-    let frc = c .before .before .before .field-of .ensures m h in
-    let fow = c .before .before .field-of2 .ensures m h in
-    let sectored = c .sector .ensures ∙ ap sector (c .before .field-of3 .ensures m h) in
+    let frc = c .before .before .field-of .ensures m h in
+    let fow = c .before .field-of2 .ensures m h in
+    let sectored = c .field-of3 .ensures m h in
     λ t. record { frc = frc t; fow = fow t; sector = sectored t }
 
 pub attributes-of-spec : {M : Type 1} → statement M
@@ -34,5 +29,4 @@ attributes-of-spec =
     field-of-requires
     field-of-requires-2
     field-of-requires-3
-    sector-requires
     returns)

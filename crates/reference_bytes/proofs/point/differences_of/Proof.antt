@@ -1,4 +1,4 @@
--- `step_of` meets its contract: the coordinates are those of the leg's two nodes.
+-- `differences_of` meets its contract: the coordinates are those of the leg's two nodes.
 use Prim.Native.Nat.{ℕ, _<_}
 use mathlib.Core.Path.{_≡_, _∙_, ap, ap₂}
 use lib.ListN.{length}
@@ -10,8 +10,8 @@ use Rattle.model.proofs.Joining.{filled, connected, from-known, to-known}
 use Rattle.work_area.specs.Area.{Held}
 use Rattle.stretches.proofs.Ends.{from-is, to-is}
 use native.Mathlib.Omega.{arith}
-use Rattle.reference_bytes.proofs.point.step_of.Statement.{statement}
-use Rattle.reference_bytes.proofs.point.step_of.Tie as tie
+use Rattle.reference_bytes.proofs.point.differences_of.Statement.{statement}
+use Rattle.reference_bytes.proofs.point.differences_of.Tie as tie
 
 -- The two nodes.
 module _ (c : tie.After-node-of2) (m : Map) (h : Held (c .before .before .before .before .args .work .now) (c .before .before .before .before .args .lines) m) where
@@ -84,8 +84,8 @@ returns c m last h g =
       lat = c .near-difference2 .ensures ∙ ap₂ difference (lat-from (c .before) m h) (lat-to (c .before) m h);
     }
 
-pub step-of-spec : {M : Type 1} → statement M
-step-of-spec =
+pub differences-of-spec : {M : Type 1} → statement M
+differences-of-spec =
     tie.close
     (tie.spec
     node-of-requires

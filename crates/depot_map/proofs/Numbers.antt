@@ -6,8 +6,8 @@ use lib.ListN.{drop}
 use borrow.Author.Tests.{le-leb, lt-leb}
 use Rattle.model.specs.Refusal.{Refused, row}
 use Rattle.model.specs.Number.{got, faulty, number}
-use Rattle.model.specs.Map.{MapAnswer, refused, field}
-use Rattle.depot_map.specs.Step.{faultOf, goOn, FieldRead, StepRead}
+use Rattle.model.specs.Map.{MapAnswer, refused, field, readSteps}
+use Rattle.depot_map.specs.Part.{faultOf, goOn, FieldRead, StepsRead, PartRead}
 use Rattle.depot_map.specs.declared.field.Fault.{Fault}
 use Rattle.depot_map.specs.declared.field.Read.{Read}
 use Rattle.buffers.proofs.Kept.{kept-none}
@@ -56,13 +56,21 @@ module _ {bytes : List ℕ} {from low high : ℕ} {why : Fault} {r : Read} (f : 
   pub field-range : {x next : ℕ} → r ≡ Read.Got x next → (low ≤ x) × (x ≤ high)
   field-range e = rw e at (f .within)
 
--- A refused number is handed on; after the last number the step is done.
-module _ {A : Type 0} {step : (A → List ℕ → MapAnswer) → MapAnswer} {held : A} {low high : ℕ} {w : List ℕ} (bytes : List ℕ) where
-  pub step-refused : {r : Read} {why : Fault} → r ≡ Read.Refused why →
-      ((rest : A → List ℕ → MapAnswer) → step rest ≡ refused (faultOf why)) → StepRead step bytes held low high w w r
-  step-refused e goes = record { goes = λ rest. goes rest ∙ sym (off bytes e _); kept = kept-none }
+-- And that of `read_steps`.
+module _ {bytes : List ℕ} {from : ℕ} {r : Read} (s : StepsRead bytes from r) where
+  pub steps-on : {x next : ℕ} → r ≡ Read.Got x next → (rest : ℕ → List ℕ → MapAnswer) → readSteps (drop from bytes) rest ≡ rest x (drop next bytes)
+  steps-on e rest = s .goes rest ∙ on bytes e rest
 
-  pub step-read : {v : List ℕ} {x next : ℕ} (thing : A) → ((rest : A → List ℕ → MapAnswer) → step rest ≡ rest thing (drop next bytes)) →
-      held ≡ thing → Kept low high w v → StepRead step bytes held low high w v (Read.Got x next)
-  step-read {next = next} thing goes there kept =
+  pub steps-off : {why : Fault} → r ≡ Read.Refused why → (rest : ℕ → List ℕ → MapAnswer) → readSteps (drop from bytes) rest ≡ refused (faultOf why)
+  steps-off e rest = s .goes rest ∙ off bytes e rest
+
+-- A refused number is handed on; after the last number the part is done.
+module _ {A : Type 0} {part : (A → List ℕ → MapAnswer) → MapAnswer} {held : A} {low high : ℕ} {w : List ℕ} (bytes : List ℕ) where
+  pub part-refused : {r : Read} {why : Fault} → r ≡ Read.Refused why →
+      ((rest : A → List ℕ → MapAnswer) → part rest ≡ refused (faultOf why)) → PartRead part bytes held low high w w r
+  part-refused e goes = record { goes = λ rest. goes rest ∙ sym (off bytes e _); kept = kept-none }
+
+  pub part-read : {v : List ℕ} {x next : ℕ} (thing : A) → ((rest : A → List ℕ → MapAnswer) → part rest ≡ rest thing (drop next bytes)) →
+      held ≡ thing → Kept low high w v → PartRead part bytes held low high w v (Read.Got x next)
+  part-read {next = next} thing goes there kept =
       record { goes = λ rest. goes rest ∙ sym (on bytes refl _ ∙ ap (λ (a : A). rest a (drop next bytes)) there); kept = kept }
