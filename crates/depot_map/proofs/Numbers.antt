@@ -1,11 +1,9 @@
--- How reading the map goes on after a number: by cases of the number, and by cases of the code's answer.
-use Prim.Native.Nat.{ℕ, _≤_, _<_}
+-- How reading the map goes on after a number or two steps, by cases of the code's answer.
+use Prim.Native.Nat.{ℕ, _≤_}
 use mathlib.Core.Path.{_≡_, refl, sym, ap, _∙_}
 use mathlib.Core.List.{List}
 use lib.ListN.{drop}
-use borrow.Author.Tests.{le-leb, lt-leb}
-use Rattle.model.specs.Refusal.{Refused, row}
-use Rattle.model.specs.Number.{got, faulty, number}
+use Rattle.model.specs.Refusal.{Refused}
 use Rattle.model.specs.Map.{MapAnswer, refused, field, readSteps}
 use Rattle.depot_map.specs.Part.{faultOf, goOn, FieldRead, StepsRead, PartRead}
 use Rattle.depot_map.specs.declared.field.Fault.{Fault}
@@ -13,24 +11,6 @@ use Rattle.depot_map.specs.declared.field.Read.{Read}
 use Rattle.buffers.proofs.Kept.{kept-none}
 use Rattle.buffers.specs.Kept.{Kept}
 use Rattle.depot_map.specs.declared.field.Read.the-variants as Read
-
-module _ (bs : List ℕ) (low high : ℕ) (n : Refused) (rest : ℕ → List ℕ → MapAnswer) where
-  pub field-faulty : number bs ≡ faulty → field bs low high n rest ≡ refused (row 2)
-  unfolding field
-  field-faulty e = rw (field, e)
-
-  module _ (x : ℕ) (after : List ℕ) (e : number bs ≡ got x after) where
-    pub field-in : low ≤ x → x ≤ high → field bs low high n rest ≡ rest x after
-    unfolding field
-    field-in l h = rw (field, e, le-leb low x l, le-leb x high h)
-
-    pub field-low : x < low → field bs low high n rest ≡ refused n
-    unfolding field
-    field-low l = rw (field, e, lt-leb low x l)
-
-    pub field-high : low ≤ x → high < x → field bs low high n rest ≡ refused n
-    unfolding field
-    field-high l h = rw (field, e, le-leb low x l, lt-leb x high h)
 
 -- Reading goes on after a number, and not after a refusal.
 pub on : (bytes : List ℕ) {r : Read} {x next : ℕ} → r ≡ Read.Got x next → (rest : ℕ → List ℕ → MapAnswer) →

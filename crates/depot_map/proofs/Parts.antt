@@ -1,22 +1,20 @@
 -- A node and a line, read number by number and then stored.
 use Rattle.work_area.specs.Area.{nodeSize, nodePlace, lineSize, linePlace}
-use Rattle.model.specs.Sector.{stepAdded}
-use Rattle.model.specs.Map.{greatestLineLength, Line, MapAnswer, refused, readNode, readLine}
+use Rattle.model.specs.Map.{greatestLineLength, Line, readNode, readLine}
 use Prim.Native.Nat.{ℕ, _+_, _≤_, _<_}
-use mathlib.Core.Path.{_≡_, refl, sym, ap, ap₂, _∙_}
+use mathlib.Core.Path.{_≡_, refl, sym, ap, _∙_}
 use mathlib.Core.Logic.{_≢_}
-use mathlib.Core.Bool.{Bool, true, false, _&&_, true≢false}
 use mathlib.Core.List.{List, [], _∷_}
 use native.Mathlib.Nat.{add-assoc}
 use native.Mathlib.Omega.{arith}
 use lib.ListN.{length, getD}
 use lib.Seq.{sets}
-use lib.Dec.{eqb, lit<}
+use lib.Dec.{lit<}
 use borrow.Author.Tests.{eq-eqb, ne-eqb}
-use Rattle.model.specs.Refusal.{row}
 use Rattle.work_area.specs.Held.{heldNode, lineFrom, heldLine}
 use Rattle.depot_map.specs.Part.{faultOf, goOn, FieldRead, StepsRead, NodeRead, readAttributes, heldAttributes, AttributesRead, LineRead, Attributes}
 use Rattle.depot_map.specs.declared.field.Read.{Read}
+use Rattle.model.proofs.Ranges.{stops, passes}
 use Rattle.work_area.proofs.Held.{node-path, line-path}
 use Rattle.buffers.proofs.Kept.{kept-within, kept-over}
 use Rattle.depot_map.proofs.Numbers.{field-on, steps-on, part-refused, part-read}
@@ -34,20 +32,6 @@ unfolding readNode heldNode faultOf
 node-read {bytes} {lon = lon} {lat = lat} {w = w} i f₁ e₁ f₂ e₂ fits put =
     let s = stored (lon ∷ lat ∷ []) w (nodePlace i) fits put in
     part-read bytes _ (λ rest. field-on f₁ e₁ _ ∙ field-on f₂ e₂ _) (node-path (stored-first (nodePlace i) s) (s .held 1 (lit< tt))) (s .kept)
-
--- ---- a test of numbers that were read
-
-module _ (test : Bool) (n : ℕ) (x : MapAnswer) where
-  pub stops : test ≡ true → elim test [ true ↦ refused (row n) | false ↦ x ] ≡ refused (row n)
-  stops e = rw e refl
-
-  pub passes : test ≡ false → elim test [ true ↦ refused (row n) | false ↦ x ] ≡ x
-  passes e = rw e refl
-
--- ---- two steps
-
-pub not-both : (east north : ℕ) → (eqb east stepAdded && eqb north stepAdded) ≡ false → east ≡ stepAdded → north ≡ stepAdded → ⊥
-not-both east north e a b = true≢false (sym (ap₂ _&&_ (eq-eqb east stepAdded a) (eq-eqb north stepAdded b)) ∙ e)
 
 -- ---- the attributes of a line
 

@@ -1,13 +1,12 @@
 -- The stages of reading a map, each from the one after it. `S` is what the stage is defined to be.
 use Rattle.work_area.specs.Area.{linesFrom, codesFrom}
-use Rattle.model.specs.Map.{greatestLineCount, greatestNodeCount, Node, Line, MapAnswer, whole, refused, ended, readLine, decodeLines, decodeNodes, decode, clash}
+use Rattle.model.specs.Map.{greatestLineCount, greatestNodeCount, Node, Line, MapAnswer, refused, readLine, decodeLines, decodeNodes, decode}
 use Rattle.model.specs.Work.{workLength}
 use Prim.Native.Nat.{ℕ, suc, _+_, _-_, _≤_, _<_}
-use mathlib.Core.Path.{_≡_, refl, sym, ap, ap₂, subst, _∙_}
-use mathlib.Core.Bool.{Bool, true, false, _&&_}
+use mathlib.Core.Path.{_≡_, sym, ap, subst, _∙_}
 use mathlib.Core.List.{List, [], _∷_, _++_}
 use native.Mathlib.Omega.{arith}
-use lib.ListN.{length, drop, length-append}
+use lib.ListN.{length, drop}
 use Rattle.model.specs.declared.Refusal.{Refusal}
 use Rattle.model.specs.Refusal.{Refused, refusalOf}
 use Rattle.buffers.specs.Kept.{Kept}
@@ -19,7 +18,7 @@ use Rattle.depot_map.specs.Answer.{MapIsRead}
 use Rattle.depot_map.specs.declared.field.Read.{Read}
 use Rattle.depot_map.specs.declared.MapRead.{MapRead}
 use Rattle.buffers.proofs.Kept.{kept-none, kept-then, kept-within, kept-over}
-use Rattle.work_area.proofs.Held.{listed-length, nodes-same, lines-same, nodes-more, lines-more}
+use Rattle.work_area.proofs.Held.{listed-length, nodes-same, nodes-more, lines-more}
 use Rattle.depot_map.proofs.Numbers.{on, off}
 use Rattle.depot_map.proofs.Whole.{answers}
 use Rattle.depot_map.specs.declared.field.Read.the-variants as Read

@@ -9,7 +9,7 @@ use lib.Dec.{ltb, leb, eqb}
 use mir.Val.{boolByte}
 use borrow.Author.Tests.{ltb-true, ltb-false, leb-true, leb-false, le-leb, lt-leb, eq-eqb, ne-eqb}
 use Rattle.model.specs.Sector.{Direction, stepAdded, greatestStep, direction, turned, turnedBy, quadrant, within, squared, half, sectorOf}
-use Rattle.model.proofs.Sectors.{First, Turns, quadrant-by}
+use Rattle.model.proofs.Sectors.{First, Leads, quadrant-by, north-to-east, east-to-south, south-to-west, west-to-north}
 use Rattle.model.proofs.Squares.{squared-some, square-odd, sector-by-halves}
 use Rattle.fields.specs.Sector.{gap, Squared, laterHalf}
 use Rattle.fields.specs.declared.sector.Parts.{Parts}
@@ -53,22 +53,14 @@ square-small a b s =
 -- West of north and south, or due south; and else.
 module _ (east north : ℕ) where
   pub west-quadrant : east < stepAdded + boolByte (ltb north stepAdded) → 3 - boolByte (ltb north stepAdded) ≡ quadrant (direction east north)
-  unfolding direction turned turnedBy
   west-quadrant = go (ltb north stepAdded) refl
     where
       go : (t : Bool) → ltb north stepAdded ≡ t → east < stepAdded + boolByte t → 3 - boolByte t ≡ quadrant (direction east north)
-      go true t h =
-          let south = ltb-true north stepAdded t in
-          sym (quadrant-by 2 (direction east north) (omega arith)
-          (record { ahead = omega (arith, south); no-south = omega (arith, south); no-west = omega (arith, h) }))
-      go false t h =
-          let south = ltb-false north stepAdded t in
-          sym (quadrant-by 3 (direction east north) (omega arith)
-          (record { ahead = omega (arith, h); no-south = omega (arith, h); no-west = omega (arith, south) }))
+      go true t h = sym (quadrant-by 2 (direction east north) (omega arith) (south-to-west east north (omega (arith, h)) (ltb-true north stepAdded t)))
+      go false t h = sym (quadrant-by 3 (direction east north) (omega arith) (west-to-north east north (omega (arith, h)) (ltb-false north stepAdded t)))
 
   pub east-quadrant : stepAdded + boolByte (ltb north stepAdded) ≤ east → (east ≡ stepAdded → north ≡ stepAdded → ⊥) →
       boolByte (leb north stepAdded) ≡ quadrant (direction east north)
-  unfolding direction turned turnedBy
   east-quadrant h some = go (leb north stepAdded) refl
     where
       -- Steps due north are in the first quadrant, steps due east are not.
@@ -82,13 +74,8 @@ module _ (east north : ℕ) where
       go : (t : Bool) → leb north stepAdded ≡ t → boolByte t ≡ quadrant (direction east north)
       go true t =
           let n = leb-true north stepAdded t in
-          let e = beyond (ltb north stepAdded) refl h n in
-          sym (quadrant-by 1 (direction east north) (omega arith)
-          (record { ahead = omega (arith, e); no-south = omega (arith, e); no-west = omega (arith, n) }))
-      go false t =
-          let n = leb-false north stepAdded t in
-          sym (quadrant-by 0 (direction east north) (omega arith)
-          (record { ahead = omega (arith, n); no-south = omega (arith, n); no-west = omega (arith, h) }))
+          sym (quadrant-by 1 (direction east north) (omega arith) (east-to-south east north (beyond (ltb north stepAdded) refl h n) n))
+      go false t = sym (quadrant-by 0 (direction east north) (omega arith) (north-to-east east north (omega (arith, h)) (leb-false north stepAdded t)))
 
 -- A test's answer as a number.
 byte-later : (a b : ℕ) → boolByte (leb a b) ≡ cond (ltb b a) 0 1
@@ -127,14 +114,14 @@ half-by-turns (suc (suc zero)) d h f = sides (d .west) (d .east + d .west) (d .s
 half-by-turns (suc (suc (suc zero))) d h f = sides (d .north) (d .north + d .south) (d .west) (d .east + d .west) (omega (arith, f .no-west)) (omega (arith, f .no-south))
 half-by-turns (suc (suc (suc (suc k)))) d h f = absurd (omega arith)
 
-half-by-parts : (d : Direction) → Turns d → half (within d) ≡ laterHalf (quadrant d % 2) (realOf d) (imaginaryOf d)
+half-by-parts : (d : Direction) → Leads d → half (within d) ≡ laterHalf (quadrant d % 2) (realOf d) (imaginaryOf d)
 unfolding within
 half-by-parts d t =
     subst (λ k. half (turnedBy k d) ≡ laterHalf (k % 2) (realOf d) (imaginaryOf d)) (sym (quadrant-by (t .turns) d (t .few) (t .first)))
     (half-by-turns (t .turns) d (t .few) (t .first))
 
 -- Of a square: whether its quadrant is odd is told by the half that the direction itself was in.
-square-half : (d : Direction) {real imaginary h : ℕ} {r : Parts} → Turns d → realOf d ≡ real → imaginaryOf d ≡ imaginary → half (within d) ≡ h →
+square-half : (d : Direction) {real imaginary h : ℕ} {r : Parts} → Leads d → realOf d ≡ real → imaginaryOf d ≡ imaginary → half (within d) ≡ h →
     Squared real imaginary r → (realOf (squared d) ≡ r .real) × (imaginaryOf (squared d) ≡ r .imaginary) ×
     (half (within (squared d)) ≡ laterHalf h (r .real) (r .imaginary))
 square-half d {h = h} {r = r} t real= imaginary= half= s =
@@ -148,7 +135,7 @@ square-half d {h = h} {r = r} t real= imaginary= half= s =
           ∙ ap₂ (λ x y. laterHalf h x y) real imaginary,
     )
 
-pub sector-told : (d : Direction) → Turns d → {real imaginary q h k l : ℕ} {r s : Parts} → real ≡ realOf d → imaginary ≡ imaginaryOf d → q ≡ quadrant d →
+pub sector-told : (d : Direction) → Leads d → {real imaginary q h k l : ℕ} {r s : Parts} → real ≡ realOf d → imaginary ≡ imaginaryOf d → q ≡ quadrant d →
     h ≡ laterHalf (q % 2) real imaginary → Squared real imaginary r → k ≡ laterHalf h (r .real) (r .imaginary) → Squared (r .real) (r .imaginary) s →
     l ≡ laterHalf k (s .real) (s .imaginary) → 8 * q + 4 * h + 2 * k + l ≡ sectorOf d
 sector-told d t {real} {imaginary} {q} {h} {k} {l} {r} {s} real= imaginary= q= h= once k= twice l= =

@@ -8,6 +8,8 @@ pub mod Squares
 pub mod Decoded
 pub mod Nodes
 pub mod Numbers
+pub mod Ranges
+pub mod Steps
 pub mod Cut
 pub mod Spans
 pub mod Legs

@@ -82,42 +82,53 @@ sector-by k d h f = rw (quadrant-by k d h f) refl
 
 -- ---- a quarter turn
 
--- Steps that are not both 0 lead somewhere: three quarter turns at most bring them into the first quadrant.
-pub record Turns (d : Direction) : Type 0 where
+-- A direction that leads somewhere: three quarter turns at most bring it into the first quadrant.
+pub record Leads (d : Direction) : Type 0 where
   pub turns : ℕ
   pub few : turns ≤ 3
   pub first : First (turnedBy turns d)
 
-pub turns-of : (east north : ℕ) → (east ≡ stepAdded → north ≡ stepAdded → ⊥) → Turns (direction east north)
-unfolding direction turned turnedBy
-turns-of east north some = go (ltb 250 north) (ltb 250 east) (ltb north 250) (ltb east 250) refl refl refl refl
-  where
-    at : (k : ℕ) → k ≤ 3 → First (turnedBy k (direction east north)) → Turns (direction east north)
-    at k h f = record { turns = k; few = h; first = f }
+-- Steps in each quadrant.
+module _ (east north : ℕ) where
+  pub north-to-east : stepAdded ≤ east → stepAdded < north → First (turnedBy 0 (direction east north))
+  unfolding direction turned turnedBy
+  north-to-east e n = record { ahead = omega (arith, n); no-south = omega (arith, n); no-west = omega (arith, e) }
 
-    go : (n e s w : Bool) → ltb 250 north ≡ n → ltb 250 east ≡ e → ltb north 250 ≡ s → ltb east 250 ≡ w → Turns (direction east north)
-    go true e s false n= e= s= w= =
-        let n′ = ltb-true 250 north n= in let w′ = ltb-false east 250 w= in
-        at 0 (omega arith) (record { ahead = omega (arith, n′); no-south = omega (arith, n′); no-west = omega (arith, w′) })
-    go true e s true n= e= s= w= =
-        let n′ = ltb-true 250 north n= in let w′ = ltb-true east 250 w= in
-        at 3 (omega arith) (record { ahead = omega (arith, w′); no-south = omega (arith, w′); no-west = omega (arith, n′) })
-    go false true s w n= e= s= w= =
-        let n′ = ltb-false 250 north n= in let e′ = ltb-true 250 east e= in
-        at 1 (omega arith) (record { ahead = omega (arith, e′); no-south = omega (arith, e′); no-west = omega (arith, n′) })
-    go false false true w n= e= s= w= =
-        let e′ = ltb-false 250 east e= in let s′ = ltb-true north 250 s= in
-        at 2 (omega arith) (record { ahead = omega (arith, s′); no-south = omega (arith, s′); no-west = omega (arith, e′) })
-    go false false false true n= e= s= w= =
-        let s′ = ltb-false north 250 s= in let w′ = ltb-true east 250 w= in
-        at 3 (omega arith) (record { ahead = omega (arith, w′); no-south = omega (arith, w′); no-west = omega (arith, s′) })
-    go false false false false n= e= s= w= =
-        let n′ = ltb-false 250 north n= in let e′ = ltb-false 250 east e= in
-        let s′ = ltb-false north 250 s= in let w′ = ltb-false east 250 w= in
-        absurd (some (omega (arith, e′, w′)) (omega (arith, n′, s′)))
+  pub east-to-south : stepAdded < east → north ≤ stepAdded → First (turnedBy 1 (direction east north))
+  unfolding direction turned turnedBy
+  east-to-south e n = record { ahead = omega (arith, e); no-south = omega (arith, e); no-west = omega (arith, n) }
+
+  pub south-to-west : east ≤ stepAdded → north < stepAdded → First (turnedBy 2 (direction east north))
+  unfolding direction turned turnedBy
+  south-to-west e n = record { ahead = omega (arith, n); no-south = omega (arith, n); no-west = omega (arith, e) }
+
+  pub west-to-north : east < stepAdded → stepAdded ≤ north → First (turnedBy 3 (direction east north))
+  unfolding direction turned turnedBy
+  west-to-north e n = record { ahead = omega (arith, e); no-south = omega (arith, e); no-west = omega (arith, n) }
+
+  -- Steps that are not both 0 lead somewhere.
+  pub steps-lead : (east ≡ stepAdded → north ≡ stepAdded → ⊥) → Leads (direction east north)
+  steps-lead some = go (ltb stepAdded north) (ltb stepAdded east) (ltb north stepAdded) (ltb east stepAdded) refl refl refl refl
+    where
+      go : (n e s w : Bool) → ltb stepAdded north ≡ n → ltb stepAdded east ≡ e → ltb north stepAdded ≡ s → ltb east stepAdded ≡ w → Leads (direction east north)
+      go true e s false n= e= s= w= =
+          record { turns = 0; few = omega arith; first = north-to-east (ltb-false east stepAdded w=) (ltb-true stepAdded north n=) }
+      go true e s true n= e= s= w= =
+          let n = ltb-true stepAdded north n= in
+          record { turns = 3; few = omega arith; first = west-to-north (ltb-true east stepAdded w=) (omega (arith, n)) }
+      go false true s w n= e= s= w= =
+          record { turns = 1; few = omega arith; first = east-to-south (ltb-true stepAdded east e=) (ltb-false stepAdded north n=) }
+      go false false true w n= e= s= w= =
+          record { turns = 2; few = omega arith; first = south-to-west (ltb-false stepAdded east e=) (ltb-true north stepAdded s=) }
+      go false false false true n= e= s= w= =
+          record { turns = 3; few = omega arith; first = west-to-north (ltb-true east stepAdded w=) (ltb-false north stepAdded s=) }
+      go false false false false n= e= s= w= =
+          let n = ltb-false stepAdded north n= in let s = ltb-false north stepAdded s= in
+          let e = ltb-false stepAdded east e= in let w = ltb-false east stepAdded w= in
+          absurd (some (omega (arith, e, w)) (omega (arith, n, s)))
 
 -- A direction that a quarter turn back makes of another has 8 sectors less, modulo 32.
-turned-sector : (d : Direction) → Turns (turned d) → sectorOf d ≡ (sectorOf (turned d) + 8) % 32
+turned-sector : (d : Direction) → Leads (turned d) → sectorOf d ≡ (sectorOf (turned d) + 8) % 32
 unfolding turned turnedBy
 turned-sector d t = go (t .turns) (t .few) (t .first)
   where
@@ -145,7 +156,7 @@ pub quarter-turn : (east north : ℕ) → east ≤ greatestStep → north ≤ gr
 unfolding sector direction turned
 quarter-turn east north e n some =
     let back : turned (direction north (500 - east)) ≡ direction east north = direction-path refl (omega arith) refl (omega arith) in
-    turned-sector (direction north (500 - east)) (subst Turns (sym back) (turns-of east north some)) ∙ ap (λ (d : Direction). (sectorOf d + 8) % 32) back
+    turned-sector (direction north (500 - east)) (subst Leads (sym back) (steps-lead east north some)) ∙ ap (λ (d : Direction). (sectorOf d + 8) % 32) back
 
 -- ---- multiples
 

@@ -8,7 +8,7 @@ use native.Mathlib.Nat.{zero-add, suc-add, add-comm, mul-comm, mul-pos, mul-le-m
 use lib.Dec.{ltb}
 use borrow.Author.Tests.{ltb-true, ltb-false}
 use Rattle.model.specs.Sector.{Direction, turned, turnedBy, quadrant, within, squared, half, octant, sectorOf}
-use Rattle.model.proofs.Sectors.{First, Turns, direction-path, quadrant-few, half-few, octant-few, quadrant-by, octant-by}
+use Rattle.model.proofs.Sectors.{First, Leads, direction-path, quadrant-few, half-few, octant-few, quadrant-by, octant-by}
 
 -- ---- turns
 
@@ -102,12 +102,12 @@ octant-by-squares d e f j k j≤ k≤ one two first =
 
 -- ---- the doubled angle
 
-within-first : (d : Direction) → Turns d → First (within d)
+within-first : (d : Direction) → Leads d → First (within d)
 unfolding within
 within-first d t = subst (λ k. First (turnedBy k d)) (sym (quadrant-by (t .turns) d (t .few) (t .first))) (t .first)
 
 -- The quadrant of a square, and where it comes to in the first: by where the direction itself does.
-module _ (d : Direction) (t : Turns d) where
+module _ (d : Direction) (t : Leads d) where
   abbrev turns : ℕ
   turns = (2 * quadrant d + half (within d)) % 4
 
@@ -121,7 +121,7 @@ module _ (d : Direction) (t : Turns d) where
   square-first = subst First (sym brought) (squared-first (within d) (within-first d t))
 
   -- A square leads somewhere too.
-  pub squared-some : Turns (squared d)
+  pub squared-some : Leads (squared d)
   squared-some = record { turns = turns; few = omega arith; first = square-first }
 
   square-quadrant : quadrant (squared d) ≡ turns
@@ -139,7 +139,7 @@ module _ (d : Direction) (t : Turns d) where
   square-within = ap (λ k. turnedBy k (squared d)) square-quadrant ∙ brought
 
 -- The sector is told by the quadrant, and by the halves in which the direction and its two squarings are.
-pub sector-by-halves : (d : Direction) → Turns d →
+pub sector-by-halves : (d : Direction) → Leads d →
     sectorOf d ≡ 8 * quadrant d + (4 * half (within d) + 2 * half (within (squared d)) + half (within (squared (squared d))))
 unfolding sectorOf
 sector-by-halves d t =
@@ -161,7 +161,7 @@ halved q h i j k h≤ i≤ j≤ k≤ =
     rest : (p x : ℕ) → x < 16 → (16 * p + x) % 16 ≡ x
     rest p x x< = omega arith
 
-pub doubled : (d : Direction) → Turns d → sectorOf (squared d) / 2 ≡ sectorOf d % 16
+pub doubled : (d : Direction) → Leads d → sectorOf (squared d) / 2 ≡ sectorOf d % 16
 doubled d t =
     let s = squared d in
     let r = squared s in
@@ -174,8 +174,8 @@ doubled d t =
 
 -- A count of 8 to a quadrant, of which a squared direction has twice as many, one more at most, modulo a whole turn.
 pub record Counts (f : Direction → ℕ) : Type 0 where
-  pub quarters : (d : Direction) → Turns d → f d / 8 ≡ quadrant d
-  pub doubles : (d : Direction) → Turns d → f (squared d) / 2 ≡ f d % 16
+  pub quarters : (d : Direction) → Leads d → f d / 8 ≡ quadrant d
+  pub doubles : (d : Direction) → Leads d → f (squared d) / 2 ≡ f d % 16
 
 pub sector-counts : Counts sectorOf
 unfolding sectorOf
@@ -203,7 +203,7 @@ nested a b c x y z w x= y= z= w< =
     let y′ : y / 2 ≡ 2 * b + z / 4 = omega (arith, y=) in
     omega (arith, x=, y′, z′)
 
-by-quadrants : (f : Direction → ℕ) → Counts f → (d : Direction) → Turns d →
+by-quadrants : (f : Direction → ℕ) → Counts f → (d : Direction) → Leads d →
     f d ≡ 8 * quadrant d + (4 * (quadrant (squared d) % 2) + (2 * (quadrant (squared (squared d)) % 2) + quadrant (squared (squared (squared d))) % 2))
 by-quadrants f c d t =
     let s = squared d in
@@ -211,13 +211,13 @@ by-quadrants f c d t =
     let v = squared r in
     let ts = squared-some d t in
     let tr = squared-some s ts in
-    let parts = nested _ _ _ (f d % 8) (f s % 8) (f r % 8) (f v % 8) (step d t) (step s ts) (step r tr) (omega arith) in
+    let parts = nested _ _ _ (f d % 8) (f s % 8) (f r % 8) (f v % 8) (onward d t) (onward s ts) (onward r tr) (omega arith) in
     let whole : f d ≡ 8 * (f d / 8) + f d % 8 = omega arith in
     whole ∙ ap₂ (λ q x. 8 * q + x) (c .quarters d t) parts
   where
-    step : (d : Direction) → Turns d → f d % 8 ≡ 4 * (quadrant (squared d) % 2) + f (squared d) % 8 / 2
-    step d t =
+    onward : (d : Direction) → Leads d → f d % 8 ≡ 4 * (quadrant (squared d) % 2) + f (squared d) % 8 / 2
+    onward d t =
         eighth (f d) (f (squared d)) (c .doubles d t) ∙ ap (λ q. 4 * (q % 2) + f (squared d) % 8 / 2) (c .quarters (squared d) (squared-some d t))
 
-pub sector-only : (f : Direction → ℕ) → Counts f → (d : Direction) → Turns d → f d ≡ sectorOf d
+pub sector-only : (f : Direction → ℕ) → Counts f → (d : Direction) → Leads d → f d ≡ sectorOf d
 sector-only f c d t = by-quadrants f c d t ∙ sym (by-quadrants sectorOf sector-counts d t)

@@ -8,7 +8,7 @@ use Rattle.model.specs.Number.{number, got}
 use Rattle.depot_map.specs.Part.{faultOf}
 use Rattle.buffers.specs.Taken.{taken}
 use Rattle.depot_map.specs.Part.{goOn}
-use Rattle.depot_map.proofs.Numbers.{field-faulty, field-in, field-low, field-high}
+use Rattle.model.proofs.Ranges.{field-faulty, field-in, field-low, field-high}
 use borrow.Author.Needs.{needs}
 use Rattle.depot_map.proofs.field.field.Statement.{statement}
 use Rattle.depot_map.proofs.field.field.Tie as tie

@@ -6,7 +6,8 @@ use mathlib.Core.Path.{sym, ap, _∙_}
 use Rattle.model.specs.Map.{readSteps}
 use Rattle.depot_map.specs.Part.{faultOf, goOn}
 use Rattle.depot_map.proofs.Numbers.{off, field-on, field-off, field-range}
-use Rattle.depot_map.proofs.Parts.{stops, passes, not-both}
+use Rattle.model.proofs.Ranges.{stops, passes}
+use Rattle.model.proofs.Steps.{not-both}
 use borrow.Author.Needs.{needs}
 use Rattle.depot_map.proofs.line.read_steps.Statement.{statement}
 use Rattle.depot_map.proofs.line.read_steps.Tie as tie

@@ -2,7 +2,7 @@
 use Prim.Native.Nat.{_≤_}
 use mathlib.Core.Path.{sym, subst}
 use Rattle.model.specs.Sector.{direction, sector}
-use Rattle.model.proofs.Sectors.{quadrant-few, turns-of}
+use Rattle.model.proofs.Sectors.{quadrant-few, steps-lead}
 use Rattle.fields.specs.Sector.{gap}
 use Rattle.fields.proofs.Sectors.{gap-small, square-small, later-small, sector-told}
 use native.Mathlib.Omega.{arith}
@@ -85,7 +85,7 @@ unfolding sector direction gap
 returns c =
     let calls = c .before .before .before .before in
     let start = calls .before .before .before .before in
-    sector-told (direction (start .args .east) (start .args .north)) (turns-of (start .args .east) (start .args .north) (start .pre .2))
+    sector-told (direction (start .args .east) (start .args .north)) (steps-lead (start .args .east) (start .args .north) (start .pre .2))
     (calls .before .before .gap-between .ensures) (calls .before .gap-between2 .ensures) (calls .before .before .before .quadrant-of .ensures)
     (calls .later-half .ensures) (c .before .before .before .square .ensures) (c .before .before .later-half2 .ensures) (c .before .square2 .ensures)
     (c .later-half3 .ensures)
