@@ -1,5 +1,5 @@
 -- "Errors: 24 (in byte order with 2 to 5) a step out of range or both zero, the latter a fault of the north step" (paper 02, W3): said of all steps, and of
--- whatever stands behind the faulty one.
+-- whatever stands behind the faulty one. A step whose number has no right form is refused with 2, in the same order.
 use Prim.Native.Nat.{ℕ, _≤_, _<_, _^_}
 use mathlib.Core.Path.{_≡_, refl, sym, ap₂, _∙_}
 use mathlib.Core.Bool.{Bool, true, false, _&&_, true≢false}
@@ -8,12 +8,12 @@ use native.Mathlib.Omega.{arith}
 use lib.Dec.{eqb}
 use borrow.Author.Tests.{eqb-true, eq-eqb}
 use Rattle.model.specs.Refusal.{row}
-use Rattle.model.specs.Number.{numberBytes}
+use Rattle.model.specs.Number.{numberBytes, number, faulty}
 use Rattle.model.specs.Sector.{stepAdded, greatestStep, sector}
 use Rattle.model.specs.Map.{MapAnswer, refused, readSteps}
 use Rattle.model.proofs.Tests.{both}
 use Rattle.model.proofs.Numbers.{number-back}
-use Rattle.model.proofs.Ranges.{field-in, field-high, stops, passes}
+use Rattle.model.proofs.Ranges.{field-faulty, field-in, field-high, stops, passes}
 
 -- Whether both are 0, as the definition asks it.
 abbrev zeros : ℕ → ℕ → Bool
@@ -23,10 +23,21 @@ pub not-both : (east north : ℕ) → zeros east north ≡ false → east ≡ st
 not-both east north t e n = true≢false (sym (ap₂ _&&_ (eq-eqb east stepAdded e) (eq-eqb north stepAdded n)) ∙ t)
 
 module _ (rest : ℕ → List ℕ → MapAnswer) where
+  -- An east step that is no number.
+  pub east-faulty : (bs : List ℕ) → number bs ≡ faulty → readSteps bs rest ≡ refused (row 2)
+  unfolding readSteps
+  east-faulty bs none = field-faulty _ _ _ _ _ none
+
   -- An east step out of range, whatever comes next.
   pub east-refused : (east : ℕ) (bs : List ℕ) → greatestStep < east → east < 2 ^ 32 → readSteps (numberBytes east ++ bs) rest ≡ refused (row 24)
   unfolding readSteps
   east-refused east bs over small = field-high _ _ _ _ _ east bs (number-back east bs small) (omega arith) over
+
+  -- A north step that is no number, behind an east step in its range: 0 as well, since both are asked for only once both are taken.
+  pub north-faulty : (east : ℕ) (bs : List ℕ) → east ≤ greatestStep → number bs ≡ faulty → readSteps (numberBytes east ++ bs) rest ≡ refused (row 2)
+  unfolding readSteps
+  north-faulty east bs inside none =
+      field-in _ _ _ _ _ east bs (number-back east bs (omega arith)) (omega arith) inside ∙ field-faulty _ _ _ _ _ none
 
   module _ (east north : ℕ) (bs : List ℕ) (inside : east ≤ greatestStep) where
     -- A north step out of range.
