@@ -5,8 +5,9 @@
 # `make count` counts the proved writer's searches and leg tests, `make host` runs a C host on the ridge and on the islands,
 # `make test-host` tests the C functions, `make test-plain` tests plain Rust and holds it to the stored cases,
 # `make differential` holds the C functions to plain Rust (`make differential CALLS=1000000 SEED=2`),
-# `make counts` counts definitions, code, proofs and tests, `make figures` makes docs/FIGURES.md anew.
-.PHONY: ridge ridge-ban islands test bench count archive host test-host test-plain differential counts figures
+# `make counts` counts definitions, code, proofs and tests, `make contracts` prints every function's contract (`make contracts SINCE=REVISION`: what changed in
+# them), `make figures` makes docs/FIGURES.md anew.
+.PHONY: ridge ridge-ban islands test bench count archive host test-host test-plain differential counts contracts figures
 .DELETE_ON_ERROR:
 
 CALLS = 400000
@@ -92,6 +93,9 @@ differential: $(ARCHIVE)
 
 counts:
 	@python3 docs/counts.py
+
+contracts:
+	@python3 docs/contracts.py $(if $(SINCE),--since $(SINCE))
 
 figures:
 	python3 docs/figures.py $(if $(GATE),--gate $(GATE))

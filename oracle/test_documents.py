@@ -1,10 +1,14 @@
 """What stands in several documents is the same in each: refusals in the code, the header and the page on the bytes; places of language forms; the stack."""
 
 import re
+import sys
 import unittest
 from pathlib import Path
 
 ROOT = Path(__file__).parent.parent
+sys.path.append(str(ROOT / "docs"))
+
+import contracts  # noqa: E402 (docs/contracts.py)
 
 
 def text_of(name):
@@ -60,6 +64,15 @@ class Sizes(unittest.TestCase):
 class Version(unittest.TestCase):
     def test_page_on_the_bytes_is_of_the_header_s_version(self):
         self.assertIn(f"the format of version {header_constant('OPENLR_VERSION')}", " ".join(text_of("docs/FORMAT.md").split()))
+
+
+class Contracts(unittest.TestCase):
+    def test_every_function_and_every_clause_is_listed(self):
+        code = [path.read_text() for path in ROOT.glob("crates/*/src/**/*.rt")]
+        rows = list(contracts.contracts(None, False))
+        clauses = [row for row in rows if re.search(r": (requires|ensures) \{ .* \}$", row)]
+        self.assertEqual(len(clauses), sum(len(re.findall(r"\b(?:requires|ensures) \{", text)) for text in code))
+        self.assertEqual(len(rows) - len(clauses), sum(len(re.findall(r"^[^/\n]*\bfn \w", text, re.MULTILINE)) for text in code))
 
 
 class LineLengths(unittest.TestCase):

@@ -14,7 +14,7 @@ from crossings import reading_moves, stretch_moves
 from damages import LINE_NUMBERS, STEP_FIELDS, STEP_PAIRS
 from depot_map import read_number
 from drawn_steps import ENDS_OF_RANGE, steps_at_edges
-from fields import sector
+from fields import LONGEST_LEG, sector
 from outcome import Refused, RefusedCall
 from pack import CRATES, MOST_CASE_BYTES
 from sample_maps import FIRST_BEHIND, LAST_BEFORE, lies_across
@@ -64,6 +64,13 @@ class StoredCases(unittest.TestCase):
     def test_counts_of_bans(self):
         counts = {int(row.split()[5]) for row in rows("test_maps") if row.startswith("nodes")}
         self.assertLessEqual({0, 1, 2, 3, 512}, counts)
+
+    def test_longest_line_behind_the_longest(self):
+        # The longest way of a leg, by one line, and the longest line behind it: no greater sum of lengths can come up (W4).
+        for name in ("test_legs", "test_reads", "test_writes"):
+            with self.subTest(name):
+                longest = [[line for line in depot_map.lines if line.length == LONGEST_LEG] for depot_map in good_maps(name)]
+                self.assertTrue(any({line.end_node for line in lines} & {line.start_node for line in lines} for lines in longest))
 
     def test_full_size_maps(self):
         for name in PARTS_OF_A_CASE:

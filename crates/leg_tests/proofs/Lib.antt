@@ -1,5 +1,6 @@
 -- Laws of a stretch's legs under test.
 pub mod Slices
+pub mod Sums
 pub mod Marks
 pub mod Sole
 pub mod Suffix

@@ -59,9 +59,9 @@ module _ {m : Map} {lines : ℕ} {s : List ℕ} {j : ℕ} {to : Terminus} {w : L
       go q h (yes past) = k .earlier q past
       go q h (no inside) = cell .earlier q (omega arith) h
 
-  pub owning-end : {a b v : List ℕ} {class len i : ℕ} {cell : OwnCell} (r : Column) → r .end ≡ i → i ≤ cell .end → ColumnKept j a b →
-      ((k : ℕ) → k < i → mark b k j ≡ 0) → Owning m lines s j to b w v class len i cell → ColumnOwned m lines s j to a b w v r
-  owning-end {b = b} {i = i} r same e kept cleared k =
+  pub owning-end : {a b v : List ℕ} {class len i : ℕ} {cell : OwnCell} (r : Column) → r .end ≤ i → ((k : ℕ) → k < i → OwnRead m s k j to → ⊥) →
+      ColumnKept j a b → ((k : ℕ) → k < i → mark b k j ≡ 0) → Owning m lines s j to b w v class len i cell → ColumnOwned m lines s j to a b w v r
+  owning-end {b = b} {i = i} r before-i none kept cleared k =
       record {
         says = λ q l. go q l (decLt q i);
         ended = λ q l one. inside q one (decLt q i);
@@ -70,7 +70,7 @@ module _ {m : Map} {lines : ℕ} {s : List ℕ} {j : ℕ} {to : Terminus} {w : L
       }
     where
       go : (q : ℕ) → q < j → Dec (q < i) → Marks (OwnRead m s q j to) (mark b q j)
-      go q l (yes before) = subst (Marks (OwnRead m s q j to)) (sym (cleared q before)) (marks-no (k .earlier q (omega arith)))
+      go q l (yes before) = subst (Marks (OwnRead m s q j to)) (sym (cleared q before)) (marks-no (none q before))
       go q l (no after) = k .says q (omega arith) l
 
       inside : (q : ℕ) → mark b q j ≡ 1 → Dec (q < i) → r .end ≤ q

@@ -2,6 +2,7 @@
 use Prim.Native.Nat.{ℕ, _+_, _*_, _-_, _≤_, _<_}
 use mathlib.Core.Path.{_≡_, refl, sym, subst, _∙_}
 use mathlib.Core.List.{List}
+use mathlib.Core.Logic.{_≢_}
 use native.Mathlib.Decide.{decLt}
 use native.Mathlib.Omega.{arith}
 use lib.ListN.{length, getD, set}
@@ -12,7 +13,7 @@ use Rattle.buffers.proofs.Kept.{kept-none, kept-then, kept-set}
 use Rattle.way_lengths.specs.Ways.{line}
 use Rattle.search_cells.specs.Area.{Set}
 use Rattle.leg_tests.specs.declared.cells.Cell.{Cell}
-use Rattle.leg_tests.specs.LegTests.{mark, Marks, Alone, Noted, Sifted, DoneFor, ShortLegs, Measured, Worked, CellTested, ColumnKept, ColumnSifted}
+use Rattle.leg_tests.specs.LegTests.{mark, Marks, Alone, Noted, Sifted, DoneFor, Measured, Worked, CellTested, ColumnKept, ColumnSifted}
 use Rattle.leg_tests.proofs.Slices.{total-slice-none, lowest-slice-none, same-column, other-column, column-set}
 use Rattle.leg_tests.proofs.Opening.{not-tested}
 
@@ -72,17 +73,17 @@ module _ {m : Map} {lines : ℕ} {s : List ℕ} {last : ℕ} {w : List ℕ} wher
         worked = worked-then (k .worked) (cell .worked);
       }
 
-  -- Before the end of the column no leg is tested, and none needs to be.
-  pub sifting-end : {a b v : List ℕ} {class len searched limit end i : ℕ} → i ≤ end → ColumnKept (length s) a b →
-      ((k : ℕ) → k < i → mark b k (length s) ≡ mark a k (length s)) → ShortLegs m s end a →
+  -- Where the numbers of the legs from earlier positions are not 1, none of them needs to be tested.
+  pub sifting-end : {a b v : List ℕ} {class len searched limit i : ℕ} → ((k : ℕ) → k < i → mark a k (length s) ≢ 1) → ColumnKept (length s) a b →
+      ((k : ℕ) → k < i → mark b k (length s) ≡ mark a k (length s)) →
       Sifting m lines s last a b w v class len searched limit i → ColumnSifted m lines s last a b w v
-  sifting-end {a} {b} {end = end} {i = i} e kept earlier within k =
+  sifting-end {a} {b} {i = i} none kept earlier k =
       record { sifted = λ q l. go q l (decLt q i); kept = kept; worked = k .worked }
     where
       go : (q : ℕ) → q < length s → Dec (q < i) → Sifted m s q (length s) (line last) (mark a q (length s)) (mark b q (length s))
       go q l (yes before) =
           subst (Sifted m s q (length s) (line last) (mark a q (length s))) (sym (earlier q before))
-          (not-tested (λ one. omega (arith, within q l one .0)))
+          (not-tested (none q before))
       go q l (no after) = k .sifted q (omega arith) l
 
 -- The numbers of the legs that come later are still what they were.

@@ -38,9 +38,9 @@ pub fn test_cell(
     i: usize,
     last: usize,
     class: u32,
-    len: usize,
+    len: u32,
     alone: bool,
-    reach: usize,
+    reach: u32,
     before: Cell,
 ) -> Cell
     requires { ⌜ ((m : Map) × Set m lines (now work) × Trial m lines (now stretch) i (length (now stretch)) class len
@@ -55,7 +55,6 @@ pub fn test_cell(
     if mark != 1 {
         return before;
     }
-    let size = len as u32;
     let limit = prepare(
         work,
         lines,
@@ -63,13 +62,13 @@ pub fn test_cell(
         i,
         Terminus::Line(last),
         class,
-        size,
+        len,
         reach,
         before.searched,
         before.limit,
     );
     let searched = class + 1;
-    if test_other(work, lines, stretch, i, last, class, size, alone, limit) {
+    if test_other(work, lines, stretch, i, last, class, len, alone, limit) {
         return Cell {
             mark: 1,
             searched,
@@ -92,9 +91,9 @@ pub fn test_own_cell(
     j: usize,
     to: Terminus,
     class: u32,
-    len: usize,
+    len: u32,
     alone: bool,
-    reach: usize,
+    reach: u32,
     before: OwnCell,
 ) -> OwnCell
     requires { ⌜ before .end ≤ i ⌝ }
@@ -115,7 +114,6 @@ pub fn test_own_cell(
             end,
         };
     }
-    let size = len as u32;
     let limit = prepare(
         work,
         lines,
@@ -123,13 +121,13 @@ pub fn test_own_cell(
         i,
         to,
         class,
-        size,
+        len,
         reach,
         before.searched,
         before.limit,
     );
     let searched = class + 1;
-    if test_own(work, lines, stretch, i, j, class, size, alone, limit) {
+    if test_own(work, lines, stretch, i, j, class, len, alone, limit) {
         return OwnCell {
             mark: 1,
             searched,
@@ -137,7 +135,7 @@ pub fn test_own_cell(
             end,
         };
     }
-    let end = end_after(work, lines, stretch, i, j, class, size, limit, end);
+    let end = end_after(work, lines, stretch, i, j, class, len, limit, end);
     OwnCell {
         mark: 0,
         searched,

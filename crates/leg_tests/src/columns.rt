@@ -6,6 +6,7 @@ use crate::cells::test_own_cell;
 use buffers::wide;
 use fields::leg::Attributes;
 use legs::attributes::arrives_as;
+use model::limits::GREATEST_LEG_LENGTH;
 use stretches::lines::field_of;
 use stretches::lines::greater;
 use way_lengths::Terminus;
@@ -26,7 +27,7 @@ pub const POSITIONS: usize = 65;
 // The position that a column ends at, and the length of the leg from it.
 pub struct Column {
     pub end: usize,
-    pub length: usize,
+    pub length: u32,
 }
 
 // Gives 0 to each leg to position `j`.
@@ -49,7 +50,7 @@ pub fn test_own_column(
     stretch: &[u32],
     j: usize,
     to: Terminus,
-    reach: usize,
+    reach: u32,
     table: &mut [u8],
 ) -> Column
     requires { ⌜ (0 < j) × (j ≤ length (now stretch)) × (length (now stretch) ≤ 64) × (65 * length (now stretch) ≤ length (now table)) ⌝ }
@@ -62,7 +63,7 @@ pub fn test_own_column(
 {
     clear_column(table, j);
     let mut class: u32 = 0;
-    let mut len: usize = 0;
+    let mut length: u32 = 0;
     let mut cell = OwnCell {
         mark: 0,
         searched: 0,
@@ -73,7 +74,11 @@ pub fn test_own_column(
     while cell.end < i {
         i -= 1;
         class = greater(class, field_of(work, lines, stretch, i, FRC));
-        len += wide(field_of(work, lines, stretch, i, LENGTH));
+        length += field_of(work, lines, stretch, i, LENGTH);
+        // A longer leg is too long as well.
+        if GREATEST_LEG_LENGTH < length {
+            return Column { end: i, length };
+        }
         let alone = table[POSITIONS * i] == 1;
         cell = test_own_cell(
             work,
@@ -83,17 +88,14 @@ pub fn test_own_column(
             j,
             to,
             class,
-            len,
+            length,
             alone,
             reach,
             cell,
         );
         table[POSITIONS * i + j] = cell.mark;
     }
-    Column {
-        end: i,
-        length: len,
-    }
+    Column { end: i, length }
 }
 
 // Tests the legs to the last position by the readings that end with line `last`, another line that arrives as theirs does.
@@ -115,14 +117,18 @@ fn test_last_line(
     let j = stretch.len();
     let end = column.end;
     let mut class: u32 = 0;
-    let mut len: usize = 0;
+    let mut len: u32 = 0;
     let mut searched: u32 = 0;
     let mut limit: u32 = 0;
     let mut i = j;
     while end < i {
         i -= 1;
         class = greater(class, field_of(work, lines, stretch, i, FRC));
-        len += wide(field_of(work, lines, stretch, i, LENGTH));
+        len += field_of(work, lines, stretch, i, LENGTH);
+        // Neither this leg nor a longer one has the number 1.
+        if GREATEST_LEG_LENGTH < len {
+            return;
+        }
         let alone = table[POSITIONS * i] == 1;
         let mark = table[POSITIONS * i + j];
         let cell = test_cell(

@@ -1,5 +1,4 @@
 // A leg of a stretch before any search: whether its length and its differences are a leg's, and the leg as its bytes will say.
-use buffers::wide;
 use fields::coordinate::Difference16;
 use fields::coordinate::LONGITUDE_ADDED;
 use fields::coordinate::difference;
@@ -62,20 +61,13 @@ fn fits(work: &[u32], lines: usize, from: usize, to: usize) -> bool
 }
 
 // The number that a leg has before any first line is tested: 1 where its length is a leg's and its differences fit.
-pub fn first_mark(
-    work: &[u32],
-    lines: usize,
-    stretch: &[u32],
-    i: usize,
-    j: usize,
-    len: usize,
-) -> u32
+pub fn first_mark(work: &[u32], lines: usize, stretch: &[u32], i: usize, j: usize, len: u32) -> u32
     requires { ⌜ Known lines (now stretch) × (i < j) × (j ≤ length (now stretch)) ⌝ }
     requires { ⌜ ((m : Map) × Held (now work) lines m) ⌝ }
     ensures { λ r. ⌜ ((m : Map) → Held (now (work .entry)) lines m → len ≡ total m (slice i j (now (stretch .entry)))
         → Marks (Usual m (slice i j (now (stretch .entry)))) r) ⌝ }
 {
-    if wide(GREATEST_LEG_LENGTH) < len {
+    if GREATEST_LEG_LENGTH < len {
         return 0;
     }
     let from = node_of(work, lines, stretch, i, START);

@@ -42,10 +42,10 @@ fn look_ahead(
     stretch: &[u32],
     i: usize,
     class: u32,
-    len: usize,
-    goal: usize,
-) -> usize
-    requires { ⌜ Known lines (now stretch) × (length (now stretch) ≤ 64) × (i ≤ length (now stretch)) × (len ≤ greatestLegLength) ⌝ }
+    len: u32,
+    goal: u32,
+) -> u32
+    requires { ⌜ Known lines (now stretch) × (i ≤ length (now stretch)) × (goal ≤ greatestLegLength) ⌝ }
     requires { ⌜ ((m : Map) × Held (now work) lines m) ⌝ }
     ensures { λ r. ⌜ len ≤ r ⌝ }
 {
@@ -59,9 +59,23 @@ fn look_ahead(
         if class < field_of(work, lines, stretch, k, FRC) {
             return far;
         }
-        far += wide(field_of(work, lines, stretch, k, LENGTH));
+        far += field_of(work, lines, stretch, k, LENGTH);
     }
     far
+}
+
+// The length to look ahead to from a leg: half as much again or `reach`, the greater of them, and no more than a leg can have.
+fn goal_for(len: u32, reach: u32) -> u32
+    requires { ⌜ len ≤ greatestLegLength ⌝ }
+    ensures { λ r. ⌜ r ≤ greatestLegLength ⌝ }
+{
+    let more = len + len / 2;
+    let goal = if more < reach { reach } else { more };
+    if GREATEST_LEG_LENGTH < goal {
+        GREATEST_LEG_LENGTH
+    } else {
+        goal
+    }
 }
 
 // The limit of a search for the leg from position `i`, of this lowest class and length, and for longer ones. `reach` is a guess of how long
@@ -73,21 +87,18 @@ fn limit_for(
     i: usize,
     class: u32,
     len: u32,
-    reach: usize,
+    reach: u32,
 ) -> u32
-    requires { ⌜ Known lines (now stretch) × (length (now stretch) ≤ 64) × (i ≤ length (now stretch)) × (len ≤ greatestLegLength) ⌝ }
+    requires { ⌜ Known lines (now stretch) × (i ≤ length (now stretch)) × (len ≤ greatestLegLength) ⌝ }
     requires { ⌜ ((m : Map) × Held (now work) lines m) ⌝ }
     ensures { λ r. ⌜ LimitFor (distance len) r ⌝ }
 {
-    let mut goal = wide(len + len / 2);
-    if goal < reach {
-        goal = reach;
-    }
-    let far = look_ahead(work, lines, stretch, i, class, wide(len), goal);
-    if wide(GREATEST_LEG_LENGTH) <= far {
+    let goal = goal_for(len, reach);
+    let far = look_ahead(work, lines, stretch, i, class, len, goal);
+    if GREATEST_LEG_LENGTH <= far {
         return GREATEST_LEG_LENGTH;
     }
-    longest_leg(distance(far as u32))
+    longest_leg(distance(far))
 }
 
 // Searches back from a terminus for the leg from position `i`, of this lowest class and length, unless the last search serves it. Gives the
@@ -100,7 +111,7 @@ pub fn prepare(
     to: Terminus,
     class: u32,
     len: u32,
-    reach: usize,
+    reach: u32,
     searched: u32,
     done: u32,
 ) -> u32

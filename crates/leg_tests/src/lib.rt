@@ -32,7 +32,7 @@ mod leg;
 mod leg_search;
 
 // How long the legs of the first column are guessed to get: 1 km.
-const FIRST_REACH: usize = 10_000;
+const FIRST_REACH: u32 = 10_000;
 
 // Notes at number 65 * i of the table, which is no leg's, whether the line at position `i` is alone.
 fn note_alone(work: &[u32], lines: usize, stretch: &[u32], table: &mut [u8])
@@ -55,9 +55,9 @@ fn test_last_column(
     work: &mut [u32],
     lines: usize,
     stretch: &[u32],
-    reach: usize,
+    reach: u32,
     table: &mut [u8],
-) -> usize
+) -> u32
     requires { ⌜ (0 < length (now stretch)) × (length (now stretch) ≤ 64) × (65 * length (now stretch) ≤ length (now table)) ⌝ }
     requires { ⌜ ((m : Map) × Set m lines (now work) × Connected m (now stretch) × Noted m lines (now stretch) (now table)) ⌝ }
     ensures { λ _. ⌜ ((m : Map) → Set m lines (now (work .entry)) → Connected m (now (stretch .entry))
@@ -85,9 +85,9 @@ fn test_to(
     lines: usize,
     stretch: &[u32],
     j: usize,
-    reach: usize,
+    reach: u32,
     table: &mut [u8],
-) -> usize
+) -> u32
     requires { ⌜ (0 < j) × (j ≤ length (now stretch)) × (length (now stretch) ≤ 64) × (65 * length (now stretch) ≤ length (now table)) ⌝ }
     requires { ⌜ ((m : Map) × Set m lines (now work) × Connected m (now stretch) × Noted m lines (now stretch) (now table)) ⌝ }
     ensures { λ _. ⌜ ((m : Map) → Set m lines (now (work .entry)) → Connected m (now (stretch .entry))

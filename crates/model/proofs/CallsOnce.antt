@@ -1,4 +1,5 @@
 -- A whole call is told by what it is given: its answer, the work area and the buffer after it. A promise that a call is one of the definitions' pins all three.
+-- So "every answer, refusal and buffer stays what it was" (W4) where a program changes and its promise does not.
 use Prim.Native.Nat.{ℕ}
 use mathlib.Core.Path.{_≡_, refl, sym, ap, _∙_}
 use mathlib.Core.Bool.{cond}

@@ -5,3 +5,4 @@ pub mod Queueing
 pub mod Staying
 pub mod Arriving
 pub mod Relaxing
+pub mod Sums

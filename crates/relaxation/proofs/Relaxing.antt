@@ -81,13 +81,13 @@ module _ {q : Task} {n c limit place count end j : ℕ} {w : List ℕ} {going : 
   pub here : lengthTo w l ≡ going .length
   here = ap (lengthTo w) (sym (o .at)) ∙ at-place .found ∙ o .found
 
-  reached : lengthTo w l < far
+  pub reached : lengthTo w l < far
   reached = omega (arith, here, o .found, at-place .reached)
 
   level : (k : ℕ) → k < n → lengthTo w k < far → lengthTo w k ≤ going .length + lineAt m k .length
   level k k< z = omega (arith, o .found, g .level k place k< z (omega arith) (o .inside))
 
-  length-at : getD w (linePlace j + lineLength) 0 ≡ lineAt m j .length
+  pub length-at : getD w (linePlace j + lineLength) 0 ≡ lineAt m j .length
   length-at = g .held .line-held j 2 j< (omega arith)
 
   class-at : getD w (linePlace j + lineFrc) 0 ≡ lineAt m j .frc
@@ -100,22 +100,22 @@ module _ {q : Task} {n c limit place count end j : ℕ} {w : List ℕ} {going : 
   pub key-behind : {x : ℕ} → x ≡ going .length + getD w (linePlace j + lineLength) 0 → queued w place ≤ keyOf x j
   key-behind e = let some = line-ok (g .held) j< .some in omega (arith, length-at, o .found)
 
-  -- Line `j` is marked by line `l`, which has banned turns: so it cannot follow.
-  pub marked-apart : (0 < going .chain) × (marked w j ≡ l) → Follows m l j → ⊥
+  -- Line `j` is marked by line `l`: so it cannot follow.
+  pub marked-apart : marked w j ≡ l → Follows m l j → ⊥
   marked-apart is f =
       ⊎-elim
       (λ own.
-      let e : l ≡ j = sym (is .1) ∙ own in
+      let e : l ≡ j = sym is ∙ own in
       line-ok (g .held) j< .differ (meets f ∙ ap (λ (k : ℕ). lineAt m k .end) e))
-      (λ banned. barred (rw (is .1) at banned) f)
+      (λ banned. barred (rw is at banned) f)
       (g .chained .marks j j<)
 
   -- It is not: so the turn is not banned.
-  pub unmarked : ((0 < going .chain) × (marked w j ≡ l) → ⊥) → turnAmong (m .bans) l j ≡ false
+  pub unmarked : (marked w j ≡ l → ⊥) → turnAmong (m .bans) l j ≡ false
   unmarked d =
       ⊎-elim
       (λ none. walk-end (g .held .bans-held) l j (going .chain) none (walk-start (g .held .bans-held) l j (going .chain) (o .chain)))
-      (λ some. ⊎-elim (λ banned. absurd (d (some, o .told some j j< banned))) (λ free. free) (true-or (turnAmong (m .bans) l j)))
+      (λ some. ⊎-elim (λ banned. absurd (d (o .told some j j< banned))) (λ free. free) (true-or (turnAmong (m .bans) l j)))
       (le-or-lt (going .chain) 0)
 
   relaxed-none : (Follows m l j → Counted m c limit (going .note) l j w) → Relaxed q n c limit place going j w w count end

@@ -1,5 +1,4 @@
 // How a search takes a line into account at one line that can follow it: that is reached, or a tie is recorded there.
-use buffers::wide;
 use search_cells::cells::FAR;
 use search_cells::cells::MARK_WEIGHT;
 use search_cells::cells::NOTE_WEIGHT;
@@ -89,15 +88,13 @@ fn reach(
     }
 }
 
-// Whether line `j` is marked by the line that goes on, if that has banned turns.
-fn is_barred(work: &[u32], going: Going, j: usize) -> bool
-    requires { ⌜ (j < greatestLineCount) × (going .line < greatestLineCount) × (workLength ≤ length (now work)) ⌝ }
-    ensures { λ r. ⌜ Decides ((0 < going .chain) × (marked (now (work .entry)) j ≡ going .line)) r ⌝ }
+// Whether line `j` is marked by line `l`. Then it cannot follow it, whether or not `l` has banned turns: a mark is a line from which the turn is banned, or
+// line `j` itself.
+fn is_barred(work: &[u32], l: usize, j: usize) -> bool
+    requires { ⌜ (j < greatestLineCount) × (l < greatestLineCount) × (workLength ≤ length (now work)) ⌝ }
+    ensures { λ r. ⌜ Decides (marked (now (work .entry)) j ≡ l) r ⌝ }
 {
-    if going.chain == 0 {
-        return false;
-    }
-    if work[NEXT + j] / MARK_WEIGHT != going.line as u32 {
+    if work[NEXT + j] / MARK_WEIGHT != l as u32 {
         return false;
     }
     true
@@ -120,12 +117,12 @@ pub fn relax(
         → Goes (q .map) lines place (list .end) (now (work .entry)) going → lineAt (q .map) j .start ≡ lineAt (q .map) (going .line) .end
         → Relaxed q lines class limit place going j (now (work .entry)) (now (work .exit)) (r .count) (r .end)) ⌝ }
 {
-    let length = wide(going.length) + wide(field(work, j, LENGTH));
+    let length = going.length + field(work, j, LENGTH);
     let found = length_to(work, j);
-    if wide(found) < length {
+    if found < length {
         return list;
     }
-    if is_barred(work, going, j) {
+    if is_barred(work, going.line, j) {
         return list;
     }
     // A length that is found is not more than this one: so they are equal.
@@ -136,8 +133,8 @@ pub fn relax(
     if class < field(work, j, FRC) {
         return list;
     }
-    if wide(limit) < length {
+    if limit < length {
         return list;
     }
-    reach(work, lines, j, going.note, length as u32, list, limit)
+    reach(work, lines, j, going.note, length, list, limit)
 }

@@ -11,3 +11,4 @@ pub mod Inserting
 pub mod Sending
 pub mod Listing
 pub mod Nearness
+pub mod Sums

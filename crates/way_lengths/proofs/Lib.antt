@@ -1,3 +1,4 @@
--- Laws of lines that can follow, and of ways.
+-- Laws of lines that can follow, of ways, and of the sums of their lengths.
 pub mod Follows
 pub mod Plain
+pub mod Sums

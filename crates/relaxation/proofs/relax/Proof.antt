@@ -5,37 +5,23 @@ use Rattle.search_cells.specs.Area.{far, lengthTo}
 use Rattle.way_lengths.proofs.Follows.{follow}
 use Rattle.search_cells.proofs.Holding.{few}
 use Rattle.search_cells.proofs.Reached.{room-left}
-use Rattle.relaxation.proofs.Relaxing.{going-in, key-behind, notable-low, marked-apart, unmarked, apart, not-more, nearer, tied, shut, beyond, reaches}
+use Rattle.relaxation.proofs.Relaxing.{length-at, going-in, key-behind, notable-low, marked-apart, unmarked, apart, not-more, nearer, tied, shut, beyond, reaches}
+use Rattle.relaxation.proofs.Sums.{no-overflow}
 use native.Mathlib.Omega.{arith}
 use borrow.Author.Needs.{needs}
 use Rattle.relaxation.proofs.relax.Statement.{statement}
 use Rattle.relaxation.proofs.relax.Tie as tie
-use Rattle.relaxation.proofs.relax.Reads as reads
-use Rattle.relaxation.proofs.relax.Lts as lts
-use Rattle.relaxation.proofs.is_barred.Reads as is-barred-reads
-use Rattle.buffers.proofs.wide.Reads as wide-reads
-use Rattle.search_cells.proofs.cells.length_to.Reads as length-to-reads
-use Rattle.relaxation.proofs.reach.Reads as reach-reads
-use Rattle.relaxation.proofs.record_tie.Reads as record-tie-reads
-use Rattle.work_area.proofs.field.Reads as field-reads
-
-wide-requires : tie.Need-wide-requires
-wide-requires c κs = search needs
 
 field-requires : tie.Need-field-requires
 field-requires c κs = search needs
 
-wide-requires-2 : tie.Need-wide-requires-2
-wide-requires-2 c κs = search needs
-
 add-length : tie.Need-add-length
-add-length c = search needs
+add-length c =
+    let p = c .before .before .before .before .pre in
+    omega (arith, c .before .field .ensures, length-at (p .1 .2) (p .1 .3) (p .0), no-overflow (p .1 .2) (p .1 .3) (p .0))
 
 length-to-requires : tie.Need-length-to-requires
 length-to-requires c κs = search needs
-
-wide-requires-3 : tie.Need-wide-requires-3
-wide-requires-3 c κs = search needs
 
 same-length : tie.Need-same-length
 same-length c = search needs
@@ -43,18 +29,16 @@ same-length c = search needs
 returns : tie.Need-returns
 returns c =
     λ q place g o meets.
-    let x = c .before .before .before .before .before .before .before .wide .ensures .0 in
-    let y = c .before .before .before .before .wide2 .ensures .0 in
-    let z = c .before .before .before .before .before .field .ensures in
-    let e = c .before .before .length-to .ensures in
-    let t = c .before .wide3 .ensures .0 in
+    let z = c .before .before .before .before .field .ensures in
+    let e = c .before .length-to .ensures in
     let u = c .if1 .taken in
-    let j = c .before .before .before .before .before .before .before .before .before .pre .0 in
-    ⊎-elim (λ none. beyond g o j (omega arith) (let s = g .small in omega arith)) (λ some. nearer g o j (omega arith) (omega arith)) (le-or-lt far (lengthTo (c .before .before .before .before .before .before .before .before .before .args .work .now) (c .before .before .before .before .before .before .before .before .before .args .j)))
+    let j = c .before .before .before .before .before .before .before .pre .0 in
+    ⊎-elim (λ none. beyond g o j (omega arith) (let s = g .small in omega arith)) (λ some. nearer g o j (omega arith) (omega arith))
+    (le-or-lt far (lengthTo (c .before .before .before .before .before .before .before .args .work .now) (c .before .before .before .before .before .before .before .args .j)))
 
 is-barred-requires : tie.Need-is-barred-requires
 is-barred-requires c κs =
-    let p = c .before .before .before .before .before .before .before .before .before .before .pre in
+    let p = c .before .before .before .before .before .before .before .before .pre in
     let g = p .1 .2 in
     let n≤ = few (g .held) in
     (omega arith, omega (arith, going-in g (p .1 .3) (p .0)), g .held .full)
@@ -65,11 +49,12 @@ same-length-2 c = search needs
 returns-2 : tie.Need-returns-2
 returns-2 c =
     λ q place g o meets.
-    apart g o (c .before .before .before .before .before .before .before .before .before .before .before .before .pre .0) (marked-apart g o (c .before .before .before .before .before .before .before .before .before .before .before .before .pre .0) (rw (c .if2 .taken) at (c .before .is-barred .ensures)))
+    let j = c .before .before .before .before .before .before .before .before .before .before .pre .0 in
+    apart g o j (marked-apart g o j (rw (c .if2 .taken) at (c .before .is-barred .ensures)))
 
 record-tie-requires : tie.Need-record-tie-requires
 record-tie-requires c κs =
-    let p = c .before .before .before .before .before .before .before .before .before .before .before .before .before .before .pre in
+    let p = c .before .before .before .before .before .before .before .before .before .before .before .before .pre in
     let g = p .1 .2 in
     let o = p .1 .3 in
     let h = g .held in
@@ -83,15 +68,14 @@ same-length-3 c = search needs
 returns-3 : tie.Need-returns-3
 returns-3 c =
     λ q place g o meets.
-    let x = c .before .before .before .before .before .before .before .before .before .before .before .before .before .before .before .wide .ensures .0 in
-    let y = c .before .before .before .before .before .before .before .before .before .before .before .before .wide2 .ensures .0 in
-    let z = c .before .before .before .before .before .before .before .before .before .before .before .before .before .field .ensures in
-    let e = c .before .before .before .before .before .before .before .before .before .before .length-to .ensures in
-    let t = c .before .before .before .before .before .before .before .before .before .wide3 .ensures .0 in
+    let z = c .before .before .before .before .before .before .before .before .before .before .before .before .field .ensures in
+    let e = c .before .before .before .before .before .before .before .before .before .length-to .ensures in
     let u = c .before .before .before .before .before .before .before .before .if1 .left in
     let i = c .before .before .before .before .if3 .taken in
-    let j = c .before .before .before .before .before .before .before .before .before .before .before .before .before .before .before .before .before .pre .0 in
-    tied g o j (follow (let h = g .held .line-count in let j = c .before .before .before .before .before .before .before .before .before .before .before .before .before .before .before .before .before .pre .0 in omega arith) meets (unmarked g o j (rw (c .before .before .before .before .before .if2 .left) at (c .before .before .before .before .before .before .is-barred .ensures)))) (omega arith) (omega (arith, not-more g o j (omega arith))) (c .before .before .record-tie .ensures)
+    let j = c .before .before .before .before .before .before .before .before .before .before .before .before .before .before .before .pre .0 in
+    let free = unmarked g o j (rw (c .before .before .before .before .before .if2 .left) at (c .before .before .before .before .before .before .is-barred .ensures)) in
+    tied g o j (follow (let h = g .held .line-count in omega arith) meets free) (omega arith) (omega (arith, not-more g o j (omega arith)))
+    (c .before .before .record-tie .ensures)
 
 field-requires-2 : tie.Need-field-requires-2
 field-requires-2 c κs = search needs
@@ -102,14 +86,11 @@ same-length-4 c = search needs
 returns-4 : tie.Need-returns-4
 returns-4 c =
     λ q place g o meets.
-    let e = c .before .before .before .before .before .before .before .before .before .length-to .ensures in
+    let e = c .before .before .before .before .before .before .before .before .length-to .ensures in
     let z = c .before .field2 .ensures in
     let u = c .before .before .before .if3 .left in
     let t = c .if4 .taken in
-    shut g o (c .before .before .before .before .before .before .before .before .before .before .before .before .before .before .before .before .pre .0) (omega arith) (omega arith)
-
-wide-requires-4 : tie.Need-wide-requires-4
-wide-requires-4 c κs = search needs
+    shut g o (c .before .before .before .before .before .before .before .before .before .before .before .before .before .before .pre .0) (omega arith) (omega arith)
 
 same-length-5 : tie.Need-same-length-5
 same-length-5 c = search needs
@@ -117,36 +98,26 @@ same-length-5 c = search needs
 returns-5 : tie.Need-returns-5
 returns-5 c =
     λ q place g o meets.
-    let x = c .before .before .before .before .before .before .before .before .before .before .before .before .before .before .before .before .wide .ensures .0 in
-    let y = c .before .before .before .before .before .before .before .before .before .before .before .before .before .wide2 .ensures .0 in
-    let z = c .before .before .before .before .before .before .before .before .before .before .before .before .before .before .field .ensures in
-    let e = c .before .before .before .before .before .before .before .before .before .before .before .length-to .ensures in
-    let t = c .before .before .before .before .before .before .before .before .before .before .wide3 .ensures .0 in
-    let u = c .before .before .before .before .before .if3 .left in
-    let s = c .before .wide4 .ensures .0 in
+    let z = c .before .before .before .before .before .before .before .before .before .before .before .before .field .ensures in
+    let e = c .before .before .before .before .before .before .before .before .before .length-to .ensures in
+    let u = c .before .before .before .before .if3 .left in
     let i = c .if5 .taken in
-    beyond g o (c .before .before .before .before .before .before .before .before .before .before .before .before .before .before .before .before .before .before .pre .0) (omega arith) (omega arith)
-
-cast-reach : tie.Need-cast-reach
-cast-reach c = search needs
+    beyond g o (c .before .before .before .before .before .before .before .before .before .before .before .before .before .before .before .pre .0) (omega arith) (omega arith)
 
 reach-requires : tie.Need-reach-requires
 reach-requires c κs =
-    let p = c .before .before .before .before .before .before .before .before .before .before .before .before .before .before .before .before .before .before .before .pre in
+    let p = c .before .before .before .before .before .before .before .before .before .before .before .before .before .before .before .before .pre in
     let g = p .1 .2 in
     let o = p .1 .3 in
     let n≤ = few (g .held) in
     let l = going-in g o (p .0) in
-    let x = c .before .before .before .before .before .before .before .before .before .before .before .before .before .before .before .before .before .wide .ensures .0 in
-    let y = c .before .before .before .before .before .before .before .before .before .before .before .before .before .before .wide2 .ensures .0 in
-    let z = c .before .before .before .before .before .before .before .before .before .before .before .before .before .before .before .field .ensures in
-    let e = c .before .before .before .before .before .before .before .before .before .before .before .before .length-to .ensures in
-    let t = c .before .before .before .before .before .before .before .before .before .before .before .wide3 .ensures .0 in
-    let u = c .before .before .before .before .before .before .if3 .left in
-    let s = c .before .before .wide4 .ensures .0 in
+    let z = c .before .before .before .before .before .before .before .before .before .before .before .before .before .field .ensures in
+    let e = c .before .before .before .before .before .before .before .before .before .before .length-to .ensures in
+    let u = c .before .before .before .before .before .if3 .left in
     let i = c .before .if5 .left in
     let small = g .small in
-    ((p .0, notable-low (omega arith) (o .notable), omega arith, room-left (g .listing) (p .0) (omega arith), g .room), ((_, g .held), (_, o .inside, key-behind g o (p .0) (omega arith))))
+    let room = room-left (g .listing) (p .0) (omega arith) in
+    ((p .0, notable-low (omega arith) (o .notable), omega arith, room, g .room), ((_, g .held), (_, o .inside, key-behind g o (p .0) (omega arith))))
 
 same-length-6 : tie.Need-same-length-6
 same-length-6 c = search needs
@@ -154,30 +125,25 @@ same-length-6 c = search needs
 returns-6 : tie.Need-returns-6
 returns-6 c =
     λ q place g o meets.
-    let j = c .before .before .before .before .before .before .before .before .before .before .before .before .before .before .before .before .before .before .before .before .before .before .pre .0 in
-    let x = c .before .before .before .before .before .before .before .before .before .before .before .before .before .before .before .before .before .before .before .before .wide .ensures .0 in
-    let y = c .before .before .before .before .before .before .before .before .before .before .before .before .before .before .before .before .before .wide2 .ensures .0 in
-    let z = c .before .before .before .before .before .before .before .before .before .before .before .before .before .before .before .before .before .before .field .ensures in
-    let e = c .before .before .before .before .before .before .before .before .before .before .before .before .before .before .before .length-to .ensures in
-    let t = c .before .before .before .before .before .before .before .before .before .before .before .before .before .before .wide3 .ensures .0 in
-    let u = c .before .before .before .before .before .before .before .before .before .if3 .left in
-    let ok = c .before .before .before .before .before .before .before .field2 .ensures in
-    let d = c .before .before .before .before .before .before .if4 .left in
-    let s = c .before .before .before .before .before .wide4 .ensures .0 in
+    let j = c .before .before .before .before .before .before .before .before .before .before .before .before .before .before .before .before .before .before .before .pre .0 in
+    let z = c .before .before .before .before .before .before .before .before .before .before .before .before .before .before .before .before .field .ensures in
+    let e = c .before .before .before .before .before .before .before .before .before .before .before .before .before .length-to .ensures in
+    let u = c .before .before .before .before .before .before .before .before .if3 .left in
+    let ok = c .before .before .before .before .before .before .field2 .ensures in
+    let d = c .before .before .before .before .before .if4 .left in
     let i = c .before .before .before .before .if5 .left in
-    reaches g o j (follow (let h = g .held .line-count in let j = c .before .before .before .before .before .before .before .before .before .before .before .before .before .before .before .before .before .before .before .before .before .before .pre .0 in omega arith) meets (unmarked g o j (rw (c .before .before .before .before .before .before .before .before .before .before .if2 .left) at (c .before .before .before .before .before .before .before .before .before .before .before .is-barred .ensures)))) (omega arith) (omega arith) (omega arith) (omega arith)
+    let free = unmarked g o j (rw (c .before .before .before .before .before .before .before .before .before .if2 .left) at (c .before .before .before .before .before .before .before .before .before .before .is-barred .ensures)) in
+    let follows = follow (let h = g .held .line-count in omega arith) meets free in
+    reaches g o j follows (omega arith) (omega arith) (omega arith) (omega arith)
     (c .before .before .reach .ensures _ (g .held) place (o .inside) (key-behind g o j (omega arith)))
 
 pub relax-spec : {M : Type 1} → statement M
 relax-spec =
     tie.close
     (tie.spec
-    wide-requires
     field-requires
-    wide-requires-2
     add-length
     length-to-requires
-    wide-requires-3
     same-length
     returns
     is-barred-requires
@@ -189,10 +155,8 @@ relax-spec =
     field-requires-2
     same-length-4
     returns-4
-    wide-requires-4
     same-length-5
     returns-5
-    cast-reach
     reach-requires
     same-length-6
     returns-6)

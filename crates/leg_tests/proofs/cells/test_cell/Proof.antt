@@ -9,9 +9,6 @@ use Rattle.leg_tests.proofs.cells.test_cell.Tie as tie
 returns : tie.Need-returns
 returns c m set t alone o within done = record { sifted = not-tested (c .if1 .taken); done = done; worked = record { set = set; kept = kept-none } }
 
-cast-size : tie.Need-cast-size
-cast-size c = let p = c .before .before .before .pre in omega (arith, p .5 (c .if1 .left))
-
 prepare-requires : tie.Need-prepare-requires
 prepare-requires c κs =
     let start = c .before .before .before .before in
@@ -51,7 +48,6 @@ test-cell-spec =
     tie.close
     (tie.spec
     returns
-    cast-size
     prepare-requires
     add-searched
     test-other-requires

@@ -39,9 +39,6 @@ returns c = (
   },
 )
 
-cast-size : tie.Need-cast-size
-cast-size c = let p = c .before .before .before .before .before .pre .1 in omega (arith, short c (p .0) (p .1) (p .2))
-
 prepare-requires : tie.Need-prepare-requires
 prepare-requires c κs = let p = c .before .before .before .before .before .before .pre .1 in
     let x = p .2 .measured in (
@@ -121,7 +118,6 @@ test-own-cell-spec =
     first-mark-requires
     same-length
     returns
-    cast-size
     prepare-requires
     add-searched
     test-own-requires

@@ -1,10 +1,12 @@
--- `test_last_line` meets its contract: the legs from position `i` on are tested.
+-- `test_last_line` meets its contract: the legs from position `i` on are tested, and are no longer than a leg can be.
+use Rattle.leg_tests.proofs.Sums.{no-overflow, longer}
 use Rattle.leg_tests.proofs.Sifting.{column-none, column-store, noted-kept, Sifting, sifting-start, sifting-on, sifting-end, earlier-set}
 use Rattle.leg_tests.proofs.Trials.{measured-back, all-known, trial-of}
 use Rattle.leg_tests.specs.LegTests.{mark, Marks, Alone, Noted, Other, ShortLegs, Measured, ColumnKept}
 use Rattle.search_cells.specs.Area.{Set}
 use Rattle.model.specs.Lines.{Connected}
 use Rattle.model.specs.Map.{Map}
+use Rattle.model.specs.Reading.{greatestLegLength}
 use lib.ListN.{length, getD, length-set}
 use mathlib.Core.Path.{_≡_, refl, sym, _∙_}
 use Prim.Native.Nat.{ℕ, _+_, _*_, _-_, _≤_, _<_}
@@ -16,7 +18,7 @@ use Rattle.leg_tests.proofs.columns.test_last_line.Tie as tie
 abbrev Inv-loop : tie.InvT-loop
 Inv-loop work₀ lines stretch last column table₀ j end class₀ len₀ searched₀ limit₀ i₀ work table class len searched limit i =
     (i ≤ length stretch) × (column .end ≤ i) × (length work ≡ length work₀) × (length table ≡ length table₀) ×
-    (len + i * 4294967295 ≤ length stretch * 4294967295) × ColumnKept (length stretch) table₀ table ×
+    (len ≤ greatestLegLength) × ColumnKept (length stretch) table₀ table ×
     ((k : ℕ) → k < i → mark table k (length stretch) ≡ mark table₀ k (length stretch)) ×
     ((m : Map) → Set m lines work₀ → Connected m stretch → Other m lines stretch last → Noted m lines stretch table₀ →
     ShortLegs m stretch (column .end) table₀ → Sifting m lines stretch last table₀ table work₀ work class len searched limit i)
@@ -25,14 +27,14 @@ abbrev μ-loop : tie.MeasureT-loop
 μ-loop work₀ lines stretch last column table₀ j end class₀ len₀ searched₀ limit₀ i₀ work table class len searched limit i = i
 
 -- The leg from the next position, and whether its first line is alone.
-next-leg : (c : tie.After-wide Inv-loop μ-loop) →
-    let a = c .before .before .before .before .before .before .before .before .before .before .before .args in
-    let l = c .before .before .before .before .before .before .before .loop in
+next-leg : (c : tie.After-field-of2 Inv-loop μ-loop) →
+    let a = c .before .before .before .before .before .before .before .before .before .before .args in
+    let l = c .before .before .before .before .before .before .loop in
     (m : Map) → Set m (a .lines) (a .work .now) → Connected m (a .stretch .now) → Other m (a .lines) (a .stretch .now) (a .last) →
     Noted m (a .lines) (a .stretch .now) (a .table .now) → ShortLegs m (a .stretch .now) (a .column .end) (a .table .now) →
-    Measured m (a .stretch .now) (l .i - 1) (length (a .stretch .now)) (c .before .before .before .greater .result) (l .len + c .wide .result)
+    Measured m (a .stretch .now) (l .i - 1) (length (a .stretch .now)) (c .before .before .greater .result) (l .len + c .field-of2 .result)
 next-leg c m set joint o noted short =
-    let at-greater = c .before .before .before in
+    let at-greater = c .before .before in
     let at-field-of = at-greater .before in
     let at-loop-test = at-field-of .before .before in
     let at-loop = at-loop-test .before in
@@ -40,8 +42,7 @@ next-leg c m set joint o noted short =
     let k = l .inv .7 m set joint o noted short in
     let held = k .worked .set .held in
     measured-back (omega (arith, at-loop-test .loop-test .taken)) (l .inv .0) (omega arith) (k .classes) (k .sum)
-    (at-greater .greater .ensures) (at-field-of .field-of .ensures m held) refl
-    (c .wide .ensures .0 ∙ c .before .field-of2 .ensures m held)
+    (at-greater .greater .ensures) (at-field-of .field-of .ensures m held) refl (c .field-of2 .ensures m held)
 
 alone-now : (c : tie.After-field-of-arg Inv-loop μ-loop) →
     let a = c .before .before .before .before .before .before .args in
@@ -76,15 +77,37 @@ field-of-requires-2 c κs = let p = c .before .before .before .before .before .b
     let k = l .inv .7 (p .0) (p .1) (p .2) (p .3) (p .4) (p .5) in
     ((all-known (p .1) (p .2), omega (arith, c .before .before .before .before .loop-test .taken, l .inv .0), omega arith), (p .0, k .worked .set .held))
 
-wide-requires : tie.Need-wide-requires Inv-loop μ-loop
-wide-requires c κs = search needs
-
 add-len : tie.Need-add-len Inv-loop μ-loop
 add-len c =
-    let at-loop-test = c .before .before .before .before .before .before in
+    let at-loop-test = c .before .before .before .before .before in
     let at-loop = at-loop-test .before in
     let start = at-loop .before .before .before .before in
-    omega (arith, start .pre .0, at-loop .loop .inv .0, at-loop .loop .inv .4, at-loop-test .loop-test .taken, c .wide .ensures .1)
+    let p = start .pre .1 in
+    let l = at-loop .loop in
+    let k = l .inv .7 (p .0) (p .1) (p .2) (p .3) (p .4) (p .5) in
+    let held = k .worked .set .held in
+    omega (
+      arith,
+      c .field-of2 .ensures (p .0) held,
+      no-overflow (start .args .stretch .now) (l .i - 1) (l .len) held (all-known (p .1) (p .2)) (omega (arith, at-loop-test .loop-test .taken, l .inv .0)) (l .inv .4),
+    )
+
+same-length : tie.Need-same-length Inv-loop μ-loop
+same-length c = c .before .before .before .before .before .before .before .loop .inv .2
+
+same-length-2 : tie.Need-same-length-2 Inv-loop μ-loop
+same-length-2 c = c .before .before .before .before .before .before .before .loop .inv .3
+
+-- The leg is too long, and so are those from earlier positions: their numbers are not 1.
+returns : tie.Need-returns Inv-loop μ-loop
+returns c m set joint o noted short =
+    let at-loop = c .before .before .before .before .before .before .before in
+    let a = at-loop .before .before .before .before .args in
+    let l = at-loop .loop in
+    let x = next-leg (c .before) m set joint o noted short in
+    let long = longer m (a .stretch .now) (l .i - 1) (length (a .stretch .now)) (omega (arith, x .ordered)) (omega arith) (omega (arith, x .sum, c .if1 .taken)) in
+    sifting-end (λ k h one. omega (arith, long k (omega arith), short k (omega (arith, l .inv .0)) one .1)) (l .inv .5) (l .inv .6)
+    (l .inv .7 m set joint o noted short)
 
 mul-alone : tie.Need-mul-alone Inv-loop μ-loop
 mul-alone c =
@@ -123,8 +146,8 @@ slice-read-mark c =
 
 test-cell-requires : tie.Need-test-cell-requires Inv-loop μ-loop
 test-cell-requires c κs =
-    let at-wide = c .before .before .before in
-    let at-field-of-arg = at-wide .before .before .before .before .before in
+    let at-field-of2 = c .before .before .before .before in
+    let at-field-of-arg = at-field-of2 .before .before .before .before in
     let at-loop-test = at-field-of-arg .before in
     let at-loop = at-loop-test .before in
     let start = at-loop .before .before .before .before in
@@ -132,7 +155,7 @@ test-cell-requires c κs =
     let q = p .1 in
     let l = at-loop .loop in
     let k = l .inv .7 (q .0) (q .1) (q .2) (q .3) (q .4) (q .5) in
-    let x = next-leg at-wide (q .0) (q .1) (q .2) (q .3) (q .4) (q .5) in (
+    let x = next-leg at-field-of2 (q .0) (q .1) (q .2) (q .3) (q .4) (q .5) in (
       q .0,
       k .worked .set,
       trial-of (q .1) (q .2) (p .0 .0) x,
@@ -168,8 +191,9 @@ loop-less c = omega (arith, c .before .before .before .before .before .before .b
 
 loop-again : tie.Need-loop-again Inv-loop μ-loop
 loop-again c =
-    let at-wide = c .before .before .before .before .before .before in
-    let at-field-of-arg = at-wide .before .before .before .before .before in
+    let at-if1 = c .before .before .before .before .before .before in
+    let at-field-of2 = at-if1 .before in
+    let at-field-of-arg = at-field-of2 .before .before .before .before in
     let at-loop-test = at-field-of-arg .before in
     let at-loop = at-loop-test .before in
     let start = at-loop .before .before .before .before in
@@ -182,27 +206,29 @@ loop-again c =
       omega (arith, test),
       r .kept .0 ∙ l .inv .2,
       length-set (l .table) _ _ ∙ l .inv .3,
-      omega (arith, l .inv .4, at-wide .wide .ensures .1, test),
+      omega (arith, at-if1 .if1 .left),
       column-store (l .i - 1) _ (omega (arith, test, l .inv .0)) (p .0 .0) (l .inv .5),
       earlier-set (a .table .now) (l .table) (l .i) (length (a .stretch .now)) _ (omega (arith, test)) (l .inv .6),
       λ m set joint o noted short.
           let k = l .inv .7 m set joint o noted short in
-          let x = next-leg at-wide m set joint o noted short in
+          let x = next-leg at-field-of2 m set joint o noted short in
           let same = l .inv .6 (l .i - 1) (omega (arith, test)) in
           sifting-on (r .result) k (omega (arith, test)) (omega (arith, p .0, test, l .inv .0, l .inv .3)) x same
           (r .ensures m (k .worked .set) (trial-of set joint (p .0 .0) x) (alone-now at-field-of-arg m noted) o
           (λ one. omega (arith, x .sum, short (l .i - 1) (x .ordered) (sym same ∙ one) .1)) (k .done)),
     )
 
-same-length : tie.Need-same-length Inv-loop μ-loop
-same-length c = c .before .loop .inv .2
+same-length-3 : tie.Need-same-length-3 Inv-loop μ-loop
+same-length-3 c = c .before .loop .inv .2
 
-same-length-2 : tie.Need-same-length-2 Inv-loop μ-loop
-same-length-2 c = c .before .loop .inv .3
+same-length-4 : tie.Need-same-length-4 Inv-loop μ-loop
+same-length-4 c = c .before .loop .inv .3
 
-returns : tie.Need-returns Inv-loop μ-loop
-returns c m set joint o noted short = let l = c .before .loop in
-    sifting-end (omega (arith, c .loop-test .left)) (l .inv .5) (l .inv .6) short (l .inv .7 m set joint o noted short)
+returns-2 : tie.Need-returns-2 Inv-loop μ-loop
+returns-2 c m set joint o noted short =
+    let l = c .before .loop in
+    sifting-end (λ k h one. omega (arith, c .loop-test .left, short k (omega (arith, l .inv .0)) one .0)) (l .inv .5) (l .inv .6)
+    (l .inv .7 m set joint o noted short)
 
 pub test-last-line-spec : {M : Type 1} → statement M
 test-last-line-spec =
@@ -215,8 +241,10 @@ test-last-line-spec =
     field-of-requires
     greater-requires
     field-of-requires-2
-    wide-requires
     add-len
+    same-length
+    same-length-2
+    returns
     mul-alone
     slice-read-alone
     mul-mark
@@ -228,6 +256,6 @@ test-last-line-spec =
     slice-write-table
     loop-less
     loop-again
-    same-length
-    same-length-2
-    returns)
+    same-length-3
+    same-length-4
+    returns-2)

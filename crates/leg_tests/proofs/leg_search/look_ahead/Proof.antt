@@ -1,19 +1,20 @@
--- `look_ahead` meets its contract: a length only grows.
+-- `look_ahead` meets its contract: a length only grows, and one that is summed up further is no longer than a leg can be.
 use lib.ListN.{length}
-use Prim.Native.Nat.{_+_, _*_, _≤_}
+use Prim.Native.Nat.{_-_, _≤_}
+use Rattle.leg_tests.proofs.Sums.{no-overflow}
 use native.Mathlib.Omega.{arith}
 use borrow.Author.Needs.{needs}
 use Rattle.leg_tests.proofs.leg_search.look_ahead.Statement.{statement}
 use Rattle.leg_tests.proofs.leg_search.look_ahead.Tie as tie
 
 abbrev Inv-loop : tie.InvT-loop
-Inv-loop work lines stretch i class len goal far₀ k₀ far k = (k ≤ length stretch) × (len ≤ far) × (far + k * 4294967295 ≤ len + length stretch * 4294967295)
+Inv-loop work lines stretch i class len goal far₀ k₀ far k = (k ≤ length stretch) × (len ≤ far)
 
 abbrev μ-loop : tie.MeasureT-loop
 μ-loop work lines stretch i class len goal far₀ k₀ far k = k
 
 loop-holds : tie.Need-loop-holds Inv-loop μ-loop
-loop-holds c = (omega (arith, c .before .before .pre .0 .2), omega arith, omega (arith, c .before .before .pre .0 .2))
+loop-holds c = (omega (arith, c .before .before .pre .0 .1), omega arith)
 
 returns : tie.Need-returns Inv-loop μ-loop
 returns c = c .before .before .loop .inv .1
@@ -36,24 +37,28 @@ field-of-requires-2 c κs =
     let start = at-loop .before .before .before in
     let p = start .pre in ((p .0 .0, omega (arith, at-loop-test .loop-test .taken, at-loop .loop .inv .0), omega arith), p .1)
 
-wide-requires : tie.Need-wide-requires Inv-loop μ-loop
-wide-requires c κs = search needs
-
 add-far : tie.Need-add-far Inv-loop μ-loop
 add-far c =
-    let at-loop-test = c .before .before .before .before .before in
+    let at-if1 = c .before .before .before in
+    let at-loop-test = at-if1 .before in
     let at-loop = at-loop-test .before in
     let start = at-loop .before .before .before in
-    let p = start .pre .0 in omega (arith, p .1, p .3, at-loop .loop .inv, at-loop-test .loop-test .taken, c .wide .ensures .1)
+    let p = start .pre in
+    let l = at-loop .loop in
+    omega (
+      arith,
+      c .field-of2 .ensures (p .1 .0) (p .1 .1),
+      no-overflow (start .args .stretch .now) (l .k - 1) (l .far) (p .1 .1) (p .0 .0) (omega (arith, at-loop-test .loop-test .taken, l .inv .0))
+          (omega (arith, at-if1 .if1 .left, p .0 .2)),
+    )
 
 loop-less : tie.Need-loop-less Inv-loop μ-loop
-loop-less c = omega (arith, c .before .before .before .before .before .loop-test .taken)
+loop-less c = omega (arith, c .before .before .before .before .loop-test .taken)
 
 loop-again : tie.Need-loop-again Inv-loop μ-loop
 loop-again c =
-    let at-loop-test = c .before .before .before .before .before in
-    let at-loop = at-loop-test .before in
-    let l = at-loop .loop in (omega (arith, l .inv .0), omega (arith, l .inv .1), omega (arith, l .inv .2, at-loop-test .loop-test .taken, c .wide .ensures .1))
+    let at-loop = c .before .before .before .before .before in
+    (omega (arith, at-loop .loop .inv .0), omega (arith, at-loop .loop .inv .1))
 
 returns-3 : tie.Need-returns-3 Inv-loop μ-loop
 returns-3 c = c .before .loop .inv .1
@@ -70,7 +75,6 @@ look-ahead-spec =
     field-of-requires
     returns-2
     field-of-requires-2
-    wide-requires
     add-far
     loop-less
     loop-again

@@ -22,7 +22,7 @@ returns c m set stands before =
     not-again set (omega (arith, at-if1 .if1 .taken)) (rw (c .before .before .distance .ensures) at (c .before .longest-leg .ensures)) (c .if2 .taken) before
 
 limit-for-requires : tie.Need-limit-for-requires
-limit-for-requires c κs = let p = c .before .before .before .before .pre in ((p .0 .0, p .0 .1, p .0 .2, p .0 .3), (p .1 .0, p .1 .1 .held))
+limit-for-requires c κs = let p = c .before .before .before .before .pre in ((p .0 .0, p .0 .2, p .0 .3), (p .1 .0, p .1 .1 .held))
 
 search-requires : tie.Need-search-requires
 search-requires c κs =
