@@ -1,4 +1,5 @@
-"""What stands in several documents is the same in each: refusals in the code, the header and the page on the bytes; places of language forms; the stack."""
+"""What stands in several documents is the same in each: refusals in the code, the header and the page on the bytes; places of language forms; the stack.
+And docs/contracts.py leaves out no contract."""
 
 import re
 import sys

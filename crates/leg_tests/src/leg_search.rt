@@ -9,13 +9,15 @@ use legs::first_lines::from_lines;
 use model::limits::GREATEST_LEG_LENGTH;
 use search::search;
 use stretches::lines::field_of;
+use stretches::lines::greater;
 use way_lengths::Terminus;
 use ways::Ways;
 use ways::ways_from;
 use work_area::FRC;
 use work_area::LENGTH;
 ghost use mathlib.Core.List.{List};
-ghost use Prim.Native.Nat.{ℕ, _≤_};
+ghost use Prim.Native.Nat.{ℕ, _+_, _/_, _≤_, min, max};
+ghost use mathlib.Core.Path.{_≡_};
 ghost use lib.ListN.{length};
 ghost use lib.Seq.{slice};
 ghost use Rattle.model.specs.Map.{Map};
@@ -67,10 +69,9 @@ fn look_ahead(
 // The length to look ahead to from a leg: half as much again or `reach`, the greater of them, and no more than a leg can have.
 fn goal_for(len: u32, reach: u32) -> u32
     requires { ⌜ len ≤ greatestLegLength ⌝ }
-    ensures { λ r. ⌜ r ≤ greatestLegLength ⌝ }
+    ensures { λ r. ⌜ r ≡ min (max (len + len / 2) reach) greatestLegLength ⌝ }
 {
-    let more = len + len / 2;
-    let goal = if more < reach { reach } else { more };
+    let goal = greater(len + len / 2, reach);
     if GREATEST_LEG_LENGTH < goal {
         GREATEST_LEG_LENGTH
     } else {

@@ -14,7 +14,7 @@ goal-for-requires : tie.Need-goal-for-requires
 goal-for-requires c κs = c .before .before .pre .0 .2
 
 look-ahead-requires : tie.Need-look-ahead-requires
-look-ahead-requires c κs = let p = c .before .before .before .pre in ((p .0 .0, p .0 .1, c .goal-for .ensures), p .1)
+look-ahead-requires c κs = let p = c .before .before .before .pre in ((p .0 .0, p .0 .1, omega (arith, c .goal-for .ensures)), p .1)
 
 returns : tie.Need-returns
 returns c = record { within = omega arith; holds = λ length a b. a }
