@@ -23,9 +23,11 @@ def stored_cases(name):
 
 def counts():
     """What is counted, and how many there are."""
-    written = stored_cases("test_writes")
+    written, points_told = stored_cases("test_writes"), stored_cases("test_points")
     before = lines_of("model/specs/AsBefore.antt")
-    yield "lines of definitions that demand 3 rests on (crates/model/specs without AsBefore)", lines_of("model/specs/**/*.antt") - before
+    points = sum(lines_of(f"model/specs/{name}.antt") for name in ("PointAlong", "PointTrip", "HostPointTrip"))
+    yield "lines of definitions that demand 3 rests on (crates/model/specs without AsBefore and points)", lines_of("model/specs/**/*.antt") - before - points
+    yield "lines of definitions that the claim of points needs besides (PointAlong, PointTrip, HostPointTrip)", points
     yield "lines of all definitions (crates/*/specs)", lines_of("*/specs/**/*.antt")
     yield "lines of code (crates/*/src)", lines_of("*/src/**/*.rt")
     yield "lines of proofs (crates/*/proofs)", lines_of("*/proofs/**/*.antt")
@@ -35,6 +37,8 @@ def counts():
     yield "stored cases: readings", len(stored_cases("test_reads"))
     yield "stored cases: writings", len(written)
     yield "of these accepted, and read back", sum(row.startswith("bytes ") for row in written)
+    yield "stored cases: points, read and written", len(points_told)
+    yield "of these written, accepted, and read back", sum(row.startswith("bytes ") for row in points_told)
     yield "tests of the unrelated implementation (oracle)", sum(len(re.findall(r"^    def test_", path.read_text(), re.MULTILINE))
                                                                for path in (ROOT / "oracle").glob("test_*.py"))
     yield "random calls in the gate (make differential)", int(re.search(r"^CALLS = (\d+)", (ROOT / "Makefile").read_text(), re.MULTILINE)[1])

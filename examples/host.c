@@ -3,40 +3,10 @@
      host MAP POS NEG LINE ..
 
    MAP is the name of a map's file, POS and NEG are the offsets in decimetres, and the rest are line numbers. */
-#include "openlr.h"
-
-#include <errno.h>
-#include <stdio.h>
-#include <stdlib.h>
-
-/* The bytes of a file, or SIZE_MAX where it cannot be read or is longer than a map can be. */
-static size_t load(const char *name, uint8_t *bytes, size_t room) {
-    FILE *file = fopen(name, "rb");
-    if (file == NULL) return SIZE_MAX;
-    size_t count = fread(bytes, 1, room, file);
-    int whole = !ferror(file) && fgetc(file) == EOF;
-    fclose(file);
-    return whole ? count : SIZE_MAX;
-}
-
-/* A decimal number of 32 bits. */
-static int number(const char *text, uint32_t *value) {
-    char *end;
-    errno = 0;
-    unsigned long long parsed = strtoull(text, &end, 10);
-    if (errno != 0 || end == text || *end != '\0' || text[0] == '-' || parsed > UINT32_MAX) return 0;
-    *value = (uint32_t)parsed;
-    return 1;
-}
+#include "arguments.h"
 
 static void put_line(uint8_t *bytes, uint32_t line) {
     for (int i = 0; i < 4; i++) bytes[i] = (uint8_t)(line >> 8 * i);
-}
-
-static uint32_t line_at(const uint8_t *bytes) {
-    uint32_t line = 0;
-    for (int i = 0; i < 4; i++) line |= (uint32_t)bytes[i] << 8 * i;
-    return line;
 }
 
 int main(int argc, char **argv) {
@@ -66,9 +36,7 @@ int main(int argc, char **argv) {
         printf("writer: refused %u: %s\n", (unsigned)written.refusal, openlr_refusal_sentence(written.refusal));
         return 1;
     }
-    printf("reference");
-    for (uint32_t i = 0; i < written.byte_count; i++) printf(" %02X", reference[i]);
-    printf("\n");
+    print_reference(reference, written.byte_count);
 
     struct openlr_reading read = openlr_read(map, map_len, reference, written.byte_count, line_buffer, sizeof line_buffer);
     if (read.refusal != 0) {

@@ -1,6 +1,7 @@
-/* OpenLR binary line references on a depot map, for C and C++ on x86-64 Linux. Link with libopenlr.a. docs/FORMAT.md has the bytes of a map and of a reference.
+/* OpenLR binary references to stretches of road and to points along a line, on a depot map, for C and C++ on x86-64 Linux. Link with libopenlr.a.
+   docs/FORMAT.md has the bytes of a map and of a reference.
 
-   What both functions promise is proved, for all bytes that they can be given: they read no memory but their input slices, write none but the output buffer and
+   What the functions promise is proved, for all bytes that they can be given: they read no memory but their input slices, write none but the output buffer and
    the stack, and return. Nothing checks what the caller owes:
 
    - Each pointer is valid for the count of bytes beside it. Where the count is 0 it may be NULL. No alignment is asked.
@@ -31,16 +32,20 @@ extern "C" {
 
    What a map drawer delivers of a line: its two nodes, its length, class and form of way; and at each end the point 20 m along the line from there, as two
    steps in whole decimetres, east and north, each -250 to 250, not both 0. The steps out are seen from the start node, the steps back from the end node: a line
-   that runs due east has the steps (200, 0) out and (-200, 0) back. Nothing asks that the point is 20 m off: only its direction counts. */
-#define OPENLR_VERSION 4
+   that runs due east has the steps (200, 0) out and (-200, 0) back. Nothing asks that the point is 20 m off: only its direction counts.
+
+   Version 5: points along a line, for single things such as signs and hydrants: openlr_write_point, openlr_read_point and refusal 25 are new. The rest is as
+   in version 4. */
+#define OPENLR_VERSION 5
 #define OPENLR_UNITS_PER_METRE 10
 
 /* The most that there can be, for buffers that are never too short. */
 #define OPENLR_LONGEST_MAP 23558     /* Bytes of a map that is not refused: 512 nodes of 8, 1,024 lines of 17, 512 bans of 4, and three counts of 2. */
 #define OPENLR_LONGEST_REFERENCE 459 /* Bytes of a reference: 1 and a first point of 9, 63 middle points of 7, a last one of 6, and two offsets of 1. */
-#define OPENLR_MOST_LINES 1024       /* Lines that openlr_read hands back, each in four bytes. */
+#define OPENLR_LONGEST_POINT 17      /* Bytes of a point along a line: 1 and a first point of 9, a last one of 6, and an offset of 1. */
+#define OPENLR_MOST_LINES 1024       /* Lines that openlr_read and openlr_read_point hand back, each in four bytes. */
 
-/* Bytes of stack that a thread needs for a call of either function: 104 KiB, of which a call takes up to 77. */
+/* Bytes of stack that a thread needs for a call of any of the functions: 104 KiB, of which a call takes up to 78. */
 #define OPENLR_LEAST_STACK 106496
 
 /* Why a call is refused. Each is given when its condition holds and none above it does; for 2 to 5 and 24 the first faulty number in the map decides instead.
@@ -60,6 +65,7 @@ enum openlr_refusal {
     OPENLR_STRETCH_GAP = 8,
     OPENLR_STRETCH_BAN = 21,
     OPENLR_STRETCH_OFFSETS = 9,
+    OPENLR_POINT_MARKS = 25,
     OPENLR_NO_CHOICE = 10,
     OPENLR_BYTES_SHORT = 11,
     /* The reader. */
@@ -73,6 +79,22 @@ enum openlr_refusal {
     OPENLR_JOINED_BAN = 22,
     OPENLR_NO_OFFSET = 19,
     OPENLR_LINES_SHORT = 20
+};
+
+/* In what direction of the line a point along it counts, and on which side of the line it is: the white paper's values. The first point is the node where the
+   line starts, the second the one where it ends. */
+enum openlr_orientation {
+    OPENLR_ORIENTATION_NONE = 0,            /* No sense of orientation, or unknown. */
+    OPENLR_ORIENTATION_FIRST_TO_SECOND = 1, /* From the first point towards the second. */
+    OPENLR_ORIENTATION_SECOND_TO_FIRST = 2, /* From the second point towards the first. */
+    OPENLR_ORIENTATION_BOTH = 3             /* In both directions. */
+};
+
+enum openlr_side {
+    OPENLR_SIDE_ON_ROAD = 0, /* Directly on the road, or unknown. */
+    OPENLR_SIDE_RIGHT = 1,   /* On the right side of the line. */
+    OPENLR_SIDE_LEFT = 2,    /* On its left side. */
+    OPENLR_SIDE_BOTH = 3     /* On both sides. */
 };
 
 /* What openlr_read answers. */
@@ -110,6 +132,38 @@ struct openlr_reading openlr_read(const uint8_t *map, size_t map_len, const uint
 struct openlr_written openlr_write(const uint8_t *map, size_t map_len, const uint8_t *stretch, size_t stretch_len, uint32_t pos, uint32_t neg,
                                    uint8_t *byte_buffer, size_t byte_buffer_len);
 
+/* What openlr_read_point answers. */
+struct openlr_point {
+    uint32_t refusal;     /* 0: the reference is read. Else the number of the refusal; then every field but `refusal` and `place` is 0. */
+    uint32_t place;       /* For refusal 16 the point, 0 or 1. Else 0: there is one leg only. */
+    uint32_t lines;       /* How many lines lie between the two points. Their numbers are the first 4 * lines bytes of the line buffer. */
+    uint32_t least;       /* How far along them the point is: the least offset that the byte may stand for, in decimetres, .. */
+    uint32_t greatest;    /* .. and the greatest. 0 and 0 where the reference has no offset. */
+    uint32_t orientation; /* enum openlr_orientation */
+    uint32_t side;        /* enum openlr_side */
+};
+
+/* What openlr_write_point answers. */
+struct openlr_point_written {
+    uint32_t refusal; /* 0: the reference is written. Else the number of the refusal. */
+    uint32_t bytes;   /* How many bytes the reference has, 16 or 17. They are the first of the byte buffer. 0 where refused. */
+};
+
+/* Reads a point along a line from the reference of `reference_len` bytes on the map of `map_len` bytes. A reference to a stretch is refused with 12 or 13 here,
+   and a point along a line by openlr_read with 13. The line buffer is as for openlr_read. */
+struct openlr_point openlr_read_point(const uint8_t *map, size_t map_len, const uint8_t *reference, size_t reference_len, uint8_t *line_buffer,
+                                      size_t line_buffer_len);
+
+/* Writes a reference for a point along a line: `offset` decimetres from where the line starts, with its orientation and side.
+
+   A byte buffer of OPENLR_LONGEST_POINT bytes is long enough. Where the reference is written, it stands first in the buffer and the bytes after it are as
+   before. Where it is refused, all of the buffer is as before.
+
+   Read back on the same map, with a line buffer of at least four bytes, the bytes give that one line, the orientation and the side, and a span that contains
+   the offset. */
+struct openlr_point_written openlr_write_point(const uint8_t *map, size_t map_len, uint32_t line, uint32_t offset, uint32_t orientation, uint32_t side,
+                                               uint8_t *byte_buffer, size_t byte_buffer_len);
+
 /* A refusal's condition, in a sentence. The text is static. 0 gives an empty text. */
 static inline const char *openlr_refusal_sentence(uint32_t refusal) {
     switch (refusal) {
@@ -122,14 +176,15 @@ static inline const char *openlr_refusal_sentence(uint32_t refusal) {
     case OPENLR_MAP_STEP: return "a step of one of the map's lines is not -250 to 250 decimetres, or its steps at one end are both 0";
     case OPENLR_EQUAL_CODES: return "two nodes of the map have the same pair of codes";
     case OPENLR_MAP_BAN: return "a ban of the map names no line, or its second line does not start where its first ends";
-    case OPENLR_STRETCH_LINES: return "the stretch has no line, over 64 lines or a line that the map has not, or its count of bytes is no multiple of four";
+    case OPENLR_STRETCH_LINES: return "the map has no such line; or the stretch has no line, over 64 lines or a count of bytes that is no multiple of four";
     case OPENLR_STRETCH_GAP: return "a line of the stretch does not end where the next one starts";
     case OPENLR_STRETCH_BAN: return "a line of the stretch is banned straight after the one before it";
-    case OPENLR_STRETCH_OFFSETS: return "the two offsets together are not below the length of the stretch";
-    case OPENLR_NO_CHOICE: return "no choice of points is usable for the stretch";
+    case OPENLR_STRETCH_OFFSETS: return "the offset, or the two together, are not below the length of the line or stretch";
+    case OPENLR_POINT_MARKS: return "the orientation or the side is over 3";
+    case OPENLR_NO_CHOICE: return "no choice of points is usable for the stretch, or the line of the point is not told by its two ends";
     case OPENLR_BYTES_SHORT: return "the byte buffer is shorter than the reference";
-    case OPENLR_REFERENCE_LENGTH: return "the reference has under 16 bytes, over 459 bytes or a count of bytes that no reference has";
-    case OPENLR_REFERENCE_STATUS: return "the first byte of the reference is not 0B";
+    case OPENLR_REFERENCE_LENGTH: return "the reference has under 16 bytes, over 459 (of a point over 17) or a count of bytes that no reference has";
+    case OPENLR_REFERENCE_STATUS: return "the first byte of the reference is not 0B, or of a point's not 2B";
     case OPENLR_REFERENCE_BITS: return "a bit of the reference that must be zero is set";
     case OPENLR_REFERENCE_FLAGS: return "the length of the reference does not fit its offset flags";
     case OPENLR_NO_NODE: return "a point of the reference has no node on the map";

@@ -9,7 +9,11 @@ from depot_map import DepotMap, map_to_bytes, read_map
 from fields import LONGEST_LEG
 from legs import Leg, LegSearch, Readings, describe_leg, list_length
 from meridian_recipes import MERIDIAN_READ_RECIPES, MERIDIAN_WRITE_RECIPES, READ_RECIPES_ACROSS, WRITE_RECIPES_ACROSS, all_across
-from outcome import RefusedCall
+from outcome import outcome_of
+from point_read_recipes import (MERIDIAN_POINT_READ_RECIPES, POINT_READ_EDGES, POINT_READ_RECIPES, POINT_READ_RECIPES_ACROSS, POINTS_FOR_STRETCHES_RECIPES,
+                                point_read_outcome)
+from point_write_recipes import (MERIDIAN_POINT_WRITE_RECIPES, POINT_WRITE_EDGES, POINT_WRITE_RECIPES, POINT_WRITE_RECIPES_ACROSS,
+                                 point_write_outcome)
 from read_recipes import READ_RECIPES, read_outcome
 from recipes import any_sample
 from sample_maps import (FIRST_BEHIND, LAST_BEFORE, MapBuilder, Sample, across_meridian, chain_of_blocks, chain_of_ties, edge_sample, full_size_sample,
@@ -37,17 +41,14 @@ class LegCase:
 
 @dataclass(frozen=True)
 class CallCase:
-    """A call of the reader or of the writer. Expected: its outcome."""
+    """A call of a reader or of a writer. Expected: its outcome."""
     label: str
     given: object
     expected: object
 
 
 def map_outcome(map_bytes):
-    try:
-        return read_map(map_bytes)
-    except RefusedCall as refusal:
-        return refusal.refused
+    return outcome_of(read_map, map_bytes)
 
 
 def random_source(kind, seed, index):
@@ -273,3 +274,13 @@ write_cases_across = call_cases("write", WRITE_RECIPES_ACROSS, write_outcome)
 meridian_map_cases = map_cases_of("meridian map", MERIDIAN_MAP_RECIPES)
 meridian_read_cases = call_cases("meridian read", MERIDIAN_READ_RECIPES, read_outcome)
 meridian_write_cases = call_cases("meridian write", MERIDIAN_WRITE_RECIPES, write_outcome)
+# Points along a line: read, written, more of those with many edges, both at the meridian too, and given to the reader of stretches.
+point_read_cases = call_cases("point read", POINT_READ_RECIPES, point_read_outcome)
+point_write_cases = call_cases("point write", POINT_WRITE_RECIPES, point_write_outcome)
+point_read_edge_cases = call_cases("point read edge", POINT_READ_EDGES, point_read_outcome)
+point_write_edge_cases = call_cases("point write edge", POINT_WRITE_EDGES, point_write_outcome)
+point_read_cases_across = call_cases("point read", POINT_READ_RECIPES_ACROSS, point_read_outcome)
+point_write_cases_across = call_cases("point write", POINT_WRITE_RECIPES_ACROSS, point_write_outcome)
+meridian_point_read_cases = call_cases("meridian point read", MERIDIAN_POINT_READ_RECIPES, point_read_outcome)
+meridian_point_write_cases = call_cases("meridian point write", MERIDIAN_POINT_WRITE_RECIPES, point_write_outcome)
+points_for_stretches_cases = call_cases("points for stretches", POINTS_FOR_STRETCHES_RECIPES, read_outcome)

@@ -1,4 +1,4 @@
-"""Holds the C functions to this implementation, on cases of the reader and of the writer.
+"""Holds the C functions to this implementation, on cases of the readers and of the writers, of stretches and of points along a line.
 
 Usage: python3 oracle/check_host.py PROGRAM COUNT [--seed N]. PROGRAM is that of tests/answer.c. Calls with different answers are printed, and the status is 1.
 """
@@ -7,9 +7,12 @@ import argparse
 from dataclasses import replace
 
 from answers import answers, hexadecimal, report
-from cases import meridian_read_cases, meridian_write_cases, read_cases, read_cases_across, write_cases, write_cases_across
+from cases import (meridian_point_read_cases, meridian_point_write_cases, meridian_read_cases, meridian_write_cases, point_read_cases,
+                   point_read_cases_across, point_write_cases, point_write_cases_across, read_cases, read_cases_across, write_cases, write_cases_across)
 from host_calls import MOST_LINES, line_bytes
 from outcome import outcome_text
+from point_read_recipes import point_read_outcome
+from point_write_recipes import point_write_outcome
 from read_recipes import read_outcome
 from reader import LEAST_WORK_LENGTH
 from write_recipes import write_outcome
@@ -25,12 +28,21 @@ def with_meridian(seed, count, make_cases, make_cases_across, make_meridian_case
     return [*make_cases(seed, count - 2 * tenth), *make_cases_across(seed, tenth), *make_meridian_cases(seed, tenth)]
 
 
-def read_calls(seed, count):
+def calls_of_a_reader(kind, cases, outcome):
     """Rows for the program and expected answers. "A line buffer holds a quarter of its bytes, rounded down": up to three bytes more change nothing."""
-    for index, case in enumerate(with_meridian(seed, count, read_cases, read_cases_across, meridian_read_cases)):
+    for index, case in enumerate(cases):
         given = replace(case.given, work_length=LEAST_WORK_LENGTH, line_room=min(case.given.line_room, MOST_LINES))
         room = 4 * case.given.line_room + index % 4
-        yield f"read {hexadecimal(given.map_bytes)} {hexadecimal(given.reference)} {room}", one_row(read_outcome(given))
+        yield f"{kind} {hexadecimal(given.map_bytes)} {hexadecimal(given.reference)} {room}", one_row(outcome(given))
+
+
+def read_calls(seed, count):
+    return calls_of_a_reader("read", with_meridian(seed, count, read_cases, read_cases_across, meridian_read_cases), read_outcome)
+
+
+def read_point_calls(seed, count):
+    cases = with_meridian(seed, count, point_read_cases, point_read_cases_across, meridian_point_read_cases)
+    return calls_of_a_reader("read_point", cases, point_read_outcome)
 
 
 def write_calls(seed, count):
@@ -43,6 +55,16 @@ def write_calls(seed, count):
             given = replace(given, lines=())
         numbers = f"{given.pos} {given.neg} {given.byte_room}"
         yield f"write {hexadecimal(given.map_bytes)} {hexadecimal(stretch)} {numbers}", one_row(write_outcome(given))
+
+
+def write_point_calls(seed, count):
+    for case in with_meridian(seed, count, point_write_cases, point_write_cases_across, meridian_point_write_cases):
+        given = replace(case.given, work_length=LEAST_WORK_LENGTH)
+        numbers = f"{given.line} {given.offset} {given.orientation} {given.side} {given.byte_room}"
+        yield f"write_point {hexadecimal(given.map_bytes)} {numbers}", one_row(point_write_outcome(given))
+
+
+KINDS = {"read": read_calls, "write": write_calls, "read_point": read_point_calls, "write_point": write_point_calls}
 
 
 def differences(program, calls):
@@ -58,7 +80,7 @@ def main():
     parser.add_argument("--seed", type=int, default=1)
     arguments = parser.parse_args()
     groups = []
-    for kind, make_calls in (("read", read_calls), ("write", write_calls)):
+    for kind, make_calls in KINDS.items():
         found = differences(arguments.program, list(make_calls(arguments.seed, arguments.count)))
         groups.append((f"{kind}: {arguments.count} calls from C", found))
     report(groups)

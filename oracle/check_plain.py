@@ -8,7 +8,7 @@ import argparse
 import re
 
 from answers import answers, hexadecimal, report
-from pack import CRATES, WRITES_LINE_ROOM, number_sum
+from pack import CRATES, POINTS_LINE_ROOM, WRITES_LINE_ROOM, number_sum
 from reader import LEAST_WORK_LENGTH
 
 
@@ -64,17 +64,26 @@ def write_calls(parts):
     return [call("write", map_bytes, *numbers, *numbers_in(stretch)) for map_bytes, stretch, numbers in cases_on_maps(parts)]
 
 
+def point_calls(parts):
+    calls = []
+    for map_bytes, reference, (to_write, work_length, room, *point) in cases_on_maps(parts):
+        given = point if to_write else [hexadecimal(reference)]
+        calls.append(call("write_point" if to_write else "read_point", map_bytes, *given, work_length, room))
+    return calls
+
+
 def map_row(answer):
     """The program has no sum: it answers this only if the map, put into bytes again, gives the same bytes."""
     return re.sub(r"map of (\d+) nodes and (\d+) lines", r"nodes \1 lines \2", answer)
 
 
 def lines_row(answer):
-    """The counts and spans, and the sum over the lines."""
+    """The count and the spans, of a point orientation and side too, and the sum over the lines."""
     words = answer.split()
     if words[0] == "refused":
         return answer
-    return " ".join([*words[:8], "sum", str(number_sum(map(int, words[8:])))])
+    first = 9 if "side" in words else 8
+    return " ".join([*words[:first], "sum", str(number_sum(map(int, words[first:])))])
 
 
 def written_row(answer, read_back):
@@ -88,14 +97,15 @@ def simple_rows(row):
     return rows_of
 
 
-def write_rows(program, calls):
-    """The bytes of each acceptance are read back."""
-    rows = answers(program, calls)
-    written = [index for index, answer in enumerate(rows) if answer.startswith("bytes")]
-    read_calls = [f"read {calls[index].split()[1]} {rows[index].split()[2]} {LEAST_WORK_LENGTH} {WRITES_LINE_ROOM}" for index in written]
-    for index, read_back in zip(written, answers(program, read_calls)):
-        rows[index] = written_row(rows[index], read_back)
-    return rows
+def call_rows(reader, line_room):
+    """The bytes of each acceptance of a writer are read back, by a reader and with a line buffer of that length."""
+    def rows_of(program, calls):
+        rows = answers(program, calls)
+        written = [index for index, answer in enumerate(rows) if answer.startswith("bytes")]
+        read_calls = [f"{reader} {calls[index].split()[1]} {rows[index].split()[2]} {LEAST_WORK_LENGTH} {line_room}" for index in written]
+        read_back = dict(zip(written, answers(program, read_calls)))
+        return [written_row(answer, read_back[index]) if index in read_back else lines_row(answer) for index, answer in enumerate(rows)]
+    return rows_of
 
 
 def stored_row(row):
@@ -109,7 +119,8 @@ PROGRAMS = {
     "test_maps": (map_calls, simple_rows(map_row)),
     "test_legs": (leg_calls, simple_rows(str)),
     "test_reads": (read_calls, simple_rows(lines_row)),
-    "test_writes": (write_calls, write_rows),
+    "test_writes": (write_calls, call_rows("read", WRITES_LINE_ROOM)),
+    "test_points": (point_calls, call_rows("read_point", POINTS_LINE_ROOM)),
 }
 
 

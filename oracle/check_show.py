@@ -17,6 +17,7 @@ from read_recipes import around, bytes_of_legs, longest_reference
 from sample_maps import ridge_map
 from show import shown
 from test_meridian import RIDGE_ACROSS, from_the_ridge_across
+from test_points import HYDRANT
 from test_scope_paper import RIDGE, THREE_POINTS, THREE_POINTS_OFFSET_500, TWO_POINTS
 
 # Each takes two bytes.
@@ -72,6 +73,7 @@ def folders():
     """For each folder a name and its files."""
     yield "the ridge, positive offset 500", {"map.bin": RIDGE, "ref.bin": THREE_POINTS_OFFSET_500}
     yield "the ridge, two points", {"map.bin": RIDGE, "ref.bin": TWO_POINTS}
+    yield "a point along a line", {"map.bin": RIDGE, "ref.bin": HYDRANT}
     yield "no files", {}
     yield "no map", {"ref.bin": THREE_POINTS}
     yield "no reference", {"map.bin": RIDGE}

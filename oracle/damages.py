@@ -9,7 +9,7 @@ from depot_map import (GREATEST_LATITUDE, GREATEST_LONGITUDE, LARGEST_NUMBER, LA
 from fields import GREATEST_STEP, coordinate_code, differences
 from legs import Marks, marks_arriving, marks_leaving
 from reader import point_nodes
-from reference import last_point_position, p_byte_positions, take_apart
+from reference import LONGEST_POINT_ALONG_LINE, POSITIVE_FLAG, last_point_position, p_byte_positions, take_apart, take_point_along_line
 
 # The numbers of a line in byte order: those whose faults are refusal 5, and the steps, whose faults are 24.
 LINE_FIELDS = ("start node", "end node", "length", "FRC", "FOW")
@@ -353,9 +353,9 @@ def absent_pair(taken, width):
     return value.to_bytes(width, "big", signed=True) * 2
 
 
-def point_damages(depot_map, reference):
+def point_damages(depot_map, reference, take=take_apart):
     """Refusal 16, at the first, the second and the last point."""
-    nodes = point_nodes(depot_map, take_apart(reference))
+    nodes = point_nodes(depot_map, take(reference))
     codes = {(coordinate_code(node.longitude), coordinate_code(node.latitude)) for node in depot_map.nodes}
     damages = [ReferenceDamage(16, "first point", replaced(reference, 1, absent_pair(codes, 3)), 0)]
     for place, point, position in (("second", 1, 10),
@@ -373,9 +373,9 @@ def absent_sector(taken_marks, frc, fow):
     return free[0] if free else None
 
 
-def leg_damages(depot_map, reference):
+def leg_damages(depot_map, reference, take=take_apart):
     """Refusal 17, at the first and the last leg: a sector that no line there has."""
-    parts = take_apart(reference)
+    parts = take(reference)
     nodes = point_nodes(depot_map, parts)
     last_leg = len(parts.points) - 2
     p_positions = p_byte_positions(len(reference))
@@ -398,6 +398,30 @@ def leg_damages(depot_map, reference):
 
 
 def reference_damages(depot_map, reference):
-    """All damages that are known for a reference that can be read, refusals 12 to 17."""
+    """All damages that are known for a reference to a stretch that can be read, refusals 12 to 17."""
     return (length_damages(reference) + form_byte_damages(reference) + point_damages(depot_map, reference)
             + leg_damages(depot_map, reference))
+
+
+def point_length_damages(reference):
+    """Lengths that a point along a line does not have. References to stretches have some of them."""
+    return [ReferenceDamage(12, f"{length} bytes", (reference + bytes(500))[:length]) for length in (0, 1, 15, 18, 19, 23, 24, 459, 460)]
+
+
+def point_form_damages(reference):
+    """Refusals 13 to 15 of a point along a line."""
+    damages = [ReferenceDamage(13, f"status byte {status:02X}", replaced(reference, 0, bytes([status])))
+               for status in (0x0B, 0x00, 0x23, 0x2A, 0x2C, 0x3B, 0x6B, 0xAB)]
+    r_position = last_point_position(len(reference)) + 5
+    r_byte = reference[r_position]
+    for label, bits in (("bit 7 of R", 0x80), ("negative flag", 0x20), ("bit 7 of R and negative flag", 0xA0)):
+        damages.append(ReferenceDamage(14, label, replaced(reference, r_position, bytes([r_byte | bits]))))
+    damages.append(ReferenceDamage(15, "positive flag turned over", replaced(reference, r_position, bytes([r_byte ^ POSITIVE_FLAG]))))
+    other_length = reference[:-1] if len(reference) == LONGEST_POINT_ALONG_LINE else reference + b"\x80"
+    return damages + [ReferenceDamage(15, "of the other length", other_length)]
+
+
+def point_along_line_damages(depot_map, reference):
+    """All damages that are known for a point along a line that can be read, refusals 12 to 17."""
+    return (point_length_damages(reference) + point_form_damages(reference) + point_damages(depot_map, reference, take_point_along_line)
+            + leg_damages(depot_map, reference, take_point_along_line))

@@ -8,22 +8,33 @@ from answers import hexadecimal
 from depot_map import STEP_SHIFT, Node, write_number
 from fields import coordinate_code, differences, differences_fit, distance_byte, offset_byte, offset_span, sector
 from host_calls import MOST_LINES, line_bytes, lines_of
-from outcome import Refused, ReferenceWritten, StretchRead
+from outcome import PointRead, Refused, ReferenceWritten, StretchRead
+from point_along_line import read_point, write_point
 from reader import LEAST_WORK_LENGTH, read
-from reference import LONGEST_REFERENCE
+from reference import LONGEST_POINT_ALONG_LINE, LONGEST_REFERENCE
 from writer import write
 
 PAGE = Path(__file__).parent.parent / "docs" / "FORMAT.md"
 
 
+class Kind(NamedTuple):
+    """A kind of call: whether it reads, the numbers that it is given, and the room for its answer where the page gives none."""
+    reads: bool
+    numbers: tuple
+    room: int
+
+
+KINDS = {"read": Kind(True, (), MOST_LINES), "write": Kind(False, ("pos", "neg"), LONGEST_REFERENCE),
+         "read point": Kind(True, (), MOST_LINES), "write point": Kind(False, ("line", "offset", "orientation", "side"), LONGEST_POINT_ALONG_LINE)}
+
+
 class Call(NamedTuple):
-    """A call of the reader or of the writer, as the page writes it, and the answer that the page gives."""
+    """A call of a reader or of a writer, as the page writes it, and the answer that the page gives. A point to be written is numbers alone."""
     text: str
     kind: str
     map_bytes: bytes
-    given: bytes
-    pos: int
-    neg: int
+    given: Optional[bytes]
+    numbers: tuple
     room: int
     work: Optional[int]
     answer: object
@@ -33,13 +44,17 @@ class Call(NamedTuple):
         work = LEAST_WORK_LENGTH if self.work is None else self.work
         if self.kind == "read":
             return read(self.map_bytes, self.given, work, self.room)
-        return write(self.map_bytes, lines_of(self.given), self.pos, self.neg, work, self.room)
+        if self.kind == "read point":
+            return read_point(self.map_bytes, self.given, work, self.room)
+        if self.kind == "write":
+            return write(self.map_bytes, lines_of(self.given), *self.numbers, work, self.room)
+        return write_point(self.map_bytes, *self.numbers, work, self.room)
 
     def row(self):
         """The same call for tests/answer.c."""
-        if self.kind == "read":
-            return f"read {hexadecimal(self.map_bytes)} {hexadecimal(self.given)} {4 * self.room}"
-        return f"write {hexadecimal(self.map_bytes)} {hexadecimal(self.given)} {self.pos} {self.neg} {self.room}"
+        given = [] if self.given is None else [hexadecimal(self.given)]
+        room = 4 * self.room if KINDS[self.kind].reads else self.room
+        return " ".join(map(str, [self.kind.replace(" ", "_"), hexadecimal(self.map_bytes), *given, *self.numbers, room]))
 
 
 class Formula(NamedTuple):
@@ -125,20 +140,19 @@ class Page:
             self.commands[-1] = Command(command, printed + row + "\n")
 
     def _call(self, row, left, right):
-        kind, rest = left.split(" ", 1)
+        name, rest = re.fullmatch(r"((?:read|write)(?: point)?) (.*)", left).groups()
+        kind = KINDS[name]
         map_bytes, rest = self._bytes(rest)
-        if kind == "read":
+        given = None
+        if kind.reads:
             given, rest = self._bytes(rest)
-        else:
-            part = re.match(r"(lines|bytes)((?: [0-9A-F]+)*)(?= |$)", rest)
-            numbers, rest = part[2], rest[part.end():]
-            given = line_bytes(map(int, numbers.split())) if part[1] == "lines" else bytes.fromhex(numbers)
-        settings = dict(re.findall(r"(\w+) (\d+)", rest))
-        if re.sub(r"\w+ \d+", "", rest).strip() or not settings.keys() <= {"room", "work", "pos", "neg"}:
+        elif name == "write":
+            given, rest = _stretch(rest)
+        settings = {word: int(number) for word, number in re.findall(r"(\w+) (\d+)", rest)}
+        if re.sub(r"\w+ \d+", "", rest).strip() or not settings.keys() <= {"room", "work", *kind.numbers}:
             raise ValueError(f"cannot be read: {row}")
-        room = int(settings.get("room", MOST_LINES if kind == "read" else LONGEST_REFERENCE))
-        work = int(settings["work"]) if "work" in settings else None
-        return Call(row, kind, map_bytes, given, int(settings.get("pos", 0)), int(settings.get("neg", 0)), room, work, self._answer(right))
+        numbers = tuple(settings.get(word, 0) for word in kind.numbers)
+        return Call(row, name, map_bytes, given, numbers, settings.get("room", kind.room), settings.get("work"), self._answer(right))
 
     def _bytes(self, text):
         """The bytes at the start of a text, and the text after them."""
@@ -160,8 +174,19 @@ class Page:
         if reads:
             spans = [int(number) for number in reads.groups()[1:]]
             return StretchRead(tuple(map(int, reads[1].split())), tuple(spans[:2]), tuple(spans[2:]))
+        point = re.fullmatch(r"reads ([\d ]+) offset (\d+) (\d+) orientation (\d) side (\d)", text)
+        if point:
+            least, greatest, orientation, side = (int(number) for number in point.groups()[1:])
+            return PointRead(tuple(map(int, point[1].split())), (least, greatest), orientation, side)
         written = text.removeprefix("writes ")
         return ReferenceWritten(self.names[written] if written in self.names else bytes.fromhex(written))
+
+
+def _stretch(text):
+    """The bytes of a stretch at the start of a text, and the text after them."""
+    part = re.match(r"(lines|bytes)((?: [0-9A-F]+)*)(?= |$)", text)
+    numbers, rest = part[2], text[part.end():]
+    return line_bytes(map(int, numbers.split())) if part[1] == "lines" else bytes.fromhex(numbers), rest
 
 
 def _changed(data, change):

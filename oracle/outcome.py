@@ -1,4 +1,4 @@
-"""What a call of the writer or of the reader answers, and how the printing program shows it."""
+"""What a call of a writer or of a reader answers, and how the printing program shows it."""
 
 from dataclasses import dataclass
 from typing import Optional
@@ -20,6 +20,15 @@ class StretchRead:
 
 
 @dataclass(frozen=True)
+class PointRead:
+    """An accepted read of a point along a line: the leg's lines, the offset's least and greatest, orientation and side as in the bytes, 0 to 3."""
+    lines: tuple
+    span: tuple
+    orientation: int
+    side: int
+
+
+@dataclass(frozen=True)
 class ReferenceWritten:
     """An accepted write."""
     reference: bytes
@@ -33,6 +42,25 @@ class RefusedCall(Exception):
         self.refused = Refused(number, place)
 
 
+def outcome_of(call, *arguments):
+    """What a call gives back, or the refusal that it raises."""
+    try:
+        return call(*arguments)
+    except RefusedCall as refusal:
+        return refusal.refused
+
+
+def heading(outcome):
+    """The first row of what is printed of an accepted read."""
+    if isinstance(outcome, PointRead):
+        # The scope paper shows no program for points. This form follows that of stretches.
+        least, greatest = outcome.span
+        return f"lines {len(outcome.lines)} offset {least} {greatest} orientation {outcome.orientation} side {outcome.side}"
+    least_positive, greatest_positive = outcome.positive_span
+    least_negative, greatest_negative = outcome.negative_span
+    return f"lines {len(outcome.lines)} pos {least_positive} {greatest_positive} neg {least_negative} {greatest_negative}"
+
+
 def outcome_text(outcome):
     """The text that the scope paper's printing program gives ("The tie at the ridge")."""
     if isinstance(outcome, Refused):
@@ -41,8 +69,4 @@ def outcome_text(outcome):
     if isinstance(outcome, ReferenceWritten):
         # The scope paper shows no program for the writer. This form follows the reader's: count, then data.
         return f"bytes {len(outcome.reference)}\n{outcome.reference.hex().upper()}"
-    least_positive, greatest_positive = outcome.positive_span
-    least_negative, greatest_negative = outcome.negative_span
-    first_row = (f"lines {len(outcome.lines)} pos {least_positive} {greatest_positive}"
-                 f" neg {least_negative} {greatest_negative}")
-    return "\n".join([first_row] + [str(line) for line in outcome.lines])
+    return "\n".join([heading(outcome)] + [str(line) for line in outcome.lines])

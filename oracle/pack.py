@@ -8,14 +8,19 @@ import sys
 from dataclasses import replace
 from pathlib import Path
 
-from cases import (leg_cases, leg_cases_across, map_cases, meridian_map_cases, meridian_read_cases, meridian_write_cases, random_source, read_cases,
-                   read_cases_across, stretch_leg, write_cases, write_cases_across)
+from cases import (leg_cases, leg_cases_across, map_cases, meridian_map_cases, meridian_point_read_cases, meridian_point_write_cases, meridian_read_cases,
+                   meridian_write_cases, point_read_cases, point_read_cases_across, point_read_edge_cases, point_write_cases, point_write_cases_across,
+                   point_write_edge_cases, points_for_stretches_cases, random_source, read_cases, read_cases_across, stretch_leg, write_cases,
+                   write_cases_across)
 from depot_map import LATITUDE_SHIFT, LONGITUDE_SHIFT, MOST_BANS, MOST_LINES, map_to_bytes
 from drawn_steps import ENDS_OF_RANGE, steps_at_edges
 from fields import sector
 from legs import LegSearch, list_length
 from meridian_recipes import ACROSS
-from outcome import Refused, outcome_text
+from outcome import Refused, heading, outcome_text
+from point_along_line import read_point
+from point_read_recipes import composed_point_from, point_read_outcome
+from point_write_recipes import PointInput, many_points_on_a_map, point_write_outcome
 from read_recipes import changed_in_a_byte, composed_from, read_outcome
 from reader import LEAST_WORK_LENGTH, read
 from recipes import until_found
@@ -24,10 +29,11 @@ from write_recipes import many_on_a_map, write_outcome
 
 CRATES = Path(__file__).parent.parent / "crates"
 SUM_MODULUS = 4_294_967_291
-# What a program's buffer holds of cases.bin, and the lengths of the buffers that test_reads and test_writes have for the work area, for lines and for bytes.
+# What a program's buffer holds of cases.bin, and the lengths of the buffers that the programs with calls have for the work area, for lines and for bytes.
 MOST_CASE_BYTES = 1_048_576
 WORK_ROOM, READS_LINE_ROOM = 14_340, 65_480
 WRITES_LINE_ROOM, WRITES_BYTE_ROOM = 80, 480
+POINTS_LINE_ROOM, POINTS_BYTE_ROOM = 1_100, 40
 # The recipe whose maps would take too much room.
 FULL_SIZE = "full size"
 FULL_SIZE_ACROSS = FULL_SIZE + ACROSS
@@ -152,25 +158,28 @@ def refusal_row(outcome):
 
 
 def lines_text(outcome):
-    """The count of lines and the spans, as the printing program shows them, and a sum over the lines."""
-    first_row = outcome_text(outcome).split("\n")[0]
-    return f"{first_row} sum {number_sum(outcome.lines)}"
+    """What the printing program shows before the lines, and a sum over the lines."""
+    return f"{heading(outcome)} sum {number_sum(outcome.lines)}"
 
 
-def read_row(given, outcome):
+def read_row(_, outcome):
     """The answer, and what stands in the work area and in the line buffer behind the lines handed back."""
     if isinstance(outcome, Refused):
         return refusal_row(outcome)
     return f"{lines_text(outcome)} work cleared rest kept"
 
 
+def many_reads(rng, sample, references, compose):
+    """References on a map, every other one with a byte changed."""
+    for number in range(references):
+        given = until_found(lambda: compose(rng, sample))
+        yield changed_in_a_byte(rng, given) if number % 2 else given
+
+
 def full_map_reads(plain, across, references):
-    """Inputs and outcomes of many references on each of some full-size maps, every other one with a byte changed."""
+    """Inputs and outcomes of many references on each of some full-size maps."""
     for rng, sample in full_size_samples("full-size reads", plain, across):
-        for number in range(references):
-            given = until_found(lambda: composed_from(rng, sample))
-            if number % 2:
-                given = changed_in_a_byte(rng, given)
+        for given in many_reads(rng, sample, references, composed_from):
             yield given, read_outcome(given)
 
 
@@ -208,20 +217,23 @@ def packed_calls(calls, subject, numbers, row):
 def test_reads():
     """The subject is a reference; the numbers are the lengths of the work area and of the line buffer."""
     calls = [*on_small_maps(read_cases, 3_100), *full_map_reads(plain=8, across=1, references=49),
-             *on_small_maps(read_cases_across, 100, FULL_SIZE_ACROSS), *on_small_maps(meridian_read_cases, 120)]
+             *on_small_maps(read_cases_across, 100, FULL_SIZE_ACROSS), *on_small_maps(meridian_read_cases, 120),
+             *on_small_maps(points_for_stretches_cases, 22)]
     check_room(calls, lambda given: given.line_room <= READS_LINE_ROOM)
     return packed_calls(calls, lambda given: given.reference,
                         lambda given: [given.work_length, given.line_room], read_row)
 
 
-def write_row(given, outcome):
+def write_row(outcome, read_back):
     """The answer, what stands in the work area and in the byte buffer behind the bytes, and how they are read."""
     if isinstance(outcome, Refused):
         return refusal_row(outcome)
     reference = outcome.reference
-    read_back = read(given.map_bytes, reference, LEAST_WORK_LENGTH, WRITES_LINE_ROOM)
-    return (f"bytes {len(reference)} sum {number_sum(reference)} work cleared rest kept"
-            f" read {lines_text(read_back)}")
+    return f"bytes {len(reference)} sum {number_sum(reference)} work cleared rest kept read {lines_text(read_back(reference))}"
+
+
+def stretch_row(given, outcome):
+    return write_row(outcome, lambda reference: read(given.map_bytes, reference, LEAST_WORK_LENGTH, WRITES_LINE_ROOM))
 
 
 def full_map_writes(plain, across, stretches):
@@ -237,10 +249,51 @@ def test_writes():
              *on_small_maps(write_cases_across, 99, FULL_SIZE_ACROSS), *on_small_maps(meridian_write_cases, 128)]
     check_room(calls, lambda given: len(given.lines) <= WRITES_LINE_ROOM and given.byte_room <= WRITES_BYTE_ROOM)
     return packed_calls(calls, lambda given: words(given.lines),
-                        lambda given: [given.pos, given.neg, given.work_length, given.byte_room], write_row)
+                        lambda given: [given.pos, given.neg, given.work_length, given.byte_room], stretch_row)
 
 
-PROGRAMS = {"test_maps": test_maps, "test_legs": test_legs, "test_reads": test_reads, "test_writes": test_writes}
+def full_map_points(plain, across, points):
+    """On each of some full-size maps many points to be read, and many to be written."""
+    for rng, sample in full_size_samples("full-size point calls", plain, across):
+        for given in many_reads(rng, sample, points, composed_point_from):
+            yield given, point_read_outcome(given)
+        for given in many_points_on_a_map(rng, sample.depot_map, points):
+            yield given, point_write_outcome(given)
+
+
+def is_written(given):
+    return isinstance(given, PointInput)
+
+
+def point_fits(given):
+    return given.byte_room <= POINTS_BYTE_ROOM if is_written(given) else given.line_room <= POINTS_LINE_ROOM
+
+
+def point_numbers(given):
+    """0 to read or 1 to write, the lengths of the work area and of the line buffer or byte buffer; to write also line, offset, orientation and side."""
+    if is_written(given):
+        return [1, given.work_length, given.byte_room, given.line, given.offset, given.orientation, given.side]
+    return [0, given.work_length, given.line_room, 0, 0, 0, 0]
+
+
+def point_row(given, outcome):
+    if is_written(given):
+        return write_row(outcome, lambda reference: read_point(given.map_bytes, reference, WORK_ROOM, POINTS_LINE_ROOM))
+    return read_row(given, outcome)
+
+
+def test_points():
+    """The subject is the reference to be read, empty where a point is written."""
+    calls = [*on_small_maps(point_read_cases, 820), *on_small_maps(point_read_edge_cases, 400), *on_small_maps(point_write_cases, 625),
+             *on_small_maps(point_write_edge_cases, 270), *full_map_points(plain=5, across=1, points=40),
+             *on_small_maps(point_read_cases_across, 82, FULL_SIZE_ACROSS), *on_small_maps(point_write_cases_across, 75, FULL_SIZE_ACROSS),
+             *on_small_maps(meridian_point_read_cases, 120), *on_small_maps(meridian_point_write_cases, 72)]
+    check_room(calls, point_fits)
+    return packed_calls(calls, lambda given: b"" if is_written(given) else given.reference, point_numbers, point_row)
+
+
+PROGRAMS = {"test_maps": test_maps, "test_legs": test_legs, "test_reads": test_reads, "test_writes": test_writes,
+            "test_points": test_points}
 
 
 def files():

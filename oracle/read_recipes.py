@@ -97,9 +97,11 @@ def changed_in_a_byte(rng, given):
     return replace(given, reference=replaced(given.reference, position, bytes([changed])))
 
 
-def changed_byte(rng, turn):
-    label, given = (written_input, composed_legs)[turn % 2](rng, any_turn(rng))
-    return label, changed_in_a_byte(rng, given)
+def changed_byte(*recipes):
+    def recipe(rng, turn):
+        label, given = recipes[turn % len(recipes)](rng, any_turn(rng))
+        return label, changed_in_a_byte(rng, given)
+    return recipe
 
 
 def changed_leg_field(rng, turn):
@@ -123,20 +125,25 @@ def changed_offset_byte(rng, turn):
     return label, replace(given, reference=given.reference[:end - 1] + r_byte + offset_bytes)
 
 
-def lines_exactly_enough(rng, turn):
-    label, given = written_input(rng, turn)
-    return label, replace(given, line_room=len(read_outcome(given).lines))
-
-
-def lines_too_few(rng, turn):
-    label, given = written_input(rng, turn)
-    room = len(read_outcome(given).lines) - 1
-    return label, replace(given, line_room=rng.choice([room, room, 0]))
-
-
-def damaged_map(refusal):
+def lines_exactly_enough(accepted, outcome):
+    """What another recipe makes, which is read."""
     def recipe(rng, turn):
-        _, given = written_input(rng, turn)
+        label, given = accepted(rng, turn)
+        return label, replace(given, line_room=len(outcome(given).lines))
+    return recipe
+
+
+def lines_too_few(accepted, outcome):
+    def recipe(rng, turn):
+        label, given = accepted(rng, turn)
+        room = len(outcome(given).lines) - 1
+        return label, replace(given, line_room=rng.choice([room, room, 0]))
+    return recipe
+
+
+def damaged_map(refusal, written=written_input):
+    def recipe(rng, turn):
+        _, given = written(rng, turn)
         depot_map = read_map(given.map_bytes)
         damage = map_damage(depot_map, refusal, turn)
         # The reference is wrong as well every other time; the map's refusal stands above.
@@ -145,10 +152,10 @@ def damaged_map(refusal):
     return recipe
 
 
-def damaged_reference(refusal):
+def damaged_reference(refusal, written=written_input, damages_of=reference_damages):
     def recipe(rng, turn):
-        _, given = written_input(rng, any_turn(rng))
-        all_damages = reference_damages(read_map(given.map_bytes), given.reference)
+        _, given = written(rng, any_turn(rng))
+        all_damages = damages_of(read_map(given.map_bytes), given.reference)
         damages = [damage for damage in all_damages if damage.refusal == refusal]
         damage = damages[turn % len(damages)]
         # The line buffer is too short as well every other time; refusal 20 stands below all others.
@@ -156,18 +163,20 @@ def damaged_reference(refusal):
     return recipe
 
 
-def two_faults(rng, turn):
-    """Two damages of different refusals at once. They change different bits, so that both can be put in."""
-    _, given = written_input(rng, any_turn(rng))
-    damages = [damage for damage in reference_damages(read_map(given.map_bytes), given.reference)
-               if damage.refusal != 12]
-    first = rng.choice(damages)
-    second = rng.choice([damage for damage in damages if damage.refusal != first.refusal])
-    both = bytes(old ^ one ^ other for old, one, other
-                 in zip(given.reference, first.reference, second.reference))
-    if turn % 6 == 0:
-        return f"12 and {first.refusal}", replace(given, reference=first.reference[:15])
-    return f"{first.refusal} and {second.refusal}", replace(given, reference=both)
+def two_faults(written, damages_of):
+    """Two damages of different refusals at once. They leave the length and change different bits, so that both can be put in."""
+    def recipe(rng, turn):
+        _, given = written(rng, any_turn(rng))
+        damages = [damage for damage in damages_of(read_map(given.map_bytes), given.reference)
+                   if len(damage.reference) == len(given.reference)]
+        first = rng.choice(damages)
+        second = rng.choice([damage for damage in damages if damage.refusal != first.refusal])
+        both = bytes(old ^ one ^ other for old, one, other
+                     in zip(given.reference, first.reference, second.reference))
+        if turn % 6 == 0:
+            return f"12 and {first.refusal}", replace(given, reference=first.reference[:15])
+        return f"{first.refusal} and {second.refusal}", replace(given, reference=both)
+    return recipe
 
 
 def longest_reference(rng, turn):
@@ -461,11 +470,11 @@ def offsets_next_to_total(rng, turn):
 READ_RECIPES = {
     "written": written_input,
     "composed legs": composed_legs,
-    "changed byte": changed_byte,
+    "changed byte": changed_byte(written_input, composed_legs),
     "D or lowest class changed": changed_leg_field,
     "offset bytes changed": changed_offset_byte,
     "offsets one below the total": offsets_next_to_total,
-    "line buffer exactly long enough": lines_exactly_enough,
+    "line buffer exactly long enough": lines_exactly_enough(written_input, read_outcome),
     "work area long enough": work_area_exactly_enough(written_input),
     "shortest reference": shortest_reference,
     "longest reference": longest_reference,
@@ -478,7 +487,7 @@ READ_RECIPES = {
     "around the block": around_the_block,
     "full size": full_size,
     "sides of an edge": sides_of_an_edge,
-    "two faults": two_faults,
+    "two faults": two_faults(written_input, reference_damages),
     "refusal 1": work_area_too_short(written_input, {"map_bytes": b""}, {"reference": b""}, {"line_room": 0}),
     "refusal 2": damaged_map(2),
     "refusal 3": damaged_map(3),
@@ -508,5 +517,5 @@ READ_RECIPES = {
     "refusal 22": banned_joint,
     "refusal 19, no offset": offset_without_span,
     "refusal 19, total reached": offsets_reach_total,
-    "refusal 20": lines_too_few,
+    "refusal 20": lines_too_few(written_input, read_outcome),
 }

@@ -6,7 +6,7 @@ Longitudes are added up as paper 02 says it, "Depots on the 180th meridian".
 from depot_map import Node, read_map
 from fields import brought_round, code_pair, offset_span
 from legs import Leg, LegSearch, Marks, has_banned_pair, list_length
-from outcome import RefusedCall, StretchRead
+from outcome import RefusedCall, StretchRead, outcome_of
 from reference import take_apart
 
 LEAST_WORK_LENGTH = 14_336
@@ -100,7 +100,4 @@ def _read(map_bytes, reference_bytes, work_length, line_room):
 
 def read(map_bytes, reference_bytes, work_length, line_room):
     """The outcome of a call of the reader: StretchRead or Refused."""
-    try:
-        return _read(map_bytes, reference_bytes, work_length, line_room)
-    except RefusedCall as refusal:
-        return refusal.refused
+    return outcome_of(_read, map_bytes, reference_bytes, work_length, line_room)

@@ -1,14 +1,19 @@
-"""The bytes of a reference: taken apart and put together (scope paper, "The bytes"; refusals 12 to 15)."""
+"""The bytes of a reference: taken apart and put together (scope paper, "The bytes"; refusals 12 to 15).
+
+A reference is to a stretch or, by paper 02, "Signs and hydrants", to a point along a line. The latter has two points and status 2B; bits 7 and 6 of P are
+the orientation at the first point and the side of road at the last one.
+"""
 
 from dataclasses import dataclass
 from typing import Optional
 
 from outcome import RefusedCall
 
-STATUS_BYTE = 0x0B
+STRETCH_STATUS, POINT_STATUS = 0x0B, 0x2B
 SHORTEST_REFERENCE, LONGEST_REFERENCE = 16, 459
+LONGEST_POINT_ALONG_LINE = 17
 FIRST_POINT_LENGTH, MIDDLE_POINT_LENGTH, LAST_POINT_LENGTH = 9, 7, 6
-POSITIVE_FLAG, NEGATIVE_FLAG = 0x40, 0x20
+TOP_BIT, POSITIVE_FLAG, NEGATIVE_FLAG = 0x80, 0x40, 0x20
 
 
 @dataclass(frozen=True)
@@ -16,7 +21,7 @@ class Point:
     """A location reference point as its bytes say it.
 
     The first point holds the two codes, each later one the differences to the previous point.
-    The lowest FRC and the distance byte are None on the last point only.
+    The lowest FRC and the distance byte are None on the last point only. The top bits are bits 7 and 6 of P.
     """
     longitude: int
     latitude: int
@@ -25,6 +30,7 @@ class Point:
     sector: int
     lowest_frc: Optional[int] = None
     distance_byte: Optional[int] = None
+    top_bits: int = 0
 
 
 @dataclass(frozen=True)
@@ -52,14 +58,14 @@ def p_byte_positions(reference_length):
     return [first] + middle + [last_point_position(reference_length) + 4]
 
 
-def put_together(reference):
+def put_together(reference, status=STRETCH_STATUS):
     """The bytes of a reference."""
-    written = bytearray([STATUS_BYTE])
+    written = bytearray([status])
     for number, point in enumerate(reference.points):
         width = 3 if number == 0 else 2
         written += point.longitude.to_bytes(width, "big", signed=True)
         written += point.latitude.to_bytes(width, "big", signed=True)
-        written.append(point.frc * 8 + point.fow)
+        written.append(point.top_bits * 64 + point.frc * 8 + point.fow)
         if number < len(reference.points) - 1:
             written += bytes([point.lowest_frc * 32 + point.sector, point.distance_byte])
         else:
@@ -75,13 +81,26 @@ def _check_form(data):
     spare = (len(data) - SHORTEST_REFERENCE) % MIDDLE_POINT_LENGTH
     if not SHORTEST_REFERENCE <= len(data) <= LONGEST_REFERENCE or spare > 2:
         raise RefusedCall(12)
-    if data[0] != STATUS_BYTE:
+    if data[0] != STRETCH_STATUS:
         raise RefusedCall(13)
     r_byte = data[last_point_position(len(data)) + 5]
-    if any(data[position] & 0xC0 for position in p_byte_positions(len(data))) or r_byte & 0x80:
+    if any(data[position] & 0xC0 for position in p_byte_positions(len(data))) or r_byte & TOP_BIT:
         raise RefusedCall(14)
     flag_count = bool(r_byte & POSITIVE_FLAG) + bool(r_byte & NEGATIVE_FLAG)
     if spare != flag_count:
+        raise RefusedCall(15)
+
+
+def _check_point_form(data):
+    """The same of a point along a line. Its two P bytes have no bits that must be zero."""
+    if not SHORTEST_REFERENCE <= len(data) <= LONGEST_POINT_ALONG_LINE:
+        raise RefusedCall(12)
+    if data[0] != POINT_STATUS:
+        raise RefusedCall(13)
+    r_byte = data[last_point_position(len(data)) + 5]
+    if r_byte & (TOP_BIT | NEGATIVE_FLAG):
+        raise RefusedCall(14)
+    if len(data) - SHORTEST_REFERENCE != bool(r_byte & POSITIVE_FLAG):
         raise RefusedCall(15)
 
 
@@ -94,16 +113,15 @@ def _take_point(data, position, coordinate_width, is_last):
     return Point(
         longitude=signed(position),
         latitude=signed(position + coordinate_width),
-        frc=p_byte // 8,
+        frc=p_byte // 8 % 8,
         fow=p_byte % 8,
         sector=q_or_r_byte % 32,
         lowest_frc=None if is_last else q_or_r_byte // 32,
-        distance_byte=None if is_last else data[p_position + 2])
+        distance_byte=None if is_last else data[p_position + 2],
+        top_bits=p_byte // 64)
 
 
-def take_apart(data):
-    """The reference in the bytes, or RefusedCall with 12 to 15."""
-    _check_form(data)
+def _take_all(data):
     points = [_take_point(data, 1, 3, False)]
     position = 1 + FIRST_POINT_LENGTH
     for _ in range(middle_point_count(len(data))):
@@ -115,3 +133,15 @@ def take_apart(data):
     positive_byte = offset_bytes.pop(0) if r_byte & POSITIVE_FLAG else None
     negative_byte = offset_bytes.pop(0) if r_byte & NEGATIVE_FLAG else None
     return Reference(tuple(points), positive_byte, negative_byte)
+
+
+def take_apart(data):
+    """The reference to a stretch in the bytes, or RefusedCall with 12 to 15."""
+    _check_form(data)
+    return _take_all(data)
+
+
+def take_point_along_line(data):
+    """The same of a point along a line."""
+    _check_point_form(data)
+    return _take_all(data)

@@ -79,7 +79,7 @@ class Contracts(unittest.TestCase):
 class LineLengths(unittest.TestCase):
     def test_no_line_is_over_160_characters(self):
         # Not all of bench: what is built there may change meanwhile.
-        patterns = ("include/*.h", "tests/*", "examples/*.c", "oracle/*.py", "docs/*.py", "bench/*.*", "bench/src/**/*.rs", "bench/tests/*.rs",
+        patterns = ("include/*.h", "tests/*", "examples/*.[ch]", "oracle/*.py", "docs/*.py", "bench/*.*", "bench/src/**/*.rs", "bench/tests/*.rs",
                     "Makefile", ".ci/run")
         paths = [path for pattern in patterns for path in ROOT.glob(pattern)]
         self.assertGreater(len(paths), 60)

@@ -9,6 +9,7 @@ from fields import sector
 from format_page import format_page
 from outcome import Refused
 from sample_maps import ridge_map
+from test_points import HYDRANT
 from test_scope_paper import RIDGE, THREE_POINTS, THREE_POINTS_OFFSET_500, TWO_POINTS
 from test_stored_cases import EVERY_WRONG_STEP, wrong_step
 
@@ -24,7 +25,16 @@ class FormatPage(unittest.TestCase):
 
     def test_every_refusal_has_an_example(self):
         refused = {call.answer.number for call in PAGE.calls if isinstance(call.answer, Refused)}
-        self.assertEqual(refused, set(range(1, 25)))
+        self.assertEqual(refused, set(range(1, 26)))
+
+    def test_every_refusal_of_points_has_an_example(self):
+        for kind, expected in (("read point", {*range(12, 21)}), ("write point", {7, 9, 25, 10, 11})):
+            refused = {call.answer.number for call in PAGE.calls if call.kind == kind and isinstance(call.answer, Refused)}
+            self.assertEqual(refused & {*range(7, 23), 25}, expected)
+            self.assertTrue(any(call.kind == kind and not isinstance(call.answer, Refused) for call in PAGE.calls))
+
+    def test_point_on_the_ridge(self):
+        self.assertEqual(PAGE.names["hydrant"], HYDRANT)
 
     def test_formulas(self):
         for formula in PAGE.formulas:

@@ -1,5 +1,6 @@
 """The files of the examples, and what is printed for them."""
 
+import tempfile
 import unittest
 from pathlib import Path
 
@@ -7,6 +8,7 @@ from depot_map import map_to_bytes
 from outcome import ReferenceWritten
 from sample_maps import ridge_map
 from show import shown
+from test_points import HYDRANT
 from test_scope_paper import RIDGE, THREE_POINTS_OFFSET_500, TWO_POINTS, WORK
 from writer import write
 
@@ -27,6 +29,12 @@ class RidgeExample(unittest.TestCase):
     def test_printed(self):
         self.assertEqual(shown(FOLDER), "lines 2 pos 500 503 neg 0 0\n0\n1")
         self.assertEqual((PROGRAM / "stdout").read_text(), shown(FOLDER) + "\n")
+
+    def test_points_are_not_printed(self):
+        with tempfile.TemporaryDirectory() as folder:
+            for name, contents in (("map.bin", RIDGE), ("ref.bin", HYDRANT)):
+                (Path(folder) / name).write_bytes(contents)
+            self.assertEqual(shown(Path(folder)), "refused 13")
 
     def test_missing_files_count_as_empty(self):
         self.assertEqual(shown(FOLDER / "nothing here"), "refused 2")

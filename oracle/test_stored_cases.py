@@ -1,6 +1,6 @@
 """The stored cases of the test programs: every answer occurs, full-size maps with bans of each kind, the edges of the 180th meridian and those of sectors.
 
-That pack.py makes them is asked by its --check.
+That pack.py makes them is asked by its --check. What else is asked of points along a line is in test_point_cases.py.
 """
 
 import unittest
@@ -8,6 +8,7 @@ from dataclasses import replace
 from itertools import permutations
 from typing import NamedTuple
 
+import check_plain
 from cases import map_outcome
 from check_plain import cases_on_maps, in_groups, numbers_in, parts_of
 from crossings import reading_moves, stretch_moves
@@ -16,13 +17,13 @@ from depot_map import read_number
 from drawn_steps import ENDS_OF_RANGE, steps_at_edges
 from fields import LONGEST_LEG, sector
 from outcome import Refused, RefusedCall
-from pack import CRATES, MOST_CASE_BYTES
+from pack import CRATES, MOST_CASE_BYTES, PROGRAMS
 from sample_maps import FIRST_BEHIND, LAST_BEFORE, lies_across
 
 STEPS = ("steps_out", "steps_back")
 NORTH_STEPS = {north for _, north in STEP_PAIRS.values()}
 MAP_REFUSALS = {2, 3, 4, 5, 6, 23, 24}
-PARTS_OF_A_CASE = {"test_maps": 1, "test_legs": 2, "test_reads": 3, "test_writes": 3}
+PARTS_OF_A_CASE = {"test_maps": 1, "test_legs": 2, "test_reads": 3, "test_writes": 3, "test_points": 3}
 
 
 def case_bytes(name):
@@ -60,6 +61,11 @@ class StoredCases(unittest.TestCase):
         self.check_answers("test_legs", set(), {"none", "one", "several"})
         self.check_answers("test_reads", {1, *MAP_REFUSALS, *range(12, 21), 22}, {"lines"})
         self.check_answers("test_writes", {1, *MAP_REFUSALS, *range(7, 12), 21}, {"bytes"})
+        self.check_answers("test_points", {1, *MAP_REFUSALS, 7, *range(9, 21), 25}, {"lines", "bytes"})
+
+    def test_every_program_is_asked_and_held_to_plain_rust(self):
+        for programs in (PROGRAMS, check_plain.PROGRAMS):
+            self.assertEqual(set(programs), set(PARTS_OF_A_CASE))
 
     def test_counts_of_bans(self):
         counts = {int(row.split()[5]) for row in rows("test_maps") if row.startswith("nodes")}
@@ -67,7 +73,7 @@ class StoredCases(unittest.TestCase):
 
     def test_longest_line_behind_the_longest(self):
         # The longest way of a leg, by one line, and the longest line behind it: no greater sum of lengths can come up (W4).
-        for name in ("test_legs", "test_reads", "test_writes"):
+        for name in ("test_legs", "test_reads", "test_writes", "test_points"):
             with self.subTest(name):
                 longest = [[line for line in depot_map.lines if line.length == LONGEST_LEG] for depot_map in good_maps(name)]
                 self.assertTrue(any({line.end_node for line in lines} & {line.start_node for line in lines} for lines in longest))
@@ -218,7 +224,7 @@ def sectors_of_lines_alike(depot_map):
 
 class StepsOfLines(unittest.TestCase):
     def test_24_by_range_and_by_both_zero(self):
-        for name in ("test_maps", "test_reads", "test_writes"):
+        for name in ("test_maps", "test_reads", "test_writes", "test_points"):
             found = {wrong_step(map_bytes) for map_bytes in stored_maps(name) if map_bytes and map_outcome(map_bytes) == Refused(24)}
             self.assertEqual(found, EVERY_WRONG_STEP, name)
 
@@ -235,7 +241,8 @@ class StepsOfLines(unittest.TestCase):
 
     def test_lines_on_the_two_sides_of_each_edge(self):
         # On maps of two or three lines. Of one sector they are not told apart.
-        for name, accepted, refused in (("test_reads", "lines", "refused 18"), ("test_writes", "bytes", "refused 10")):
+        for name, accepted, refused in (("test_reads", "lines", "refused 18"), ("test_writes", "bytes", "refused 10"),
+                                        ("test_points", "lines", "refused 18"), ("test_points", "bytes", "refused 10")):
             calls = [(row, sectors) for depot_map, _, row in calls_on_good_maps(name) if len(depot_map.lines) <= 3
                      for sectors in sectors_of_lines_alike(depot_map)]
             edges = {second for row, (first, second) in calls if row.startswith(accepted) and second == (first + 1) % 32}

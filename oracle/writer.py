@@ -6,7 +6,7 @@ Differences of longitudes are paper 02's, "Depots on the 180th meridian" (fields
 from depot_map import read_map
 from fields import LONGEST_LEG, code_pair, differences, differences_fit, offset_byte
 from legs import LegSearch, Readings, describe_leg, has_banned_pair, list_length
-from outcome import ReferenceWritten, RefusedCall
+from outcome import ReferenceWritten, RefusedCall, outcome_of
 from reader import check_work_length
 from reference import Point, Reference, put_together
 
@@ -110,7 +110,4 @@ def _write(map_bytes, lines, positive_offset, negative_offset, work_length, byte
 
 def write(map_bytes, lines, pos, neg, work_length, byte_room):
     """The outcome of a call of the writer: ReferenceWritten or Refused."""
-    try:
-        return _write(map_bytes, tuple(lines), pos, neg, work_length, byte_room)
-    except RefusedCall as refusal:
-        return refusal.refused
+    return outcome_of(_write, map_bytes, tuple(lines), pos, neg, work_length, byte_room)

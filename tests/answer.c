@@ -1,7 +1,9 @@
 /* Answers calls of the C functions, one a row of standard input, for oracle/check_host.py:
 
      read MAP REFERENCE ROOM          ROOM is the line buffer's count of bytes
-     write MAP STRETCH POS NEG ROOM   STRETCH is the line numbers' bytes
+     write MAP STRETCH POS NEG ROOM   STRETCH is the line numbers' bytes, ROOM the byte buffer's count of bytes
+     read_point MAP REFERENCE ROOM
+     write_point MAP LINE OFFSET ORIENTATION SIDE ROOM
 
    Bytes are hexadecimal, and - where there are none. A call that changes the buffer where it must not is answered by "buffer". */
 #include "openlr.h"
@@ -29,56 +31,104 @@ static int kept(const uint8_t *buffer, size_t from, size_t room) {
     return 1;
 }
 
+static void print_refusal(uint32_t refusal, uint32_t place) {
+    printf("refused %u", (unsigned)refusal);
+    if (refusal >= OPENLR_NO_NODE && refusal <= OPENLR_SEVERAL_READINGS) printf(" %u", (unsigned)place);
+}
+
+static void print_lines(const uint8_t *line_buffer, size_t count) {
+    for (size_t i = 0; i < count; i++) {
+        const uint8_t *line = line_buffer + 4 * i;
+        printf(" %lu", line[0] + 256ul * line[1] + 65536ul * line[2] + 16777216ul * line[3]);
+    }
+}
+
 static void print_read(struct openlr_reading a, const uint8_t *line_buffer, size_t room) {
     if (!kept(line_buffer, 4 * (size_t)a.line_count, room)) {
         printf("buffer");
     } else if (a.refusal != 0) {
-        printf("refused %u", (unsigned)a.refusal);
-        if (a.refusal >= 16 && a.refusal <= 18) printf(" %u", (unsigned)a.place);
+        print_refusal(a.refusal, a.place);
     } else {
         printf("lines %u pos %u %u neg %u %u", (unsigned)a.line_count, (unsigned)a.pos_least, (unsigned)a.pos_greatest, (unsigned)a.neg_least,
                (unsigned)a.neg_greatest);
-        for (size_t i = 0; i < a.line_count; i++) {
-            const uint8_t *line = line_buffer + 4 * i;
-            printf(" %lu", line[0] + 256ul * line[1] + 65536ul * line[2] + 16777216ul * line[3]);
-        }
+        print_lines(line_buffer, a.line_count);
     }
-    printf("\n");
 }
 
-static void print_written(struct openlr_written a, const uint8_t *byte_buffer, size_t room) {
-    if (!kept(byte_buffer, a.byte_count, room)) {
+static void print_point(struct openlr_point a, const uint8_t *line_buffer, size_t room) {
+    if (!kept(line_buffer, 4 * (size_t)a.lines, room)) {
         printf("buffer");
     } else if (a.refusal != 0) {
-        printf("refused %u", (unsigned)a.refusal);
+        print_refusal(a.refusal, a.place);
     } else {
-        printf("bytes %u ", (unsigned)a.byte_count);
-        for (uint32_t i = 0; i < a.byte_count; i++) printf("%02X", byte_buffer[i]);
+        printf("lines %u offset %u %u orientation %u side %u", (unsigned)a.lines, (unsigned)a.least, (unsigned)a.greatest, (unsigned)a.orientation,
+               (unsigned)a.side);
+        print_lines(line_buffer, a.lines);
     }
-    printf("\n");
+}
+
+static void print_written(uint32_t refusal, uint32_t byte_count, const uint8_t *byte_buffer, size_t room) {
+    if (!kept(byte_buffer, byte_count, room)) {
+        printf("buffer");
+    } else if (refusal != 0) {
+        print_refusal(refusal, 0);
+    } else {
+        printf("bytes %u ", (unsigned)byte_count);
+        for (uint32_t i = 0; i < byte_count; i++) printf("%02X", byte_buffer[i]);
+    }
+}
+
+/* The next word of the row. */
+static const char *word(void) {
+    const char *text = strtok(NULL, " \n");
+    if (text == NULL) exit(2);
+    return text;
+}
+
+static uint32_t number(void) {
+    return (uint32_t)strtoul(word(), NULL, 10);
+}
+
+static size_t room_of(void) {
+    size_t room = strtoul(word(), NULL, 10);
+    if (room > LARGEST_BUFFER) exit(2);
+    return room;
+}
+
+static void answer(const char *kind) {
+    static uint8_t map[LONGEST_ROW / 2], given[LONGEST_ROW / 2], buffer[LARGEST_BUFFER + 1];
+    size_t map_len = bytes_of(word(), map);
+    int is_point = strcmp(kind, "write_point") == 0;
+    size_t given_len = is_point ? 0 : bytes_of(word(), given);
+    memset(buffer, UNTOUCHED, sizeof buffer);
+    if (strcmp(kind, "read") == 0) {
+        size_t room = room_of();
+        print_read(openlr_read(map, map_len, given, given_len, buffer, room), buffer, room);
+    } else if (strcmp(kind, "read_point") == 0) {
+        size_t room = room_of();
+        print_point(openlr_read_point(map, map_len, given, given_len, buffer, room), buffer, room);
+    } else if (is_point) {
+        uint32_t line = number(), offset = number(), orientation = number(), side = number();
+        size_t room = room_of();
+        struct openlr_point_written a = openlr_write_point(map, map_len, line, offset, orientation, side, buffer, room);
+        print_written(a.refusal, a.bytes, buffer, room);
+    } else if (strcmp(kind, "write") == 0) {
+        uint32_t pos = number(), neg = number();
+        size_t room = room_of();
+        struct openlr_written a = openlr_write(map, map_len, given, given_len, pos, neg, buffer, room);
+        print_written(a.refusal, a.byte_count, buffer, room);
+    } else {
+        exit(2);
+    }
 }
 
 int main(void) {
     static char row[LONGEST_ROW];
-    static uint8_t map[LONGEST_ROW / 2], given[LONGEST_ROW / 2], buffer[LARGEST_BUFFER + 1];
     while (fgets(row, sizeof row, stdin) != NULL) {
-        char *kind = strtok(row, " \n"), *map_text = strtok(NULL, " \n"), *given_text = strtok(NULL, " \n");
-        if (kind == NULL || map_text == NULL || given_text == NULL) return 2;
-        size_t map_len = bytes_of(map_text, map), given_len = bytes_of(given_text, given);
-        unsigned long numbers[3] = {0, 0, 0};
-        int count = strcmp(kind, "read") == 0 ? 1 : 3;
-        for (int i = 0; i < count; i++) {
-            char *text = strtok(NULL, " \n");
-            if (text == NULL) return 2;
-            numbers[i] = strtoul(text, NULL, 10);
-        }
-        size_t room = numbers[count - 1];
-        if (room > LARGEST_BUFFER) return 2;
-        memset(buffer, UNTOUCHED, sizeof buffer);
-        if (count == 1)
-            print_read(openlr_read(map, map_len, given, given_len, buffer, room), buffer, room);
-        else
-            print_written(openlr_write(map, map_len, given, given_len, (uint32_t)numbers[0], (uint32_t)numbers[1], buffer, room), buffer, room);
+        const char *kind = strtok(row, " \n");
+        if (kind == NULL) return 2;
+        answer(kind);
+        printf("\n");
     }
     return 0;
 }

@@ -1,6 +1,6 @@
-/* Both functions in a thread with a stack of just OPENLR_LEAST_STACK bytes, on full-size maps with 512 bans and on the calls that take most: 64 legs, 64 lines,
-   1,024 lines read, in many legs and in one. Prints how much of the stack was used, the thread's own part with it. It is compiled without sanitizers, which
-   need more stack. */
+/* The functions in a thread with a stack of just OPENLR_LEAST_STACK bytes, on full-size maps with 512 bans and on the calls that take most: 64 legs, 64 lines,
+   1,024 lines read, in many legs and in one, of a stretch and of a point. Prints how much of the stack was used, the thread's own part with it. It is compiled
+   without sanitizers, which need more stack. */
 #define _DEFAULT_SOURCE
 #include "ridge.h"
 
@@ -11,9 +11,11 @@ enum { NODES = 512, LINES = 1024, BANS = 512, GUARD = 65536, UNUSED = 0xA5 };
 
 static uint8_t map[OPENLR_LONGEST_MAP], given[OPENLR_LONGEST_REFERENCE], line_buffer[4 * OPENLR_MOST_LINES], byte_buffer[OPENLR_LONGEST_REFERENCE];
 static size_t map_len, given_len;
-static uint32_t pos, neg;
+static uint32_t pos, neg, point_line, point_offset;
 static struct openlr_reading reading;
 static struct openlr_written written;
+static struct openlr_point point;
+static struct openlr_point_written point_written;
 
 static void put_number(uint32_t number) {
     for (; number >= 128; number /= 128) map[map_len++] = (uint8_t)(number % 128 + 128);
@@ -67,6 +69,16 @@ static void *write_once(void *unused) {
     return unused;
 }
 
+static void *read_point_once(void *unused) {
+    point = openlr_read_point(map, map_len, given, given_len, line_buffer, sizeof line_buffer);
+    return unused;
+}
+
+static void *write_point_once(void *unused) {
+    point_written = openlr_write_point(map, map_len, point_line, point_offset, OPENLR_ORIENTATION_BOTH, OPENLR_SIDE_LEFT, byte_buffer, sizeof byte_buffer);
+    return unused;
+}
+
 /* Runs a call in a thread of its own. Below its stack no memory may be touched. */
 static void run(const char *what, void *(*call)(void *)) {
     uint8_t *memory = mmap(NULL, GUARD + OPENLR_LEAST_STACK, PROT_READ | PROT_WRITE, MAP_PRIVATE | MAP_ANONYMOUS, -1, 0), *stack = memory + GUARD;
@@ -101,9 +113,11 @@ static void read_most(void) {
 }
 
 /* Node 0, and around the others two lines from node to node: 1 to 511 the one time, 512 to 1,021 the other. Line 0 leads there, line 1,022 back, and line 1,023
-   there again with another form. Bans leave one way from line 0 to that last line: all 1,024 lines, 149,504 decimetres. D is 255. Node 1 is 100 to the east. */
+   there again with another form. Bans leave one way from line 0 to that last line: all 1,024 lines, 149,504 decimetres. D is 255. Node 1 is 100 to the east.
+   The same bytes are then a point, of orientation 3 and side 2. Byte FF of 149,504 is 148,920 to 149,503. */
 static void read_longest_leg(void) {
     static const uint8_t reference[] = {0x0B, 0, 0, 0, 0, 0, 0, 0x1B, 0x6C, 0xFF, 0, 0x64, 0, 0, 0x1D, 0x1C};
+    static const uint8_t point_bytes[] = {0x2B, 0, 0, 0, 0, 0, 0, 0xDB, 0x6C, 0xFF, 0, 0x64, 0, 0, 0x9D, 0x5C, 0xFF};
     put_nodes();
     put_line(0, 1, 146, 3);
     for (uint32_t i = 0; i < 511; i++) put_line(1 + i, 1 + (i + 1) % 511, 146, 3);
@@ -119,6 +133,12 @@ static void read_longest_leg(void) {
     given_len = sizeof reference;
     run("openlr_read, one leg of 1,024 lines", read_once);
     EXPECT(reading.refusal == 0 && reading.line_count == 1024);
+    for (uint32_t i = 0; i < 1024; i++) EXPECT(line_buffer[4 * i] == i % 256 && line_buffer[4 * i + 1] == i / 256);
+    memcpy(given, point_bytes, sizeof point_bytes);
+    given_len = sizeof point_bytes;
+    memset(line_buffer, 0, sizeof line_buffer);
+    run("openlr_read_point, 1,024 lines", read_point_once);
+    EXPECT(point.refusal == 0 && point.lines == 1024 && point.least == 148920 && point.greatest == 149503 && point.orientation == 3 && point.side == 2);
     for (uint32_t i = 0; i < 1024; i++) EXPECT(line_buffer[4 * i] == i % 256 && line_buffer[4 * i + 1] == i / 256);
 }
 
@@ -151,7 +171,8 @@ static void write_most_tests(void) {
     EXPECT(written.refusal == 0 && written.byte_count == 16 && byte_buffer[9] == 64000 / 586);
 }
 
-/* A map with every number as long as it can be. Up to three lines join the same two nodes; D tells them apart. */
+/* A map with every number as long as it can be. Up to three lines join the same two nodes; D tells them apart. Half of 150,000 is byte 80, which is 75,000 to
+   75,585 (256 x 75,586 / 150,000 is 129.0001). */
 static void longest_map(void) {
     map_len = 0;
     put_number(NODES);
@@ -179,6 +200,15 @@ static void longest_map(void) {
     given_len = 16;
     run("openlr_read, longest map", read_once);
     EXPECT(reading.refusal == 0 && reading.line_count == 1 && line_buffer[0] == 1);
+    point_line = 1;
+    point_offset = 75000;
+    run("openlr_write_point, longest map", write_point_once);
+    EXPECT(point_written.refusal == 0 && point_written.bytes == OPENLR_LONGEST_POINT && byte_buffer[16] == 0x80);
+    memcpy(given, byte_buffer, OPENLR_LONGEST_POINT);
+    given_len = OPENLR_LONGEST_POINT;
+    line_buffer[0] = 0;
+    run("openlr_read_point, longest map", read_point_once);
+    EXPECT(point.refusal == 0 && point.lines == 1 && line_buffer[0] == 1 && point.least == 75000 && point.greatest == 75585);
 }
 
 int main(void) {

@@ -31,10 +31,11 @@ static const uint8_t ridge[] = {
     0,                                                                                      /* bans */
 };
 
-/* Where some steps of two bytes stand: out east and back north of line 0, out north of line 2, out east and back north of line 3. */
-enum { OUT_EAST_0 = 40, BACK_NORTH_0 = 45, OUT_NORTH_2 = 68, OUT_EAST_3 = 79, BACK_NORTH_3 = 83 };
+/* Where some numbers of two bytes stand: the steps out east and back north of line 0, the length of line 2 and its steps out, the steps out east and back north
+   of line 3. */
+enum { OUT_EAST_0 = 40, BACK_NORTH_0 = 45, LENGTH_2 = 62, OUT_EAST_2 = 66, OUT_NORTH_2 = 68, OUT_EAST_3 = 79, BACK_NORTH_3 = 83 };
 
-/* The ridge with one of these steps stored as another number of two bytes. */
+/* The ridge with one of these stored as another number of two bytes. */
 static inline void put_ridge_with_step(uint8_t *bytes, size_t at, uint32_t number) {
     memcpy(bytes, ridge, sizeof ridge);
     bytes[at] = (uint8_t)(number % 128 + 128);

@@ -20,6 +20,12 @@ impl Node {
         [longitude, other.latitude - self.latitude]
     }
 
+    /// Whether they fit 16 bits.
+    pub fn differences_fit(self, other: Node) -> bool {
+        let differences = self.differences_to(other);
+        differences.map(i16::try_from).iter().all(Result::is_ok)
+    }
+
     /// The place at these differences of 16 bits. No node need stand there: the longitude may be
     /// 17,999,999, and the latitude beyond a pole.
     #[inline]

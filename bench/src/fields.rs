@@ -8,17 +8,35 @@ pub const LONGEST_LEG: u32 = 150_000;
 /// One step of D, in decimetres.
 pub const DISTANCE_STEP: u32 = 586;
 
+/// Of a stretch, and of a point along a line.
 pub const STATUS_BYTE: u8 = 0x0B;
+pub const POINT_STATUS_BYTE: u8 = 0x2B;
+
 pub const SHORTEST_REFERENCE: usize = 16;
 pub const LONGEST_REFERENCE: usize = 459;
+pub const LONGEST_POINT: usize = 17;
 pub const FIRST_POINT_BYTES: usize = 9;
 pub const MIDDLE_POINT_BYTES: usize = 7;
 
-/// Bits 7 and 6 of P and bit 7 of R are zero.
+/// Bits 7 and 6 of P are zero in the reference of a stretch. Those of a point along a line have the
+/// orientation in the first P and the side of road in the last.
 pub const ZERO_BITS_OF_P: u8 = 0xC0;
+pub const ORIENTATION_OR_SIDE_SHIFT: u32 = 6;
+pub const GREATEST_ORIENTATION_OR_SIDE: u32 = 3;
+
+/// Bit 7 of R is zero.
 pub const ZERO_BIT_OF_R: u8 = 0x80;
 pub const POSITIVE_FLAG: u8 = 0x40;
 pub const NEGATIVE_FLAG: u8 = 0x20;
+
+/// Where P of a point stands among the bytes; the byte after it is Q or R, and the one after Q is D.
+///
+/// The first point is preceded by the status byte and has two bytes more than the others, so that
+/// they are all seven bytes apart.
+#[inline]
+pub fn place_of_p(point: usize) -> usize {
+    FIRST_POINT_BYTES - 2 + MIDDLE_POINT_BYTES * point
+}
 
 /// What a point says of its line: FRC and FOW from P, the sector from Q or R.
 #[derive(Clone, Copy, Debug, PartialEq, Eq)]

@@ -1,9 +1,11 @@
 //! The benchmark: each row times the proved function and the plain Rust one in turn, in one
 //! process, and prints `what | ours µs | plain Rust µs | ratio`.
 
+mod point_rows;
 mod proved;
 mod worst;
 
+use std::borrow::Borrow;
 use std::hint::black_box;
 use std::time::{Duration, Instant};
 
@@ -12,7 +14,7 @@ use plain::maps::{
     chain, grid, hub, random_graph, random_roads, random_walk, reference_with_legs, steep, Bans,
     Lengths, MapPlan, Turns, Xorshift,
 };
-use plain::outcome::WORK_AREA;
+use plain::outcome::{Outcome, WORK_AREA};
 use plain::reader::read;
 use plain::search::{Bounds, Method, Search};
 use plain::writer::{effort, write, write_on_map};
@@ -154,7 +156,7 @@ fn sample(name: &'static str, plan: MapPlan) -> Sample {
     Sample { name, bytes, map }
 }
 
-/// Prints the rows of every kind but worst, or of the kind that the argument names: decode, search, read, write or worst.
+/// Prints the rows of every kind but worst, or of the kind that the argument names: decode, search, read, write, point or worst.
 /// `worst TEXT` prints those of the maps with this text in their names; they may take minutes.
 /// `once ROW` times nothing, for counting calls.
 fn main() {
@@ -180,6 +182,9 @@ fn main() {
         }
         if wanted("write") {
             writing_rows(sample);
+        }
+        if wanted("point") {
+            point_rows::print_rows(sample);
         }
     }
     if wanted("decode") {
@@ -313,7 +318,7 @@ fn reading_rows(sample: &Sample) {
             continue;
         }
         for (reference, lines) in &references {
-            check_proved_reading(sample, reference, lines);
+            check_proved_reading(sample, reference, lines, proved::read);
         }
         let lines: usize = references.iter().map(|(_, lines)| lines.len()).sum();
         let lines = lines / references.len();
@@ -322,25 +327,35 @@ fn reading_rows(sample: &Sample) {
         if lines > KEPT_LINES {
             what += " (made twice, no aim)";
         }
-        reading_row(what, sample, references).print();
+        reading_row(what, sample, references, proved::read, read).print();
     }
 }
 
+/// A proved reader: of a map and a reference, with a work area and a line buffer. The answer is the
+/// number of the refusal, or 0.
+type ProvedRead = fn(&[u8], &[u8], &mut [u32], &mut [u32]) -> u32;
+
 /// What is timed is a reading of these lines.
-fn check_proved_reading(sample: &Sample, reference: &[u8], lines: &[u32]) {
+fn check_proved_reading(sample: &Sample, reference: &[u8], lines: &[u32], ours: ProvedRead) {
     let mut work_area = vec![0; WORK_AREA];
     let mut line_buffer = vec![u32::MAX; LINE_ROOM];
-    let refusal = proved::read(&sample.bytes, reference, &mut work_area, &mut line_buffer);
+    let refusal = ours(&sample.bytes, reference, &mut work_area, &mut line_buffer);
     assert_eq!(refusal, 0, "the plain reader accepts the reference");
     assert_eq!(&line_buffer[..lines.len()], lines);
 }
 
-fn reading_row(what: String, sample: &Sample, references: Vec<Vec<u8>>) -> Row<'_> {
+fn reading_row<'a, Read>(
+    what: String,
+    sample: &'a Sample,
+    references: Vec<Vec<u8>>,
+    ours: ProvedRead,
+    plain: impl Fn(&[u8], &[u8], usize, usize) -> Outcome<Read> + 'a,
+) -> Row<'a> {
     let inputs = references.len();
-    let ours = proved_reading(sample, references.clone());
+    let ours = proved_reading(sample, references.clone(), ours);
     let plain = move |input: usize| {
         let (map_bytes, reference) = black_box((&sample.bytes, &references[input]));
-        let _ = black_box(read(map_bytes, reference, WORK_AREA, LINE_ROOM));
+        let _ = black_box(plain(map_bytes, reference, WORK_AREA, LINE_ROOM));
     };
     Row {
         what,
@@ -350,12 +365,12 @@ fn reading_row(what: String, sample: &Sample, references: Vec<Vec<u8>>) -> Row<'
     }
 }
 
-fn proved_reading(sample: &Sample, references: Vec<Vec<u8>>) -> Call<'_> {
+fn proved_reading(sample: &Sample, references: Vec<Vec<u8>>, ours: ProvedRead) -> Call<'_> {
     let mut work_area = vec![0; WORK_AREA];
     let mut line_buffer = vec![0; LINE_ROOM];
     Box::new(move |input| {
         let (map_bytes, reference) = black_box((&sample.bytes, &references[input]));
-        let refusal = proved::read(map_bytes, reference, &mut work_area, &mut line_buffer);
+        let refusal = ours(map_bytes, reference, &mut work_area, &mut line_buffer);
         black_box(refusal);
     })
 }
@@ -369,22 +384,40 @@ fn writing_rows(sample: &Sample) {
             continue;
         }
         for stretch in &stretches {
-            check_proved_writing(sample, stretch);
+            let outcome = write_on_map(&sample.map, stretch, 0, 0, BYTE_ROOM);
+            check_proved_writing(sample, stretch.as_slice(), &outcome, proved::write);
         }
         let what = format!("write, {}, lines {count}", sample.name);
         let effort = mean_effort(sample, &stretches);
-        writing_row(what.clone(), sample, stretches).print();
+        let write = |map: &[u8], stretch: &[u32]| write(map, stretch, 0, 0, WORK_AREA, BYTE_ROOM);
+        writing_row(what.clone(), sample, stretches, proved::write, write).print();
         println!("{what}, plain Rust: {effort}");
     }
 }
 
-/// What is timed is a writing of the same bytes.
-fn check_proved_writing(sample: &Sample, stretch: &[u32]) {
-    let reference = write_on_map(&sample.map, stretch, 0, 0, BYTE_ROOM).expect("it is accepted");
+/// A proved writer: of a map and a stretch or a point, with a work area and a byte buffer. The answer is
+/// the count of bytes, or the number of the refusal.
+type ProvedWrite<Given> = fn(&[u8], &Given, &mut [u32], &mut [u8]) -> usize;
+
+/// What is timed is a writing of the same bytes, or the same refusal.
+fn check_proved_writing<Given: ?Sized>(
+    sample: &Sample,
+    given: &Given,
+    outcome: &Outcome<Vec<u8>>,
+    ours: ProvedWrite<Given>,
+) {
     let mut work_area = vec![0; WORK_AREA];
     let mut byte_buffer = vec![0; BYTE_ROOM];
-    let written = proved::write(&sample.bytes, stretch, &mut work_area, &mut byte_buffer);
-    assert_eq!(byte_buffer.get(..written), Some(reference.as_slice()));
+    let answer = ours(&sample.bytes, given, &mut work_area, &mut byte_buffer);
+    check_written(answer, &byte_buffer, outcome);
+}
+
+/// The plain writer answers the same.
+fn check_written(answer: usize, byte_buffer: &[u8], outcome: &Outcome<Vec<u8>>) {
+    match outcome {
+        Ok(reference) => assert_eq!(byte_buffer.get(..answer), Some(reference.as_slice())),
+        Err(refusal) => assert_eq!(answer, refusal.number() as usize),
+    }
 }
 
 /// Of one stretch.
@@ -415,7 +448,7 @@ fn write_once() {
         sample.name,
         stretches.len()
     );
-    inputs.for_each(proved_writing(sample, stretches));
+    inputs.for_each(proved_writing(sample, stretches, proved::write));
 }
 
 fn accepted_stretches(sample: &Sample, count: usize) -> Vec<Vec<u32>> {
@@ -426,12 +459,18 @@ fn accepted_stretches(sample: &Sample, count: usize) -> Vec<Vec<u32>> {
     walks.filter(accepted).take(INPUTS).collect()
 }
 
-fn writing_row(what: String, sample: &Sample, stretches: Vec<Vec<u32>>) -> Row<'_> {
-    let inputs = stretches.len();
-    let ours = proved_writing(sample, stretches.clone());
+fn writing_row<'a, Owned: Borrow<Given> + Clone + 'a, Given: ?Sized + 'a>(
+    what: String,
+    sample: &'a Sample,
+    given: Vec<Owned>,
+    ours: ProvedWrite<Given>,
+    plain: impl Fn(&[u8], &Given) -> Outcome<Vec<u8>> + 'a,
+) -> Row<'a> {
+    let inputs = given.len();
+    let ours = proved_writing(sample, given.clone(), ours);
     let plain = move |input: usize| {
-        let (map_bytes, stretch) = black_box((&sample.bytes, &stretches[input]));
-        let _ = black_box(write(map_bytes, stretch, 0, 0, WORK_AREA, BYTE_ROOM));
+        let (map_bytes, given) = black_box((&sample.bytes, given[input].borrow()));
+        let _ = black_box(plain(map_bytes, given));
     };
     Row {
         what,
@@ -441,12 +480,16 @@ fn writing_row(what: String, sample: &Sample, stretches: Vec<Vec<u32>>) -> Row<'
     }
 }
 
-fn proved_writing(sample: &Sample, stretches: Vec<Vec<u32>>) -> Call<'_> {
+fn proved_writing<'a, Owned: Borrow<Given> + 'a, Given: ?Sized + 'a>(
+    sample: &'a Sample,
+    given: Vec<Owned>,
+    ours: ProvedWrite<Given>,
+) -> Call<'a> {
     let mut work_area = vec![0; WORK_AREA];
     let mut byte_buffer = vec![0; BYTE_ROOM];
     Box::new(move |input| {
-        let (map_bytes, stretch) = black_box((&sample.bytes, &stretches[input]));
-        let written = proved::write(map_bytes, stretch, &mut work_area, &mut byte_buffer);
+        let (map_bytes, given) = black_box((&sample.bytes, given[input].borrow()));
+        let written = ours(map_bytes, given, &mut work_area, &mut byte_buffer);
         black_box(written);
     })
 }

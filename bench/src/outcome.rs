@@ -29,6 +29,7 @@ pub enum Refusal {
     BannedWhereLegsMeet,
     NoSuchTurn,
     Step,
+    OrientationOrSide,
 }
 
 pub type Outcome<T> = Result<T, Refusal>;
@@ -46,6 +47,16 @@ pub struct Reading {
     pub lines: Vec<u32>,
     pub positive: Span,
     pub negative: Span,
+}
+
+/// What the reader of points hands back when it accepts: the lines between the two points, how far
+/// along them the thing is, and the white paper's numbers for its orientation and its side of road.
+#[derive(Clone, Debug, PartialEq, Eq)]
+pub struct PointReading {
+    pub lines: Vec<u32>,
+    pub offset: Span,
+    pub orientation: u32,
+    pub side: u32,
 }
 
 /// "Every call": the least work area, in numbers of 32 bits.
@@ -85,6 +96,7 @@ impl Refusal {
             Refusal::BannedWhereLegsMeet => 22,
             Refusal::NoSuchTurn => 23,
             Refusal::Step => 24,
+            Refusal::OrientationOrSide => 25,
         }
     }
 
@@ -120,9 +132,19 @@ impl fmt::Display for Reading {
             positive.greatest
         )?;
         write!(out, " neg {} {}", negative.least, negative.greatest)?;
-        for line in &self.lines {
-            write!(out, "\n{line}")?;
-        }
-        Ok(())
+        write_lines(out, &self.lines)
     }
+}
+
+impl fmt::Display for PointReading {
+    fn fmt(&self, out: &mut fmt::Formatter<'_>) -> fmt::Result {
+        let Span { least, greatest } = self.offset;
+        write!(out, "lines {} offset {least} {greatest}", self.lines.len())?;
+        write!(out, " orientation {} side {}", self.orientation, self.side)?;
+        write_lines(out, &self.lines)
+    }
+}
+
+fn write_lines(out: &mut fmt::Formatter<'_>, lines: &[u32]) -> fmt::Result {
+    lines.iter().try_for_each(|line| write!(out, "\n{line}"))
 }

@@ -1,6 +1,8 @@
 //! The proved functions that are timed, those of crates/measured. Each reads and writes within the
 //! slices that it is lent alone; that it does is proved.
 
+use plain::point::Point;
+
 #[link(name = "measured", kind = "static")]
 extern "C" {
     fn measured_read_map(map: *const u8, map_len: usize, work: *mut u32, work_len: usize) -> u32;
@@ -31,6 +33,28 @@ extern "C" {
         stretch_len: usize,
         pos: u32,
         neg: u32,
+        work: *mut u32,
+        work_len: usize,
+        bytes: *mut u8,
+        bytes_len: usize,
+    ) -> usize;
+    fn measured_read_point(
+        map: *const u8,
+        map_len: usize,
+        reference: *const u8,
+        reference_len: usize,
+        work: *mut u32,
+        work_len: usize,
+        lines: *mut u32,
+        lines_len: usize,
+    ) -> u32;
+    fn measured_write_point(
+        map: *const u8,
+        map_len: usize,
+        line: u32,
+        offset: u32,
+        orientation: u32,
+        side: u32,
         work: *mut u32,
         work_len: usize,
         bytes: *mut u8,
@@ -112,6 +136,50 @@ pub fn write(
             stretch.len(),
             0,
             0,
+            work_area.as_mut_ptr(),
+            work_area.len(),
+            byte_buffer.as_mut_ptr(),
+            byte_buffer.len(),
+        )
+    }
+}
+
+/// Reads a point into the line buffer. The answer is the number of the refusal, or 0.
+pub fn read_point(
+    map_bytes: &[u8],
+    reference: &[u8],
+    work_area: &mut [u32],
+    line_buffer: &mut [u32],
+) -> u32 {
+    unsafe {
+        measured_read_point(
+            map_bytes.as_ptr(),
+            map_bytes.len(),
+            reference.as_ptr(),
+            reference.len(),
+            work_area.as_mut_ptr(),
+            work_area.len(),
+            line_buffer.as_mut_ptr(),
+            line_buffer.len(),
+        )
+    }
+}
+
+/// Writes a point into the byte buffer. The answer is the count of bytes, or the number of the refusal.
+pub fn write_point(
+    map_bytes: &[u8],
+    point: &Point,
+    work_area: &mut [u32],
+    byte_buffer: &mut [u8],
+) -> usize {
+    unsafe {
+        measured_write_point(
+            map_bytes.as_ptr(),
+            map_bytes.len(),
+            point.line,
+            point.offset,
+            point.orientation,
+            point.side,
             work_area.as_mut_ptr(),
             work_area.len(),
             byte_buffer.as_mut_ptr(),

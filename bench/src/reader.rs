@@ -2,8 +2,9 @@
 
 use crate::depot_map::DepotMap;
 use crate::fields::{
-    offset_span, Marks, LONGEST_REFERENCE, MIDDLE_POINT_BYTES, NEGATIVE_FLAG, POSITIVE_FLAG,
-    SHORTEST_REFERENCE, STATUS_BYTE, ZERO_BITS_OF_P, ZERO_BIT_OF_R,
+    offset_span, place_of_p, Marks, LONGEST_POINT, LONGEST_REFERENCE, MIDDLE_POINT_BYTES,
+    NEGATIVE_FLAG, POINT_STATUS_BYTE, POSITIVE_FLAG, SHORTEST_REFERENCE, STATUS_BYTE,
+    ZERO_BITS_OF_P, ZERO_BIT_OF_R,
 };
 use crate::legs::{verdict, Leg, LegEnd, Verdict};
 use crate::outcome::{check_work_area, Outcome, Reading, Refusal, Span};
@@ -23,38 +24,7 @@ pub fn read(
 
 /// Reads a reference on a map that is read already: refusals 12 to 20 and 22.
 pub fn read_on_map(map: &DepotMap, reference: &[u8], line_room: usize) -> Outcome<Reading> {
-    let reference = Reference::new(reference)?;
-    let nodes = reference.nodes(map)?;
-    let mut search = Search::new(map, Method::NodeAndLineHeap);
-    let mut lines = Vec::new();
-    let mut lengths = LegLengths::default();
-    let mut banned_where_legs_meet = false;
-    for (number, ends) in nodes.windows(2).enumerate() {
-        let leg = reference.leg(number, ends[0], ends[1]);
-        let before = lines.len();
-        match verdict(map, &mut search, &leg, &mut lines) {
-            Verdict::None => return Err(Refusal::LegWithoutReading(number as u32)),
-            Verdict::Several => return Err(Refusal::LegWithSeveralReadings(number as u32)),
-            Verdict::One => {}
-        }
-        if let [.., last] = lines[..before] {
-            banned_where_legs_meet |= map.is_banned(last, lines[before]);
-        }
-        let leg_lines = lines[before..].iter();
-        lengths.add(leg_lines.map(|&line| map.line(line).length).sum());
-    }
-    if banned_where_legs_meet {
-        return Err(Refusal::BannedWhereLegsMeet);
-    }
-    let (positive, negative) = reference.spans(lengths)?;
-    if lines.len() > line_room {
-        return Err(Refusal::LineRoom);
-    }
-    Ok(Reading {
-        lines,
-        positive,
-        negative,
-    })
+    Reference::new(reference)?.read_on_map(map, line_room)
 }
 
 #[derive(Clone, Copy, Default)]
@@ -75,16 +45,15 @@ impl LegLengths {
     }
 }
 
-/// The bytes of a reference that refusals 12 to 15 let pass.
-///
-/// The first point is preceded by the status byte and has two bytes more than the others, so that
-/// point k has its P at byte 7 + 7k, and the differences of a later one start four bytes before.
-struct Reference<'a> {
+/// The bytes of a reference that refusals 12 to 15 let pass, those of a stretch or those of a point
+/// along a line.
+pub(crate) struct Reference<'a> {
     bytes: &'a [u8],
     legs: usize,
 }
 
 impl<'a> Reference<'a> {
+    /// Of a stretch.
     fn new(bytes: &'a [u8]) -> Outcome<Reference<'a>> {
         if bytes.len() < SHORTEST_REFERENCE || bytes.len() > LONGEST_REFERENCE {
             return Err(Refusal::ReferenceLength);
@@ -103,20 +72,75 @@ impl<'a> Reference<'a> {
         if p_has_zero_bit || reference.r() & ZERO_BIT_OF_R != 0 {
             return Err(Refusal::ZeroBit);
         }
-        let flags = (reference.r() & (POSITIVE_FLAG | NEGATIVE_FLAG)).count_ones();
+        reference.with_flags(offset_bytes)
+    }
+
+    /// Of a point along a line.
+    pub(crate) fn of_point(bytes: &'a [u8]) -> Outcome<Reference<'a>> {
+        if bytes.len() < SHORTEST_REFERENCE || bytes.len() > LONGEST_POINT {
+            return Err(Refusal::ReferenceLength);
+        }
+        if bytes[0] != POINT_STATUS_BYTE {
+            return Err(Refusal::StatusByte);
+        }
+        let reference = Reference { bytes, legs: 1 };
+        if reference.r() & (ZERO_BIT_OF_R | NEGATIVE_FLAG) != 0 {
+            return Err(Refusal::ZeroBit);
+        }
+        reference.with_flags(bytes.len() - SHORTEST_REFERENCE)
+    }
+
+    /// Refusal 15: there are not as many flags as offset bytes.
+    fn with_flags(self, offset_bytes: usize) -> Outcome<Reference<'a>> {
+        let flags = (self.r() & (POSITIVE_FLAG | NEGATIVE_FLAG)).count_ones();
         if offset_bytes != flags as usize {
             return Err(Refusal::FlagCount);
         }
-        Ok(reference)
+        Ok(self)
     }
 
-    fn p(&self, point: usize) -> u8 {
-        self.bytes[7 + 7 * point]
+    /// Refusals 16 to 20 and 22.
+    pub(crate) fn read_on_map(&self, map: &DepotMap, line_room: usize) -> Outcome<Reading> {
+        let nodes = self.nodes(map)?;
+        let mut search = Search::new(map, Method::NodeAndLineHeap);
+        let mut lines = Vec::new();
+        let mut lengths = LegLengths::default();
+        let mut banned_where_legs_meet = false;
+        for (number, ends) in nodes.windows(2).enumerate() {
+            let leg = self.leg(number, ends[0], ends[1]);
+            let before = lines.len();
+            match verdict(map, &mut search, &leg, &mut lines) {
+                Verdict::None => return Err(Refusal::LegWithoutReading(number as u32)),
+                Verdict::Several => return Err(Refusal::LegWithSeveralReadings(number as u32)),
+                Verdict::One => {}
+            }
+            if let [.., last] = lines[..before] {
+                banned_where_legs_meet |= map.is_banned(last, lines[before]);
+            }
+            let leg_lines = lines[before..].iter();
+            lengths.add(leg_lines.map(|&line| map.line(line).length).sum());
+        }
+        if banned_where_legs_meet {
+            return Err(Refusal::BannedWhereLegsMeet);
+        }
+        let (positive, negative) = self.spans(lengths)?;
+        if lines.len() > line_room {
+            return Err(Refusal::LineRoom);
+        }
+        Ok(Reading {
+            lines,
+            positive,
+            negative,
+        })
+    }
+
+    pub(crate) fn p(&self, point: usize) -> u8 {
+        self.bytes[place_of_p(point)]
     }
 
     /// The byte after P: Q, or R on the last point.
     fn beside_p(&self, point: usize) -> u8 {
-        self.bytes[8 + 7 * point]
+        self.bytes[place_of_p(point) + 1]
     }
 
     fn r(&self) -> u8 {
@@ -133,7 +157,7 @@ impl<'a> Reference<'a> {
             start,
             first_marks: self.marks(number),
             lowest_class: self.beside_p(number) >> 5,
-            distance: self.bytes[9 + 7 * number],
+            distance: self.bytes[place_of_p(number) + 2],
             end: LegEnd {
                 node: end,
                 last_marks: is_last.then(|| self.marks(self.legs)),
@@ -150,7 +174,7 @@ impl<'a> Reference<'a> {
         let mut nodes = Vec::with_capacity(self.legs + 1);
         nodes.push(node);
         for point in 1..=self.legs {
-            let differences = [3, 5].map(|at| self.signed_16_bits(at + 7 * point));
+            let differences = [4, 2].map(|before| self.signed_16_bits(place_of_p(point) - before));
             let place = map.node(node).place_at(differences);
             let refusal = Refusal::PointWithoutNode(point as u32);
             node = map.node_at(place).ok_or(refusal)?;
@@ -170,7 +194,7 @@ impl<'a> Reference<'a> {
 
     /// The spans of the positive and of the negative offset, or refusal 19.
     fn spans(&self, lengths: LegLengths) -> Outcome<(Span, Span)> {
-        let mut offset_bytes = self.bytes[9 + 7 * self.legs..].iter();
+        let mut offset_bytes = self.bytes[place_of_p(self.legs) + 2..].iter();
         let mut span = |flag: u8, leg_length: u32| {
             if self.r() & flag == 0 {
                 return Ok(Span::default());

@@ -1,17 +1,21 @@
-//! The rows of the worst calls: a search, a reading of 64 legs and a writing of 64 lines on each map
-//! made against the reader and the writer.
+//! The rows of the worst calls: a search, a reading of 64 legs and a writing of 64 lines, and a reading and
+//! a writing of a point, on each map made against the reader and the writer.
 
 use std::hint::black_box;
 use std::time::{Duration, Instant};
 
 use plain::depot_map::{DepotMap, Direction};
-use plain::outcome::{Outcome, Reading, WORK_AREA};
+use plain::fields::LONGEST_POINT;
+use plain::outcome::{Outcome, WORK_AREA};
+use plain::point::{point_bytes, read_point, write_point, Point};
 use plain::reader::read;
 use plain::search::{Bounds, Method, Search};
 use plain::worst_maps::{worst_cases, WorstCase};
 use plain::writer::{reference_bytes, write, Stretch};
 
-use crate::{proved, time_in_turn, BYTE_ROOM, LINE_ROOM, SEARCHES};
+use crate::{
+    check_written, proved, time_in_turn, ProvedRead, ProvedWrite, BYTE_ROOM, LINE_ROOM, SEARCHES,
+};
 
 /// A call that takes longer is timed once.
 const SLOW_CALL: Duration = Duration::from_millis(200);
@@ -29,8 +33,8 @@ struct Sample {
 
 /// Prints the rows of the maps with this text in their names, and then the longest calls of ours.
 pub fn print_rows(text: &str) {
-    let mut reading = Longest::default();
-    let mut writing = Longest::default();
+    let [mut reading, mut writing, mut point_reading, mut point_writing] =
+        [(); 4].map(|()| Longest::default());
     let wanted = |case: &WorstCase| case.name.contains(text);
     for case in worst_cases().into_iter().filter(wanted) {
         let bytes = case.plan.encode();
@@ -39,9 +43,13 @@ pub fn print_rows(text: &str) {
         print_search_row(&sample);
         reading.take(print_reading_row(&sample));
         writing.take(print_writing_row(&sample));
+        point_reading.take(print_point_reading_row(&sample));
+        point_writing.take(print_point_writing_row(&sample));
     }
     println!("longest reading of ours: {}", reading.text());
     println!("longest writing of ours: {}", writing.text());
+    println!("longest reading of a point: {}", point_reading.text());
+    println!("longest writing of a point: {}", point_writing.text());
 }
 
 /// A row, what it says of ours in microseconds, and how many times its legs or lines there are.
@@ -157,20 +165,22 @@ fn outcome_text<T>(outcome: &Outcome<T>) -> String {
     }
 }
 
-/// A call of the proved reader.
+/// A call of a proved reader.
 struct ProvedReading<'a> {
     sample: &'a Sample,
     reference: &'a [u8],
+    read: ProvedRead,
     work_area: Vec<u32>,
     line_buffer: Vec<u32>,
     refusal: u32,
 }
 
 impl ProvedReading<'_> {
-    fn new<'a>(sample: &'a Sample, reference: &'a [u8]) -> ProvedReading<'a> {
+    fn new<'a>(sample: &'a Sample, reference: &'a [u8], read: ProvedRead) -> ProvedReading<'a> {
         ProvedReading {
             sample,
             reference,
+            read,
             work_area: vec![0; WORK_AREA],
             line_buffer: vec![u32::MAX; LINE_ROOM],
             refusal: 0,
@@ -180,19 +190,35 @@ impl ProvedReading<'_> {
     fn run(&mut self) {
         let (map_bytes, reference) = black_box((&self.sample.bytes, self.reference));
         let lines = &mut self.line_buffer;
-        self.refusal = proved::read(map_bytes, reference, &mut self.work_area, lines);
+        self.refusal = (self.read)(map_bytes, reference, &mut self.work_area, lines);
     }
 
     /// The plain reader answers the same.
-    fn check(&self, outcome: &Outcome<Reading>) {
-        match outcome {
-            Ok(reading) => {
-                let (found, rest) = self.line_buffer.split_at(reading.lines.len());
-                assert_eq!((self.refusal, found), (0, reading.lines.as_slice()));
+    fn check(&self, lines: &Outcome<Vec<u32>>) {
+        match lines {
+            Ok(lines) => {
+                let (found, rest) = self.line_buffer.split_at(lines.len());
+                assert_eq!((self.refusal, found), (0, lines.as_slice()));
                 assert!(rest.iter().all(|&line| line == u32::MAX));
             }
             Err(refusal) => assert_eq!(self.refusal, refusal.number()),
         }
+    }
+
+    /// Times it against the plain reader and prints the row.
+    fn print_row(&mut self, what: &str, read: impl Fn() -> Outcome<Vec<u32>>) -> (String, f64) {
+        let mut outcome = None;
+        let first = [
+            time_once(&mut || self.run()),
+            time_once(&mut || outcome = Some(read())),
+        ];
+        let outcome = outcome.expect("it is read");
+        self.check(&outcome);
+        let lines = outcome.as_ref().map_or(0, Vec::len);
+        let what = format!("{what}, lines {lines}, {}", outcome_text(&outcome));
+        let times = times_after(first, &mut || self.run(), &mut || drop(read()));
+        print_row(&what, times);
+        (what, times[0])
     }
 }
 
@@ -200,27 +226,41 @@ impl ProvedReading<'_> {
 fn print_reading_row(sample: &Sample) -> Printed {
     let all = sample.case.legs.len();
     let part = reference_of_last_legs(sample, PART);
-    let mut part = ProvedReading::new(sample, &part);
+    let mut part = ProvedReading::new(sample, &part, proved::read);
     let count = count_in_time(all, time_once(&mut || part.run()));
     let reference = reference_of_last_legs(sample, count);
-    let read = || black_box(read(&sample.bytes, &reference, WORK_AREA, LINE_ROOM));
-    let mut ours = ProvedReading::new(sample, &reference);
-    let mut outcome = None;
-    let first = [
-        time_once(&mut || ours.run()),
-        time_once(&mut || outcome = Some(read())),
-    ];
-    let outcome = outcome.expect("it is read");
-    ours.check(&outcome);
-    let lines = outcome.as_ref().map_or(0, |reading| reading.lines.len());
-    let (name, outcome) = (&sample.case.name, outcome_text(&outcome));
-    let what = format!("read, {name}, legs {count}, lines {lines}, {outcome}");
-    let times = times_after(first, &mut || ours.run(), &mut || drop(read()));
-    print_row(&what, times);
+    let mut ours = ProvedReading::new(sample, &reference, proved::read);
+    let what = format!("read, {}, legs {count}", sample.case.name);
+    let (what, ours) = ours.print_row(&what, || {
+        let reading = black_box(read(&sample.bytes, &reference, WORK_AREA, LINE_ROOM));
+        reading.map(|reading| reading.lines)
+    });
     Printed {
         what,
-        ours: times[0],
+        ours,
         parts: all as f64 / count as f64,
+    }
+}
+
+/// A point along the last leg.
+fn print_point_reading_row(sample: &Sample) -> Printed {
+    let lines = sample.case.legs.last().expect("there are legs");
+    let stretch = Stretch {
+        lines,
+        positive: 0,
+        negative: 0,
+    };
+    let reference = point_bytes(&sample.map, &stretch, 0, 0);
+    let mut ours = ProvedReading::new(sample, &reference, proved::read_point);
+    let what = format!("read point, {}", sample.case.name);
+    let (what, ours) = ours.print_row(&what, || {
+        let reading = black_box(read_point(&sample.bytes, &reference, WORK_AREA, LINE_ROOM));
+        reading.map(|reading| reading.lines)
+    });
+    Printed {
+        what,
+        ours,
+        parts: 1.0,
     }
 }
 
@@ -239,20 +279,22 @@ fn reference_of_last_legs(sample: &Sample, count: usize) -> Vec<u8> {
     reference_bytes(&sample.map, &stretch, &places)
 }
 
-/// A call of the proved writer.
-struct ProvedWriting<'a> {
+/// A call of a proved writer.
+struct ProvedWriting<'a, Given: ?Sized> {
     sample: &'a Sample,
-    stretch: &'a [u32],
+    given: &'a Given,
+    write: ProvedWrite<Given>,
     work_area: Vec<u32>,
     byte_buffer: Vec<u8>,
     answer: usize,
 }
 
-impl ProvedWriting<'_> {
-    fn new<'a>(sample: &'a Sample, stretch: &'a [u32]) -> ProvedWriting<'a> {
+impl<'a, Given: ?Sized> ProvedWriting<'a, Given> {
+    fn new(sample: &'a Sample, given: &'a Given, write: ProvedWrite<Given>) -> Self {
         ProvedWriting {
             sample,
-            stretch,
+            given,
+            write,
             work_area: vec![0; WORK_AREA],
             byte_buffer: vec![0; BYTE_ROOM],
             answer: 0,
@@ -260,22 +302,28 @@ impl ProvedWriting<'_> {
     }
 
     fn run(&mut self) {
-        let (map_bytes, stretch) = black_box((&self.sample.bytes, self.stretch));
+        let (map_bytes, given) = black_box((&self.sample.bytes, self.given));
         let bytes = &mut self.byte_buffer;
-        self.answer = proved::write(map_bytes, stretch, &mut self.work_area, bytes);
+        self.answer = (self.write)(map_bytes, given, &mut self.work_area, bytes);
     }
 
-    /// The plain writer answers the same.
-    fn check(&self, outcome: &Outcome<Vec<u8>>) {
-        match outcome {
-            Ok(reference) => {
-                assert_eq!(
-                    self.byte_buffer.get(..self.answer),
-                    Some(reference.as_slice())
-                );
-            }
-            Err(refusal) => assert_eq!(self.answer, refusal.number() as usize),
-        }
+    /// Times it against the plain writer and prints the row.
+    fn print_row(
+        &mut self,
+        what: impl Fn(&Outcome<Vec<u8>>) -> String,
+        write: impl Fn() -> Outcome<Vec<u8>>,
+    ) -> (String, f64) {
+        let mut outcome = None;
+        let first = [
+            time_once(&mut || self.run()),
+            time_once(&mut || outcome = Some(write())),
+        ];
+        let outcome = outcome.expect("it is written");
+        check_written(self.answer, &self.byte_buffer, &outcome);
+        let what = format!("{}, {}", what(&outcome), outcome_text(&outcome));
+        let times = times_after(first, &mut || self.run(), &mut || drop(write()));
+        print_row(&what, times);
+        (what, times[0])
     }
 }
 
@@ -283,26 +331,40 @@ impl ProvedWriting<'_> {
 fn print_writing_row(sample: &Sample) -> Printed {
     let lines = &sample.case.stretch;
     let all = lines.len();
-    let mut part = ProvedWriting::new(sample, &lines[all - PART..]);
+    let mut part = ProvedWriting::new(sample, &lines[all - PART..], proved::write);
     let count = count_in_time(all, time_once(&mut || part.run()));
     let stretch = &lines[all - count..];
-    let write = || black_box(write(&sample.bytes, stretch, 0, 0, WORK_AREA, BYTE_ROOM));
-    let mut ours = ProvedWriting::new(sample, stretch);
-    let mut outcome = None;
-    let first = [
-        time_once(&mut || ours.run()),
-        time_once(&mut || outcome = Some(write())),
-    ];
-    let outcome = outcome.expect("it is written");
-    ours.check(&outcome);
-    let legs = outcome.as_ref().map_or(0, |bytes| (bytes.len() - 9) / 7);
-    let (name, outcome) = (&sample.case.name, outcome_text(&outcome));
-    let what = format!("write, {name}, lines {count}, legs {legs}, {outcome}");
-    let times = times_after(first, &mut || ours.run(), &mut || drop(write()));
-    print_row(&what, times);
+    let what = |outcome: &Outcome<Vec<u8>>| {
+        let legs = outcome.as_ref().map_or(0, |bytes| (bytes.len() - 9) / 7);
+        format!("write, {}, lines {count}, legs {legs}", sample.case.name)
+    };
+    let mut ours = ProvedWriting::new(sample, stretch, proved::write);
+    let (what, ours) = ours.print_row(what, || {
+        black_box(write(&sample.bytes, stretch, 0, 0, WORK_AREA, BYTE_ROOM))
+    });
     Printed {
         what,
-        ours: times[0],
+        ours,
         parts: all as f64 / count as f64,
+    }
+}
+
+/// A point on the last line of the stretch.
+fn print_point_writing_row(sample: &Sample) -> Printed {
+    let point = Point {
+        line: *sample.case.stretch.last().expect("there are lines"),
+        offset: 0,
+        orientation: 0,
+        side: 0,
+    };
+    let what = |_: &Outcome<Vec<u8>>| format!("write point, {}", sample.case.name);
+    let mut ours = ProvedWriting::new(sample, &point, proved::write_point);
+    let (what, ours) = ours.print_row(what, || {
+        black_box(write_point(&sample.bytes, point, WORK_AREA, LONGEST_POINT))
+    });
+    Printed {
+        what,
+        ours,
+        parts: 1.0,
     }
 }

@@ -438,8 +438,7 @@ impl<'a> LegTester<'a> {
     fn differences_fit(&self, from: usize, to: usize) -> bool {
         let start = self.map.node(self.map.line(self.lines[from]).start);
         let end = self.map.node(self.map.line(self.lines[to - 1]).end);
-        let differences = start.differences_to(end);
-        differences.map(i16::try_from).iter().all(Result::is_ok)
+        start.differences_fit(end)
     }
 }
 

@@ -4,6 +4,8 @@
 //! - `leg MAP START END FRC FOW SECTOR CLASS D`, on a last leg with the last line's `FRC FOW SECTOR`
 //! - `read MAP REFERENCE WORK_LENGTH LINE_ROOM`
 //! - `write MAP POS NEG WORK_LENGTH BYTE_ROOM LINE...`
+//! - `read_point MAP REFERENCE WORK_LENGTH LINE_ROOM`
+//! - `write_point MAP LINE OFFSET ORIENTATION SIDE WORK_LENGTH BYTE_ROOM`
 //!
 //! Bytes are hexadecimal, with `-` for none. Each answer is one line.
 
@@ -16,6 +18,7 @@ use plain::hexadecimal::{bytes, digits};
 use plain::legs::{verdict, Leg, LegEnd, Verdict};
 use plain::maps::{MapPlan, PlannedLine};
 use plain::outcome::Outcome;
+use plain::point::{read_point, write_point, Point};
 use plain::reader::read;
 use plain::search::{Method, Search};
 use plain::writer::write;
@@ -32,18 +35,10 @@ fn main() -> io::Result<()> {
 fn answer(call: &str) -> Option<String> {
     let mut words = call.split_ascii_whitespace();
     let (kind, map_bytes) = (words.next()?, bytes(words.next()?)?);
-    if kind == "read" {
-        let reference = bytes(words.next()?)?;
-        let rooms = numbers(words)?;
-        let [work_length, line_room] = rooms[..] else {
-            return None;
-        };
-        return Some(text(read(
-            &map_bytes,
-            &reference,
-            work_length as usize,
-            line_room as usize,
-        )));
+    match kind {
+        "read" => return read_answer(&map_bytes, words, read),
+        "read_point" => return read_answer(&map_bytes, words, read_point),
+        _ => {}
     }
     let numbers = numbers(words)?;
     match kind {
@@ -51,16 +46,48 @@ fn answer(call: &str) -> Option<String> {
             DepotMap::decode(&map_bytes).map(|map| map_text(&map, &map_bytes)),
         )),
         "leg" => leg_answer(&DepotMap::decode(&map_bytes).ok()?, &numbers),
-        "write" => {
-            let [pos, neg, work_length, byte_room, ref stretch @ ..] = numbers[..] else {
-                return None;
-            };
-            let (work_length, byte_room) = (work_length as usize, byte_room as usize);
-            let written = write(&map_bytes, stretch, pos, neg, work_length, byte_room);
-            Some(text(written.map(|reference| reference_text(&reference))))
-        }
+        "write" => write_answer(&map_bytes, &numbers),
+        "write_point" => write_point_answer(&map_bytes, &numbers),
         _ => None,
     }
+}
+
+fn read_answer<'a, Read: Display>(
+    map_bytes: &[u8],
+    mut words: impl Iterator<Item = &'a str>,
+    read: fn(&[u8], &[u8], usize, usize) -> Outcome<Read>,
+) -> Option<String> {
+    let reference = bytes(words.next()?)?;
+    let rooms = numbers(words)?;
+    let [work_length, line_room] = rooms[..] else {
+        return None;
+    };
+    let (work_length, line_room) = (work_length as usize, line_room as usize);
+    Some(text(read(map_bytes, &reference, work_length, line_room)))
+}
+
+fn write_answer(map_bytes: &[u8], numbers: &[u32]) -> Option<String> {
+    let [pos, neg, work_length, byte_room, ref stretch @ ..] = *numbers else {
+        return None;
+    };
+    let (work_length, byte_room) = (work_length as usize, byte_room as usize);
+    let written = write(map_bytes, stretch, pos, neg, work_length, byte_room);
+    Some(text(written.map(|reference| reference_text(&reference))))
+}
+
+fn write_point_answer(map_bytes: &[u8], numbers: &[u32]) -> Option<String> {
+    let [line, offset, orientation, side, work_length, byte_room] = *numbers else {
+        return None;
+    };
+    let point = Point {
+        line,
+        offset,
+        orientation,
+        side,
+    };
+    let (work_length, byte_room) = (work_length as usize, byte_room as usize);
+    let written = write_point(map_bytes, point, work_length, byte_room);
+    Some(text(written.map(|reference| reference_text(&reference))))
 }
 
 fn text<T: Display>(outcome: Outcome<T>) -> String {

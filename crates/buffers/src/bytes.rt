@@ -1,9 +1,10 @@
-// Numbers of 16 and of 24 bits in bytes, high byte first.
+// Bytes copied, and numbers of 16 and of 24 bits in bytes, high byte first.
 ghost use mathlib.Core.Path.{_≡_};
 ghost use Prim.Native.Nat.{_+_, _≤_, _<_, _*_, _-_};
 ghost use mathlib.Core.List.{_++_, [], _∷_};
 ghost use lib.ListN.{length, take, drop};
 ghost use Rattle.model.specs.Reference.{at2, at3, bytes2, bytes3};
+ghost use Rattle.model.specs.Work.{placed};
 ghost use Rattle.buffers.specs.Placed.{putAt};
 
 // A byte as a number. Its contract spares its callers the bound on an element.
@@ -54,4 +55,17 @@ pub fn put1(bytes: &mut [u8], at: usize, x: u32)
     ensures { λ _. ⌜ now (bytes .exit) ≡ putAt at (x ∷ []) (now (bytes .entry)) ⌝ }
 {
     bytes[at] = x as u8;
+}
+
+// Copies bytes to the start of a buffer.
+pub fn copy(from: &[u8], into: &mut [u8])
+    requires { ⌜ length (now from) ≤ length (now into) ⌝ }
+    ensures { λ _. ⌜ now (into .exit) ≡ placed (now (from .entry)) (now (into .entry)) ⌝ }
+{
+    let n = from.len();
+    let mut i: usize = 0;
+    while i < n {
+        into[i] = from[i];
+        i += 1;
+    }
 }

@@ -5,15 +5,15 @@ use mathlib.Core.Logic.{_≢_}
 use mathlib.Core.List.{List}
 use native.Mathlib.Omega.{arith}
 use lib.ListN.{length, take, drop, length-append}
-use Rattle.model.specs.Outcome.{WriteOutcome, written}
 use Rattle.model.specs.Work.{placed}
-use Rattle.model.specs.Host.{hostStretch, HostRead, HostReadCall, HostWritten, hostWritten, hostBytesAfter, HostWriteCall}
+use Rattle.model.specs.Host.{hostStretch, HostRead, HostReadCall, HostWriteCall}
 use Rattle.model.specs.Demand3.{Alike}
 use Rattle.model.specs.HostDemand3.{HostBack}
 use Rattle.model.proofs.HostDemand3.{host-wrote, host-demand3}
 use Rattle.openlr.specs.Host.{asWritten}
 use Rattle.openlr.specs.declared.Written.{Written}
 use Rattle.host_trip.specs.Trip.{HandedBack, Wrote, NotWritten}
+use Rattle.host_trip.proofs.Answered.{nothing-written}
 
 -- ---- the writer's answer, by its refusal
 
@@ -22,15 +22,10 @@ module _ {mb stretch : List ℕ} {pos neg : ℕ} {b b′ : List ℕ} (r : Writte
   unfolding asWritten
   wrote zero = subst (λ (n : ℕ). HostWriteCall mb stretch pos neg b (record { refusal = n; bytes = r .bytes }) b′) zero call
 
-  nothing-written : r .refusal ≢ 0 → (o : WriteOutcome) → asWritten r ≡ hostWritten o → b′ ≡ hostBytesAfter o b → (r .bytes ≡ 0) × (b′ ≡ b)
-  unfolding asWritten hostWritten hostBytesAfter
-  nothing-written some (written bs) e f = absurd (some (ap (λ (x : HostWritten). x .refusal) e))
-  nothing-written some (WriteOutcome.refused why) e f = (ap (λ (x : HostWritten). x .bytes) e, f)
-
   pub not-written : r .refusal ≢ 0 → NotWritten mb stretch pos neg b b′ (r .refusal)
   unfolding asWritten
   not-written some =
-      let k = nothing-written some (call .answered .outcome) (call .answered .answers) (call .answered .buffer-after) in (
+      let k = nothing-written r some (call .answered .outcome) (call .answered .answers) (call .answered .buffer-after) in (
         subst (λ (n : ℕ). HostWriteCall mb stretch pos neg b (record { refusal = r .refusal; bytes = n }) b′) (k .0) call,
         some,
         k .1,

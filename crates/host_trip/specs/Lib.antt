@@ -1,2 +1,3 @@
--- Demand 3 as a claim about a C program's calls.
+-- Demand 3, and the claim of W5, as claims about a C program's calls.
 pub mod Trip
+pub mod PointTold

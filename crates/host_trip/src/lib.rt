@@ -5,6 +5,8 @@ use openlr::openlr_write;
 use round_trip::same_bytes;
 ghost use Rattle.host_trip.specs.Trip.{TripTells, PairTells};
 
+pub mod point;
+
 // The writer's refusal; or the count of its bytes, and what the reader answers to exactly those.
 pub enum Trip {
     Refused(u32),

@@ -1,8 +1,13 @@
--- What a test program prints of the buffers behind a call.
-use Prim.Native.Nat.{ℕ}
+-- What a test program prints of the buffers behind a call, and of a writer's answer.
+use Prim.Native.Nat.{ℕ, min}
 use mathlib.Core.Bool.{Bool, true, false}
-use mathlib.Core.List.{List, [], _∷_}
+use mathlib.Core.List.{List, [], _∷_, _++_}
 use lib.ListN.{length}
+use Rattle.model.specs.declared.WriteAnswer.{WriteAnswer}
+use Rattle.model.specs.declared.WriteAnswer.the-variants.{Written, Refused}
+use Rattle.model.specs.Refusal.{numberOf, refusalOf}
+use Rattle.model.specs.Text.{numbered, refusedWord}
+use Rattle.cases.specs.Sum.{sumFrom}
 use Rattle.answer_text.specs.Put.{Put}
 use Rattle.marks.specs.Marks.{markOf, Marked, Cleared}
 
@@ -25,3 +30,15 @@ pub record Shown (Texts : List ℕ → Type 0) (at : ℕ) (before after : List �
   pub text : List ℕ
   pub is-one : Texts text
   pub put : Put at text before after end
+
+-- The words "bytes " and " sum ".
+abbrev pub bytesWord : List ℕ
+bytesWord = 98 ∷ 121 ∷ 116 ∷ 101 ∷ 115 ∷ 32 ∷ []
+
+abbrev pub sumWord : List ℕ
+sumWord = 32 ∷ 115 ∷ 117 ∷ 109 ∷ 32 ∷ []
+
+-- A writer's answer: the count of bytes and a sum over those that are in the buffer, or the refusal's number.
+unfoldable pub writtenText : WriteAnswer → List ℕ → List ℕ
+writtenText (Written n) bytes = numbered bytesWord n ++ numbered sumWord (sumFrom bytes 0 (min n (length bytes)) 0)
+writtenText (Refused why) bytes = numbered refusedWord (numberOf (refusalOf why))

@@ -1,12 +1,17 @@
-// Marks that a test program puts into the buffers that it lends, and what a call left of them.
+// Marks that a test program puts into the buffers that it lends, what a call left of them, and what a writer's call handed back.
 use answer_text::put;
+use answer_text::put_number;
+use buffers::lesser;
+use cases::sum_of_bytes;
+use model::WriteAnswer;
 use model::limits::WORK_LENGTH;
+use model::number_of;
 ghost use mathlib.Core.Path.{_≡_};
 ghost use lib.ListN.{length};
 ghost use Rattle.buffers.specs.Decides.{Decides};
 ghost use Rattle.answer_text.specs.Put.{Put};
 ghost use Rattle.marks.specs.Marks.{markOf, byteMarkOf, Marked, Cleared};
-ghost use Rattle.marks.specs.Shown.{Shown, WorkText, restText};
+ghost use Rattle.marks.specs.Shown.{Shown, WorkText, restText, writtenText};
 
 // What stands at place `i` of a buffer before a call. It is no line's number and not 0, and numbers next to each other differ.
 fn mark(i: usize) -> u32
@@ -108,4 +113,18 @@ pub fn put_rest(kept: bool, buffer: &mut [u8], at: usize) -> usize
         return put(b" rest kept", buffer, at);
     }
     put(b" rest changed", buffer, at)
+}
+
+// Puts a writer's answer and, where it hands back bytes, a sum over them; a count beyond the buffer shows by itself.
+pub fn put_written(answer: WriteAnswer, bytes: &[u8], row: &mut [u8]) -> usize
+    ensures { λ r. ⌜ Put 0 (writtenText answer (now (bytes .entry))) (now (row .entry)) (now (row .exit)) r ⌝ }
+{
+    match answer {
+        WriteAnswer::Written(count) => {
+            let end = put_number(b"bytes ", count as u64, row, 0);
+            let handed_back = lesser(count, bytes.len());
+            put_number(b" sum ", sum_of_bytes(bytes, handed_back), row, end)
+        }
+        WriteAnswer::Refused(why) => put_number(b"refused ", number_of(why) as u64, row, 0),
+    }
 }

@@ -1,4 +1,4 @@
--- Refusals by their numbers, 0 where there is none: of a map, and of a call of the reader. And what a call of the writer comes to, as a number.
+-- Refusals by their numbers, 0 where there is none: of a map, and of a call of a reader. And what a call of a writer comes to, as a number.
 use Prim.Native.Nat.{ℕ}
 use mathlib.Core.Path.{_≡_}
 use mathlib.Core.Bool.{cond}
@@ -9,11 +9,14 @@ use Rattle.model.specs.Work.{workLength}
 use Rattle.model.specs.Refusal.{numberOf, refusalOf}
 use Rattle.model.specs.Stretch.{Stretch}
 use Rattle.model.specs.Call.{ReadCall, WriteCall}
+use Rattle.model.specs.PointAlong.{GivenPoint, PointReadCall, PointWriteCall}
+use Rattle.model.specs.declared.PointReadAnswer.{PointReadAnswer}
 use Rattle.model.specs.declared.ReadAnswer.{ReadAnswer}
 use Rattle.model.specs.declared.ReadAnswer.the-variants.{Read, Refused}
 use Rattle.model.specs.declared.WriteAnswer.{WriteAnswer}
 use Rattle.model.specs.declared.WriteAnswer.the-variants.{Written}
 use Rattle.model.specs.declared.WriteAnswer.the-variants as writer
+use Rattle.model.specs.declared.PointReadAnswer.the-variants as point
 
 unfoldable pub refusedBy : MapAnswer → ℕ
 refusedBy (whole m) = 0
@@ -40,4 +43,19 @@ writtenNumber (writer.Refused why) = numberOf (refusalOf why)
 pub record WriteNumber (mb : List ℕ) (s : Stretch) (work bytes : List ℕ) (n : ℕ) (work′ bytes′ : List ℕ) : Type 0 where
   pub answer : WriteAnswer
   pub call : WriteCall mb s work bytes answer work′ bytes′
+  pub same : n ≡ writtenNumber answer
+
+-- The same of the calls with points.
+unfoldable pub pointNumber : PointReadAnswer → ℕ
+pointNumber (point.Read n span orientation side) = 0
+pointNumber (point.Refused why) = numberOf (refusalOf why)
+
+pub record PointReadNumber (mb ref work lines : List ℕ) (n : ℕ) (work′ lines′ : List ℕ) : Type 0 where
+  pub answer : PointReadAnswer
+  pub call : PointReadCall mb ref work lines answer work′ lines′
+  pub same : n ≡ pointNumber answer
+
+pub record PointWriteNumber (mb : List ℕ) (p : GivenPoint) (work bytes : List ℕ) (n : ℕ) (work′ bytes′ : List ℕ) : Type 0 where
+  pub answer : WriteAnswer
+  pub call : PointWriteCall mb p work bytes answer work′ bytes′
   pub same : n ≡ writtenNumber answer

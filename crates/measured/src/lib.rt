@@ -2,6 +2,7 @@
 use buffers::wide;
 use depot_map::MapRead;
 use depot_map::read_map;
+use model::PointReadAnswer;
 use model::ReadAnswer;
 use model::WriteAnswer;
 use model::limits::GREATEST_LEG_LENGTH;
@@ -9,6 +10,8 @@ use model::limits::WORK_LENGTH;
 use model::number_of;
 use opening::Opened;
 use opening::open_map;
+use point_reader::read_point;
+use point_writer::write_point;
 use reader::read;
 use search::search;
 use way_lengths::Terminus;
@@ -18,7 +21,8 @@ ghost use lib.ListN.{length};
 ghost use Rattle.model.specs.Map.{Map};
 ghost use Rattle.search_cells.specs.Area.{Set};
 ghost use Rattle.model.specs.Stretch.{stretchOf};
-ghost use Rattle.measured.specs.Refusal.{mapRefusal, ReadNumber, WriteNumber};
+ghost use Rattle.model.specs.PointAlong.{pointGiven};
+ghost use Rattle.measured.specs.Refusal.{mapRefusal, ReadNumber, WriteNumber, PointReadNumber, PointWriteNumber};
 
 // Reads a map into the work area: the number of the refusal, or 0.
 #[no_mangle]
@@ -106,6 +110,43 @@ pub extern "C" fn measured_write(
         (now (work .exit)) (now (bytes .exit)) ⌝ }
 {
     match write(map, stretch, pos, neg, work, bytes) {
+        WriteAnswer::Written(count) => count,
+        WriteAnswer::Refused(why) => number_of(why) as usize,
+    }
+}
+
+// Reads a point along a line: the number of the refusal, or 0.
+#[no_mangle]
+pub extern "C" fn measured_read_point(
+    map: &[u8],
+    reference: &[u8],
+    work: &mut [u32],
+    lines: &mut [u32],
+) -> u32
+    ensures { λ r. ⌜ PointReadNumber (now (map .entry)) (now (reference .entry)) (now (work .entry)) (now (lines .entry)) r
+        (now (work .exit)) (now (lines .exit)) ⌝ }
+{
+    match read_point(map, reference, work, lines) {
+        PointReadAnswer::Read(_, _, _, _) => 0,
+        PointReadAnswer::Refused(why) => number_of(why),
+    }
+}
+
+// Writes a point along a line: the count of bytes, 16 or 17, or the number of the refusal, which is neither.
+#[no_mangle]
+pub extern "C" fn measured_write_point(
+    map: &[u8],
+    line: u32,
+    offset: u32,
+    orientation: u32,
+    side: u32,
+    work: &mut [u32],
+    bytes: &mut [u8],
+) -> usize
+    ensures { λ r. ⌜ PointWriteNumber (now (map .entry)) (pointGiven line offset orientation side) (now (work .entry)) (now (bytes .entry)) r
+        (now (work .exit)) (now (bytes .exit)) ⌝ }
+{
+    match write_point(map, line, offset, orientation, side, work, bytes) {
         WriteAnswer::Written(count) => count,
         WriteAnswer::Refused(why) => number_of(why) as usize,
     }

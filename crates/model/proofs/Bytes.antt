@@ -55,14 +55,14 @@ module _ (bs : List ℕ) (i : ℕ) (rest : List ℕ) (from : drop i bs ≡ rest)
       omega (arith, at-1 j k e, at-1 (j + 1) (k + 1) (omega arith), at-1 (j + 1 + 1) (k + 2) (omega arith))
 
 -- A line's attributes by its P and a byte whose low bits are its sector.
-attributes-back : (a : LineAttributes) (p s : ℕ) → AttributesFit a → p ≡ byteP a → s % 32 ≡ a .sector → attributes p s ≡ a
+pub attributes-back : (a : LineAttributes) (p s : ℕ) → AttributesFit a → p ≡ byteP a → s % 32 ≡ a .sector → attributes p s ≡ a
 unfolding attributes byteP
 attributes-back a p s f e same =
     let frc : p / 8 ≡ a .frc = omega arith in
     let fow : p % 8 ≡ a .fow = omega arith in
     λ t. record { frc = frc t; fow = fow t; sector = same t }
 
-byte-p : (a : LineAttributes) → AttributesFit a → byteP a < 64
+pub byte-p : (a : LineAttributes) → AttributesFit a → byteP a < 64
 unfolding byteP
 byte-p a f = omega arith
 
@@ -159,11 +159,11 @@ offset-few (byte b) = omega arith
 digit : (x : ℕ) → Byte (x % 256)
 digit x = omega arith
 
-bytes2-small : (x : ℕ) {rest : List ℕ} → Every Byte rest → Every Byte (bytes2 x rest)
+pub bytes2-small : (x : ℕ) {rest : List ℕ} → Every Byte rest → Every Byte (bytes2 x rest)
 unfolding bytes2
 bytes2-small x e = also (digit _) (also (digit _) e)
 
-bytes3-small : (x : ℕ) {rest : List ℕ} → Every Byte rest → Every Byte (bytes3 x rest)
+pub bytes3-small : (x : ℕ) {rest : List ℕ} → Every Byte rest → Every Byte (bytes3 x rest)
 unfolding bytes3
 bytes3-small x e = also (digit _) (bytes2-small x e)
 
@@ -175,7 +175,7 @@ points-small (p ∷ ps) (also f fs) e =
     let second : Byte (p .lowest * 32 + p .leaves .sector) = omega (arith, f .leaves .sector, f .lowest) in
     also first (also second (also (f .distance) (bytes2-small (p .next .lon) (bytes2-small (p .next .lat) (points-small ps fs e)))))
 
-offset-small : (o : Offset) → OffsetFits o → Every Byte (offsetBytes o)
+pub offset-small : (o : Offset) → OffsetFits o → Every Byte (offsetBytes o)
 unfolding offsetBytes
 offset-small absent f = none
 offset-small (byte b) f = also f none

@@ -1,4 +1,4 @@
--- Worked cases of paper 01, proved of the definitions. Each expected value is the paper's, or worked out by hand from its words.
+-- Worked cases of papers 01 and 02, proved of the definitions. Each expected value is the paper's, or worked out by hand from its words.
 -- The modules that start with Wrong say which answers of a wrong program the promises shut out on such a case.
 pub mod Computing
 pub mod Edges
@@ -32,3 +32,5 @@ pub mod Meridian
 pub mod WrongLongitudes
 pub mod Sectors
 pub mod WrongSectors
+pub mod Points
+pub mod WrongPoints

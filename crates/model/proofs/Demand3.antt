@@ -118,7 +118,7 @@ module _ (m : Map) (mb : List ℕ) (s : Stretch) (bytes : List ℕ) (k : Written
       }
 
 -- Two offsets in one span.
-apart : {a b leg leg′ : ℕ} {s : Span} → Within a s leg → Within b s leg′ → Apart a b s
+pub apart : {a b leg leg′ : ℕ} {s : Span} → Within a s leg → Within b s leg′ → Apart a b s
 apart w w′ = record { up = omega arith; down = omega arith }
 
 module _ (m : Map) (mb bytes : List ℕ) (s t : Stretch) (k : Written m mb s bytes) (k′ : Written m mb t bytes) where

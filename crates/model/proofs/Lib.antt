@@ -29,8 +29,16 @@ pub mod Calls
 pub mod Answering
 pub mod Text
 pub mod Demand3
+pub mod PointBytes
+pub mod PointShape
+pub mod PointReading
+pub mod PointWriting
+pub mod PointTrip
+pub mod PointRows
 pub mod CallsOnce
+pub mod HostWrote
 pub mod HostDemand3
+pub mod HostPointTrip
 pub mod SameChoice
 pub mod AsBefore
 pub mod Cases

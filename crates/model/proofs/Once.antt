@@ -98,7 +98,7 @@ module _ (m : Map) (r : Reference) (room : ℕ) where
       LegsRead m 0 legs′ b → a ≡ b
   found-same {legs} {legs′} e e′ h h′ = let same : legs ≡ legs′ = cc in legs-same (rw same at h) h′
 
-  read-on-same : {o o′ : ReadOutcome} → ReadOn m r room o → ReadOn m r room o′ → o ≡ o′
+  pub read-on-same : {o o′ : ReadOutcome} → ReadOn m r room o → ReadOn m r room o′ → o ≡ o′
   read-on-same (ReadOn.no-point e) (ReadOn.no-point e′) = cc
   read-on-same (ReadOn.no-point e) (ReadOn.no-leg e′ h) = cc
   read-on-same (ReadOn.no-point e) (ReadOn.every-leg e′ h end) = cc

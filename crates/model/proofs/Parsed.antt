@@ -18,18 +18,18 @@ use Rattle.model.proofs.Bytes.{AttributesFit, PointFits, OffsetFits, Fi
 
 module _ (bs : List ℕ) (small : Every Byte bs) where
   -- The bytes from a place on, one at a time.
-  first : (i : ℕ) → i < length bs → drop i bs ≡ getD bs i 0 ∷ drop (i + 1) bs
+  pub first : (i : ℕ) → i < length bs → drop i bs ≡ getD bs i 0 ∷ drop (i + 1) bs
   first i h = rw add-one (drop-cons bs i 0 h)
 
-  at2-small : (i : ℕ) → at2 bs i < 65_536
+  pub at2-small : (i : ℕ) → at2 bs i < 65_536
   unfolding at2
   at2-small i = omega (arith, byte-at i small, byte-at (i + 1) small)
 
-  at3-small : (i : ℕ) → at3 bs i < 16_777_216
+  pub at3-small : (i : ℕ) → at3 bs i < 16_777_216
   unfolding at3
   at3-small i = omega (arith, byte-at i small, at2-small (i + 1))
 
-  two : (i : ℕ) → i + 1 < length bs → drop i bs ≡ bytes2 (at2 bs i) (drop (i + 2) bs)
+  pub two : (i : ℕ) → i + 1 < length bs → drop i bs ≡ bytes2 (at2 bs i) (drop (i + 2) bs)
   unfolding bytes2 at2
   two i h =
       let a = byte-at i small in
@@ -39,7 +39,7 @@ module _ (bs : List ℕ) (small : Every Byte bs) where
       let next : i + 2 ≡ i + 1 + 1 = omega arith in
       rw (high, low, next) (first i (omega arith) ∙ ap (λ (l : List ℕ). getD bs i 0 ∷ l) (first (i + 1) h))
 
-  three : (i : ℕ) → i + 2 < length bs → drop i bs ≡ bytes3 (at3 bs i) (drop (i + 3) bs)
+  pub three : (i : ℕ) → i + 2 < length bs → drop i bs ≡ bytes3 (at3 bs i) (drop (i + 3) bs)
   unfolding bytes3 bytes2 at3
   three i h =
       let a = byte-at i small in
@@ -88,7 +88,7 @@ module _ (bs : List ℕ) (small : Every Byte bs) where
   one-left : (i : ℕ) → length bs ≡ i + 1 → drop i bs ≡ getD bs i 0 ∷ []
   one-left i h = first i (omega arith) ∙ ap (λ (l : List ℕ). getD bs i 0 ∷ l) (at-end (i + 1) h)
 
-  offsets : (a b i : ℕ) → a ≤ 1 → b ≤ 1 → length bs ≡ i + a + b →
+  pub offsets : (a b i : ℕ) → a ≤ 1 → b ≤ 1 → length bs ≡ i + a + b →
       drop i bs ≡ offsetBytes (offsetAt (eqb a 1) bs i) ++ offsetBytes (offsetAt (eqb b 1) bs (i + a))
   unfolding offsetBytes offsetAt
   offsets zero zero i _ _ h = at-end i (omega arith)
@@ -100,19 +100,19 @@ module _ (bs : List ℕ) (small : Every Byte bs) where
   offsets zero (suc (suc b)) i _ few h = absurd (omega arith)
   offsets (suc zero) (suc (suc b)) i _ few h = absurd (omega arith)
 
-  flag-of : (a i weight : ℕ) → a ≤ 1 → flag (offsetAt (eqb a 1) bs i) weight ≡ a * weight
+  pub flag-of : (a i weight : ℕ) → a ≤ 1 → flag (offsetAt (eqb a 1) bs i) weight ≡ a * weight
   unfolding flag offsetAt
   flag-of zero i weight h = omega arith
   flag-of (suc zero) i weight h = omega arith
   flag-of (suc (suc a)) i weight h = absurd (omega arith)
 
-  offset-fits : (flagged : Bool) (i : ℕ) → OffsetFits (offsetAt flagged bs i)
+  pub offset-fits : (flagged : Bool) (i : ℕ) → OffsetFits (offsetAt flagged bs i)
   unfolding offsetAt
   offset-fits true i = byte-at i small
   offset-fits false i = tt
 
   -- No spare bit is set: each P is below 64 and R below 128.
-  attributes-fit : (p s : ℕ) → p < 64 → AttributesFit (attributes p s)
+  pub attributes-fit : (p s : ℕ) → p < 64 → AttributesFit (attributes p s)
   unfolding attributes
   attributes-fit p s h = omega arith
 
@@ -145,14 +145,14 @@ module _ (bs : List ℕ) (small : Every Byte bs) where
       record { points-fit = also (point-fits i (leb-false _ _ (t .0))) (s .points-fit); last-p = rw same (s .last-p); last-r = rw same (s .last-r) }
 
 -- What `parse` asks for.
-record Accepted (bs : List ℕ) (r : Reference) : Type 0 where
-  long : shortestReference ≤ length bs
-  short : length bs ≤ longestReference
-  left : (length bs - shortestReference) % 7 ≤ 2
-  status : getD bs 0 0 ≡ statusByte
-  bits : spareBits bs 7 (pointCount bs) ≡ false
-  flagged : (length bs - shortestReference) % 7 ≡ flags (getD bs (8 + 7 * pointCount bs) 0)
-  same : referenceAt bs (pointCount bs) ≡ r
+pub record Accepted (bs : List ℕ) (r : Reference) : Type 0 where
+  pub long : shortestReference ≤ length bs
+  pub short : length bs ≤ longestReference
+  pub left : (length bs - shortestReference) % 7 ≤ 2
+  pub status : getD bs 0 0 ≡ statusByte
+  pub bits : spareBits bs 7 (pointCount bs) ≡ false
+  pub flagged : (length bs - shortestReference) % 7 ≡ flags (getD bs (8 + 7 * pointCount bs) 0)
+  pub same : referenceAt bs (pointCount bs) ≡ r
 
 not-parsed : {n : Refused} {r : Reference} → ParseAnswer.refused n ≡ parsed r → ⊥
 not-parsed e = let z : _≡_ {A = ℕ} 0 1 = cc in omega arith
@@ -165,7 +165,7 @@ held : (t : Bool) (n : Refused) {rest : ParseAnswer} {r : Reference} → cond t 
 held true n e = (refl, e)
 held false n e = absurd (not-parsed e)
 
-accepted : (bs : List ℕ) (r : Reference) → parse bs ≡ parsed r → Accepted bs r
+pub accepted : (bs : List ℕ) (r : Reference) → parse bs ≡ parsed r → Accepted bs r
 unfolding parse
 accepted bs r e =
     let n = length bs in

@@ -25,15 +25,15 @@ pub record From (low high : ℕ) (r : Refused) : Type 0 where
   pub least : low ≤ numberOf r
   pub greatest : numberOf r ≤ high
 
-at : {low high : ℕ} (n : ℕ) → low ≤ n → n ≤ high → From low high (row n)
+pub at : {low high : ℕ} (n : ℕ) → low ≤ n → n ≤ high → From low high (row n)
 unfolding numberOf
 at n l h = record { least = l; greatest = h }
 
-at-place : {low high : ℕ} (n k : ℕ) → low ≤ n → n ≤ high → From low high (rowAt n k)
+pub at-place : {low high : ℕ} (n k : ℕ) → low ≤ n → n ≤ high → From low high (rowAt n k)
 unfolding numberOf
 at-place n k l h = record { least = l; greatest = h }
 
-wider : {low high low′ high′ : ℕ} {r : Refused} → low′ ≤ low → high ≤ high′ → From low high r → From low′ high′ r
+pub wider : {low high low′ high′ : ℕ} {r : Refused} → low′ ≤ low → high ≤ high′ → From low high r → From low′ high′ r
 wider l h f = record { least = omega (arith, f .least); greatest = omega (arith, f .greatest) }
 
 -- ---- a map
@@ -185,7 +185,7 @@ joined-rows : (m : Map) (r : Reference) (room : ℕ) (why : Refused) (t : Bool) 
 joined-rows m r room why true lss h = rw (read-same why (row 22) h) (at 22 (omega arith) (omega arith))
 joined-rows m r room why false lss h = wider (omega arith) (omega arith) (end-rows h)
 
-read-on-rows : {m : Map} {r : Reference} {room : ℕ} {why : Refused} → ReadOn m r room (ReadOutcome.refused why) → From 16 22 why
+pub read-on-rows : {m : Map} {r : Reference} {room : ℕ} {why : Refused} → ReadOn m r room (ReadOutcome.refused why) → From 16 22 why
 read-on-rows (ReadOn.no-point e) = at-place 16 _ (omega arith) (omega arith)
 read-on-rows (ReadOn.no-leg e h) = let n = legs-rows h in at-place _ _ (omega (arith, n .0)) (omega (arith, n .1))
 read-on-rows {m} {r} {room} {why} (ReadOn.every-leg {lss = lss} e h end) =
@@ -207,10 +207,10 @@ module _ {Outcome : Type 0} (refused : Refused → Outcome) (same : (r s : Refus
   on-area-rows true mb h = rw (same why (row 1) h) (at 1 (omega arith) (omega arith))
   on-area-rows false mb h = on-map-rows mb _ refl h
 
-  opens-rows : (mb : List ℕ) (work : ℕ) → Opens refused Asks mb work (refused why) → From 1 high why
+  pub opens-rows : (mb : List ℕ) (work : ℕ) → Opens refused Asks mb work (refused why) → From 1 high why
   opens-rows mb work h = on-area-rows (ltb work workLength) mb h
 
-write-same : (r s : Refused) → WriteOutcome.refused r ≡ WriteOutcome.refused s → r ≡ s
+pub write-same : (r s : Refused) → WriteOutcome.refused r ≡ WriteOutcome.refused s → r ≡ s
 write-same r s e = cc
 
 parsed-rows : (m : Map) (ref : List ℕ) (a : ParseAnswer) (room : ℕ) (why : Refused) → parse ref ≡ a →

@@ -1,4 +1,4 @@
--- The C host's calls (paper 01, "The product", second paragraph): each line number as four bytes, low byte first.
+-- The C host's calls (paper 01, "The product", second paragraph; of points: paper 02, W5): each line number as four bytes, low byte first.
 use Prim.Native.Nat.{ℕ, _+_, _*_, _/_, _%_, min}
 use mathlib.Core.Path.{_≡_}
 use mathlib.Core.Bool.{cond}
@@ -10,6 +10,7 @@ use Rattle.model.specs.Stretch.{Stretch}
 use Rattle.model.specs.Outcome.{ReadOutcome, read, Reads, WriteOutcome, written, Writes}
 use Rattle.model.specs.Call.{Answered}
 use Rattle.model.specs.Work.{workLength, placed}
+use Rattle.model.specs.PointAlong.{PointReadOutcome, PointReads, GivenPoint, PointWrites}
 
 -- The line numbers of some bytes; bytes beyond the last whole four are left out.
 unfoldable pub words : List ℕ → List ℕ
@@ -84,3 +85,39 @@ pub record HostReadCall (mb ref before : List ℕ) (a : HostRead) (after : List 
 -- A host's call of the writer, with the byte buffer before and after it.
 pub record HostWriteCall (mb stretch : List ℕ) (pos neg : ℕ) (before : List ℕ) (a : HostWritten) (after : List ℕ) : Type 0 where
   pub answered : Answered (λ given o. given ≡ hostWritten o) hostBytesAfter (Writes mb (hostStretch stretch pos neg) workLength (length before)) before after a
+
+-- The numbers that the host gets from the reader of points (W5): a refusal or 0, its point or leg, the count of lines, the offset's span, the orientation
+-- and the side; 0 where they say nothing.
+pub record HostPoint : Type 0 where
+  pub refusal : ℕ
+  pub place : ℕ
+  pub lines : ℕ
+  pub least : ℕ
+  pub greatest : ℕ
+  pub orientation : ℕ
+  pub side : ℕ
+
+unfoldable pub hostPoint : PointReadOutcome → HostPoint
+hostPoint (PointReadOutcome.read ls span orientation side) =
+    record {
+      refusal = 0;
+      place = 0;
+      lines = length ls;
+      least = span .least;
+      greatest = span .greatest;
+      orientation = orientation;
+      side = side;
+    }
+hostPoint (PointReadOutcome.refused r) =
+    record { refusal = numberOf r; place = placeOf r; lines = 0; least = 0; greatest = 0; orientation = 0; side = 0 }
+
+unfoldable pub hostPointLinesAfter : PointReadOutcome → List ℕ → List ℕ
+hostPointLinesAfter (PointReadOutcome.read ls span orientation side) lines = placed (wordBytes ls) lines
+hostPointLinesAfter (PointReadOutcome.refused r) lines = lines
+
+-- A host's call that reads a point, and one that writes a point.
+pub record HostPointReadCall (mb ref before : List ℕ) (a : HostPoint) (after : List ℕ) : Type 0 where
+  pub answered : Answered (λ given o. given ≡ hostPoint o) hostPointLinesAfter (PointReads mb ref workLength (hostRoom (length before))) before after a
+
+pub record HostPointWriteCall (mb : List ℕ) (p : GivenPoint) (before : List ℕ) (a : HostWritten) (after : List ℕ) : Type 0 where
+  pub answered : Answered (λ given o. given ≡ hostWritten o) hostBytesAfter (PointWrites mb p workLength (length before)) before after a

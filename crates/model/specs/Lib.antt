@@ -1,4 +1,4 @@
--- What the promises mean. In the order of paper 01, as far as one definition needs another.
+-- What the promises mean. In the order of paper 01, as far as one definition needs another; PointAlong and PointTrip are paper 02's W5.
 pub mod Number
 pub mod Field
 pub mod Sector
@@ -18,7 +18,10 @@ pub mod Opening
 pub mod Outcome
 pub mod Call
 pub mod Text
+pub mod PointAlong
 pub mod Host
 pub mod Demand3
 pub mod HostDemand3
+pub mod PointTrip
+pub mod HostPointTrip
 pub mod AsBefore

@@ -31,6 +31,7 @@ pub enum Refusal {
     JoinedBan,
     MapBan,
     MapStep,
+    PointMarks,
 }
 
 // The least and the greatest offset, in decimetres, that an offset byte may stand for. 0 and 0 where there is no byte.
@@ -45,7 +46,13 @@ pub enum ReadAnswer {
     Refused(Refusal),
 }
 
-// What the writer answers: the count of bytes, or why not.
+// What the reader of points along a line answers: the count of lines, the span of the offset, the orientation and the side of road, or why not.
+pub enum PointReadAnswer {
+    Read(usize, Span, u32, u32),
+    Refused(Refusal),
+}
+
+// What a writer answers, of stretches or of points: the count of bytes, or why not.
 pub enum WriteAnswer {
     Written(usize),
     Refused(Refusal),
@@ -83,6 +90,7 @@ pub fn row_of(why: Refusal) -> Row
         Refusal::JoinedBan => Row(22, 0),
         Refusal::MapBan => Row(23, 0),
         Refusal::MapStep => Row(24, 0),
+        Refusal::PointMarks => Row(25, 0),
     }
 }
 

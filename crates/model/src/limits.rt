@@ -28,3 +28,6 @@ pub const GREATEST_STRETCH: usize = 64;
 
 // The most lines that a C host is given (specs/Host.antt).
 pub const GREATEST_HOST_LINES: usize = 1_024;
+
+// The greatest orientation and the greatest side of road (specs/PointAlong.antt).
+pub const GREATEST_MARK: u32 = 3;

@@ -22,6 +22,17 @@ pub room-is : (ns bs : List ℕ) (room : ℕ) → room ≡ min (length bs / 4) (
 unfolding hostRoom
 room-is ns bs room e n = length-take-le room ns (omega (arith, e)) ∙ e ∙ ap (min (length bs / 4)) n
 
+-- Line numbers that stand first in what was lent: there is room for them.
+module _ (front front′ ls : List ℕ) {count : ℕ} (stands : front′ ≡ placed ls front) (counted : count ≡ length ls) (kept : length front′ ≡ length front) where
+  pub within : count ≤ length front
+  unfolding placed
+  within = omega (arith, counted, kept, ap (length {A = ℕ}) stands, length-append ls (drop (length ls) front))
+
+  pub first-lines : (rest : List ℕ) → take count (front′ ++ rest) ≡ ls
+  unfolding placed
+  first-lines rest =
+      take-append-le count front′ rest (omega (arith, within, kept)) ∙ ap (take count) stands ∙ take-at ls (drop (length ls) front) count (sym counted)
+
 told-read : {a : ReadAnswer} {o : ReadOutcome} {count : ℕ} {pos neg : Span} → ReadAnswers a o → a ≡ Read count pos neg →
     (ls : List ℕ) × (o ≡ read ls pos neg) × (count ≡ length ls)
 told-read (lines {ls = ls}) e = (ls, cc, cc)
@@ -58,16 +69,15 @@ module _ {Asks : ReadOutcome → Type 0} {front front′ : List ℕ} {a : ReadAn
   unfolding ls
   count-is = told-read (d .answers) e .2
 
-  stands : front′ ≡ ls ++ drop (length ls) front
-  unfolding placed linesAfter
+  stands : front′ ≡ placed ls front
+  unfolding linesAfter
   stands = d .buffer-after ∙ ap (λ (o : ReadOutcome). linesAfter o front) outcome-is
 
   pub count-fits : count ≤ length front
-  count-fits = omega (arith, count-is, kept, ap (length {A = ℕ}) stands, length-append ls (drop (length ls) front))
+  count-fits = within front front′ ls stands count-is kept
 
   first : (rest : List ℕ) → take count (front′ ++ rest) ≡ ls
-  first rest =
-      take-append-le count front′ rest (omega (arith, count-fits, kept)) ∙ ap (take count) stands ∙ take-at ls (drop (length ls) front) count (sym count-is)
+  first rest = first-lines front front′ ls stands count-is kept rest
 
 module _ (mb ref : List ℕ) {front front′ : List ℕ} {a : ReadAnswer} (d : ReadAnswered (Reads mb ref workLength (length front)) front front′ a) where
   pub host-read : {count : ℕ} {pos neg : Span} {room room′ : List ℕ} → a ≡ Read count pos neg → length front′ ≡ length front → (rest : List ℕ) →

@@ -13,12 +13,15 @@ use Rattle.model.specs.declared.Refusal.{Refusal}
 use Rattle.model.specs.declared.WriteAnswer.{WriteAnswer}
 use Rattle.model.specs.declared.WriteAnswer.the-variants.{Written, Refused}
 use Rattle.model.specs.Map.{Map}
-use Rattle.model.specs.Refusal.{row, refusalOf}
+use Rattle.model.specs.Refusal.{row, numberOf, refusalOf}
 use Rattle.model.specs.Stretch.{Stretch, StretchAnswer, checkStretch, greatestStretch, stretchOf}
 use Rattle.model.specs.Outcome.{WriteOutcome, written, WriteStretch, Writes}
 use Rattle.model.specs.Work.{workLength}
 use Rattle.model.specs.Call.{bytesAfter, WriteAnswers, bytes, refusal, WriteAnswered}
-use Rattle.model.specs.Host.{hostStretch, HostWritten, hostWritten, hostBytesAfter, HostWriteCall}
+use Rattle.model.specs.Host.{hostStretch, HostWritten, hostWritten, hostBytesAfter, HostWriteCall, HostPointWriteCall}
+use Rattle.model.specs.Reference.{longestReference}
+use Rattle.model.specs.PointAlong.{GivenPoint, PointWrites}
+use Rattle.model.proofs.PointTrip.{point-written-few}
 use Rattle.model.proofs.Demand3.{written-bytes}
 use Rattle.openlr.specs.Host.{stretchLines}
 
@@ -59,38 +62,54 @@ told-refused : {a : WriteAnswer} {o : WriteOutcome} {why : Refusal} → WriteAns
 told-refused bytes e = absurd (let z : _≡_ {A = ℕ} 0 1 = cc in omega arith)
 told-refused refusal e = cc
 
--- A reference has 459 bytes at most.
-pub count-small : (mb : List ℕ) (s : Stretch) {room room′ : List ℕ} {a : WriteAnswer} {count : ℕ} →
-    WriteAnswered (Writes mb s workLength (length room)) room room′ a → a ≡ Written count → count ≤ 459
-count-small mb s {room = room} d e =
+-- A reference has 459 bytes at most, and so has a point.
+pub count-small : (mb : List ℕ) (s : Stretch) {room room′ : List ℕ} {a : WriteAnswer} → WriteAnswered (Writes mb s workLength (length room)) room room′ a →
+    (count : ℕ) → a ≡ Written count → count ≤ longestReference
+count-small mb s {room = room} d count e =
     let t = told-written (d .answers) e in
     let w = written-bytes mb (t .0) s workLength (length room) (subst (λ (o : WriteOutcome). Writes mb s workLength (length room) o) (t .1) (d .asked)) in
     omega (arith, t .2, w .2)
+
+pub point-count-small : (mb : List ℕ) (p : GivenPoint) {room room′ : List ℕ} {a : WriteAnswer} →
+    WriteAnswered (PointWrites mb p workLength (length room)) room room′ a → (count : ℕ) → a ≡ Written count → count ≤ longestReference
+point-count-small mb p {room = room} d count e =
+    let t = told-written (d .answers) e in
+    let w = point-written-few mb (t .0) p workLength (length room) (subst (λ (o : WriteOutcome). PointWrites mb p workLength (length room) o) (t .1) (d .asked)) in
+    omega (arith, t .2, w .1)
+
+-- What a host gets tells the outcome.
+pub host-wrote-bytes : {a : WriteAnswer} {o : WriteOutcome} {count : ℕ} → a ≡ Written count → WriteAnswers a o →
+    record { refusal = 0; bytes = count } ≡ hostWritten o
+unfolding hostWritten
+host-wrote-bytes e h = let t = told-written h e in ap (λ (n : ℕ). record { refusal = 0; bytes = n }) (t .2) ∙ ap hostWritten (sym (t .1))
+
+pub host-wrote-none : {a : WriteAnswer} {o : WriteOutcome} {why : Refusal} {n : ℕ} → a ≡ Refused why → n ≡ numberOf (refusalOf why) → WriteAnswers a o →
+    record { refusal = n; bytes = 0 } ≡ hostWritten o
+unfolding hostWritten
+host-wrote-none e f h = ap (λ (k : ℕ). record { refusal = k; bytes = 0 }) f ∙ ap hostWritten (sym (told-refused h e))
 
 same-bytes : (room : List ℕ) (o : WriteOutcome) → bytesAfter o room ≡ hostBytesAfter o room
 unfolding bytesAfter hostBytesAfter
 same-bytes room (written bs) = refl
 same-bytes room (WriteOutcome.refused r) = refl
 
-module _ (mb ns : List ℕ) (pos neg : ℕ) {room room′ : List ℕ} {a : WriteAnswer} (d : WriteAnswered (Writes mb (stretchOf ns pos neg) workLength (length room)) room room′ a)
-    (stretch : List ℕ) (taken : ns ≡ take 65 (stretchLines stretch)) where
-  host-call : {r : HostWritten} → r ≡ hostWritten (d .outcome) → HostWriteCall mb stretch pos neg room r room′
-  host-call given =
-      record {
-        answered = record {
-          outcome = d .outcome;
-          asked = stretch-stands mb stretch ns pos neg workLength (length room) (d .outcome) taken (d .asked);
-          answers = given;
-          buffer-after = d .buffer-after ∙ same-bytes room (d .outcome);
-        };
-      }
+pub host-call : (mb ns : List ℕ) (pos neg : ℕ) {room room′ : List ℕ} {a : WriteAnswer} →
+    (d : WriteAnswered (Writes mb (stretchOf ns pos neg) workLength (length room)) room room′ a) (stretch : List ℕ) → ns ≡ take 65 (stretchLines stretch) →
+    {r : HostWritten} → r ≡ hostWritten (d .outcome) → HostWriteCall mb stretch pos neg room r room′
+host-call mb ns pos neg {room = room} d stretch taken given =
+    record {
+      answered = record {
+        outcome = d .outcome;
+        asked = stretch-stands mb stretch ns pos neg workLength (length room) (d .outcome) taken (d .asked);
+        answers = given;
+        buffer-after = d .buffer-after ∙ same-bytes room (d .outcome);
+      };
+    }
 
-  pub host-written : {count : ℕ} → a ≡ Written count → HostWriteCall mb stretch pos neg room (record { refusal = 0; bytes = count }) room′
-  unfolding hostWritten
-  host-written e =
-      let t = told-written (d .answers) e in
-      host-call (ap (λ (n : ℕ). record { refusal = 0; bytes = n }) (t .2) ∙ ap hostWritten (sym (t .1)))
-
-  pub host-not-written : {why : Refusal} {r : HostWritten} → a ≡ Refused why → r ≡ hostWritten (WriteOutcome.refused (refusalOf why)) →
-      HostWriteCall mb stretch pos neg room r room′
-  host-not-written e given = host-call (given ∙ ap hostWritten (sym (told-refused (d .answers) e)))
+pub host-point-call : (mb : List ℕ) (p : GivenPoint) {room room′ : List ℕ} {a : WriteAnswer} →
+    (d : WriteAnswered (PointWrites mb p workLength (length room)) room room′ a) {r : HostWritten} → r ≡ hostWritten (d .outcome) →
+    HostPointWriteCall mb p room r room′
+host-point-call mb p {room = room} d given =
+    record {
+      answered = record { outcome = d .outcome; asked = d .asked; answers = given; buffer-after = d .buffer-after ∙ same-bytes room (d .outcome) };
+    }

@@ -1,9 +1,10 @@
 -- The C functions' structs as the records of the definitions, and the lines of a host's stretch.
 use Prim.Native.Nat.{ℕ}
 use mathlib.Core.List.{List}
-use Rattle.model.specs.Host.{HostRead, HostWritten, hostStretch}
+use Rattle.model.specs.Host.{HostRead, HostWritten, hostStretch, HostPoint}
 use Rattle.openlr.specs.declared.Lines.{Lines}
 use Rattle.openlr.specs.declared.Written.{Written}
+use Rattle.openlr.specs.declared.point.Point.{Point}
 
 -- `struct openlr_reading`.
 unfoldable pub asRead : Lines → HostRead
@@ -18,7 +19,20 @@ asRead r =
       negGreatest = r .«neg_greatest»;
     }
 
--- `struct openlr_written`.
+-- `struct openlr_point`.
+unfoldable pub asPoint : Point → HostPoint
+asPoint r =
+    record {
+      refusal = r .refusal;
+      place = r .place;
+      lines = r .lines;
+      least = r .least;
+      greatest = r .greatest;
+      orientation = r .orientation;
+      side = r .side;
+    }
+
+-- `struct openlr_written`, and `struct openlr_point_written`.
 unfoldable pub asWritten : Written → HostWritten
 asWritten r = record { refusal = r .refusal; bytes = r .bytes }
 

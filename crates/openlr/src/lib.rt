@@ -16,12 +16,16 @@ ghost use Prim.Native.Nat.{ℕ, _≤_};
 ghost use mathlib.Core.List.{List};
 ghost use lib.ListN.{length, take};
 ghost use Rattle.model.specs.Refusal.{refusalOf};
-ghost use Rattle.model.specs.Outcome.{ReadOutcome, Reads, Writes};
+ghost use Rattle.model.specs.Reference.{longestReference};
+ghost use Rattle.model.specs.Outcome.{ReadOutcome, Reads, WriteOutcome, Writes};
 ghost use Rattle.model.specs.Work.{workLength};
-ghost use Rattle.model.specs.Call.{ReadAnswered, WriteAnswered};
-ghost use Rattle.model.specs.Host.{greatestHostLines, hostRead, HostReadCall, HostWriteCall};
+ghost use Rattle.model.specs.Call.{WriteAnswers, ReadAnswered, WriteAnswered};
+ghost use Rattle.model.specs.declared.WriteAnswer.the-variants as Writer;
+ghost use Rattle.model.specs.Host.{greatestHostLines, hostRead, HostReadCall, hostWritten, HostWriteCall};
 ghost use Rattle.model.specs.Stretch.{stretchOf};
 ghost use Rattle.openlr.specs.Host.{asRead, asWritten, stretchLines};
+
+pub mod point;
 
 // How many line numbers are taken from a stretch: one more than it may have, so that a longer one is refused.
 const STRETCH_NUMBERS: usize = GREATEST_STRETCH + 1;
@@ -58,6 +62,26 @@ fn no_lines(why: Refusal) -> Lines
         pos_greatest: 0,
         neg_least: 0,
         neg_greatest: 0,
+    }
+}
+
+// What the host gets for a writer's answer, of stretches or of points.
+fn told(answer: WriteAnswer) -> Written
+    requires { ⌜ ((count : ℕ) → answer ≡ Writer.Written count → count ≤ longestReference) ⌝ }
+    ensures { λ r. ⌜ ((o : WriteOutcome) → WriteAnswers answer o → asWritten r ≡ hostWritten o) ⌝ }
+{
+    match answer {
+        WriteAnswer::Written(count) => Written {
+            refusal: 0,
+            bytes: count as u32,
+        },
+        WriteAnswer::Refused(why) => {
+            let number = number_of(why);
+            Written {
+                refusal: number,
+                bytes: 0,
+            }
+        }
     }
 }
 
@@ -127,19 +151,7 @@ fn write_taken(map: &[u8], numbers: &[u32], pos: u32, neg: u32, bytes: &mut [u8]
     ensures { λ r. ⌜ ((stretch : List ℕ) → now (numbers .entry) ≡ take 65 (stretchLines stretch)
         → HostWriteCall (now (map .entry)) stretch pos neg (now (bytes .entry)) (asWritten r) (now (bytes .exit))) ⌝ }
 {
-    match write_from(map, numbers, pos, neg, bytes) {
-        WriteAnswer::Written(count) => Written {
-            refusal: 0,
-            bytes: count as u32,
-        },
-        WriteAnswer::Refused(why) => {
-            let number = number_of(why);
-            Written {
-                refusal: number,
-                bytes: 0,
-            }
-        }
-    }
+    told(write_from(map, numbers, pos, neg, bytes))
 }
 
 // Writes a reference for a stretch on a map. `stretch` has the line numbers, four bytes each, low byte first.

@@ -90,7 +90,7 @@ fn on_places(
 }
 
 // The answer for bytes that are a reference.
-fn on_points(
+pub fn on_points(
     bytes: &[u8],
     points: usize,
     work: &mut [u32],

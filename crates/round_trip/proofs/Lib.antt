@@ -1,2 +1,3 @@
 -- Demand 3 over the definitions and the two contracts make the claim about calls.
+pub mod Wrote
 pub mod Handed

@@ -8,7 +8,6 @@ use buffers::lesser;
 use buffers::words::take_words;
 use cases::Part;
 use cases::sum_of;
-use cases::sum_of_bytes;
 use cases::word_at;
 use console::hand_over;
 use marks::bytes_kept;
@@ -16,9 +15,9 @@ use marks::fill;
 use marks::fill_bytes;
 use marks::put_rest;
 use marks::put_work;
+use marks::put_written;
 use model::ReadAnswer;
 use model::WriteAnswer;
-use model::number_of;
 use reader::read;
 use writer::write;
 ghost use Rattle.io.specs.Counts.{Counts};
@@ -31,18 +30,6 @@ fn count_of(answer: WriteAnswer) -> usize {
     match answer {
         WriteAnswer::Written(count) => count,
         WriteAnswer::Refused(_) => 0,
-    }
-}
-
-// Puts an answer and, where it hands back bytes, a sum over them; a count beyond the buffer shows by itself.
-fn put_written(answer: WriteAnswer, bytes: &[u8], row: &mut [u8]) -> usize {
-    match answer {
-        WriteAnswer::Written(count) => {
-            let end = put_number(b"bytes ", count as u64, row, 0);
-            let handed_back = lesser(count, bytes.len());
-            put_number(b" sum ", sum_of_bytes(bytes, handed_back), row, end)
-        }
-        WriteAnswer::Refused(why) => put_number(b"refused ", number_of(why) as u64, row, 0),
     }
 }
 

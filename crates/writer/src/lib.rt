@@ -28,7 +28,7 @@ const LEG_TESTS: usize = 4_160;
 const CUTS: usize = 65;
 
 // The answer for what remains of a stretch.
-fn on_part(
+pub fn on_part(
     work: &mut [u32],
     lines: usize,
     part: &[u32],

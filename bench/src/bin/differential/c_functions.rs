@@ -1,5 +1,7 @@
 //! The C functions of include/openlr.h.
 
+use plain::point::Point;
+
 use crate::memory::Memory;
 
 /// `struct openlr_reading`.
@@ -15,7 +17,20 @@ pub struct ReadingAnswer {
     pub neg_greatest: u32,
 }
 
-/// `struct openlr_written`.
+/// `struct openlr_point`.
+#[repr(C)]
+#[derive(Clone, Copy, Debug, Default, PartialEq, Eq)]
+pub struct PointAnswer {
+    pub refusal: u32,
+    pub place: u32,
+    pub lines: u32,
+    pub least: u32,
+    pub greatest: u32,
+    pub orientation: u32,
+    pub side: u32,
+}
+
+/// `struct openlr_written`, and `struct openlr_point_written`, whose count is called `bytes`.
 #[repr(C)]
 #[derive(Clone, Copy, Debug, Default, PartialEq, Eq)]
 pub struct WrittenAnswer {
@@ -40,6 +55,24 @@ extern "C" {
         stretch_len: usize,
         pos: u32,
         neg: u32,
+        byte_buffer: *mut u8,
+        byte_buffer_len: usize,
+    ) -> WrittenAnswer;
+    fn openlr_read_point(
+        map: *const u8,
+        map_len: usize,
+        reference: *const u8,
+        reference_len: usize,
+        line_buffer: *mut u8,
+        line_buffer_len: usize,
+    ) -> PointAnswer;
+    fn openlr_write_point(
+        map: *const u8,
+        map_len: usize,
+        line: u32,
+        offset: u32,
+        orientation: u32,
+        side: u32,
         byte_buffer: *mut u8,
         byte_buffer_len: usize,
     ) -> WrittenAnswer;
@@ -72,6 +105,38 @@ pub fn write(memory: &mut Memory, pos: u32, neg: u32) -> WrittenAnswer {
             given.len(),
             pos,
             neg,
+            buffer.as_mut_ptr(),
+            buffer.len(),
+        )
+    }
+}
+
+/// Reads the point that the memory holds beside the map.
+pub fn read_point(memory: &mut Memory) -> PointAnswer {
+    let Memory { map, given, buffer } = memory;
+    unsafe {
+        openlr_read_point(
+            map.as_mut_ptr(),
+            map.len(),
+            given.as_mut_ptr(),
+            given.len(),
+            buffer.as_mut_ptr(),
+            buffer.len(),
+        )
+    }
+}
+
+/// Writes a point on the map that the memory holds.
+pub fn write_point(memory: &mut Memory, point: Point) -> WrittenAnswer {
+    let Memory { map, buffer, .. } = memory;
+    unsafe {
+        openlr_write_point(
+            map.as_mut_ptr(),
+            map.len(),
+            point.line,
+            point.offset,
+            point.orientation,
+            point.side,
             buffer.as_mut_ptr(),
             buffer.len(),
         )

@@ -33,8 +33,7 @@ pub struct WriteCall<'a> {
 impl ReadCall<'_> {
     /// The outcome that both agree on, or how they differ.
     pub fn compare(&self) -> Result<Outcome<Reading>, String> {
-        let lines = (self.room / 4).min(MOST_LINES_READ);
-        let outcome = reader::read(self.map, self.reference, WORK_AREA, lines);
+        let outcome = reader::read(self.map, self.reference, WORK_AREA, line_room(self.room));
         let (answer, result) = match &outcome {
             Ok(reading) => (reading_answer(reading), line_bytes(&reading.lines)),
             Err(refusal) => (reading_refusal(*refusal), Vec::new()),
@@ -88,9 +87,14 @@ impl WriteCall<'_> {
     }
 }
 
+/// How many lines a buffer of so many bytes has room for.
+pub fn line_room(room: usize) -> usize {
+    (room / 4).min(MOST_LINES_READ)
+}
+
 /// Calls a C function on the memory. It must give this answer, put this result first in the buffer
 /// and change nothing else.
-fn compare<Answer: Debug + PartialEq>(
+pub fn compare<Answer: Debug + PartialEq>(
     call: impl FnOnce(&mut Memory) -> Answer,
     mut memory: Memory,
     result: &[u8],
@@ -125,14 +129,14 @@ fn reading_refusal(refusal: Refusal) -> ReadingAnswer {
     }
 }
 
-fn written_answer(reference: &[u8]) -> WrittenAnswer {
+pub fn written_answer(reference: &[u8]) -> WrittenAnswer {
     WrittenAnswer {
         refusal: 0,
         byte_count: reference.len() as u32,
     }
 }
 
-fn written_refusal(refusal: Refusal) -> WrittenAnswer {
+pub fn written_refusal(refusal: Refusal) -> WrittenAnswer {
     WrittenAnswer {
         refusal: refusal.number(),
         byte_count: 0,

@@ -1,11 +1,13 @@
 //! Maps and references with something changed.
 
 use plain::depot_map::{Ban, DepotMap};
-use plain::fields::{coordinate_code, NEGATIVE_FLAG, POSITIVE_FLAG, SHORTEST_REFERENCE};
+use plain::fields::{
+    coordinate_code, place_of_p, NEGATIVE_FLAG, POSITIVE_FLAG, SHORTEST_REFERENCE,
+};
 use plain::maps::{number_parts, push_number, MapPlan, Xorshift, LINE_NUMBERS, PAIR_NUMBERS};
 
 use crate::inputs::{random_bytes, EASTERNMOST, MOST_BANS, WESTERNMOST};
-use crate::points::{hops, legs, place_of_p, Hop};
+use crate::points::{hops, legs, Hop};
 
 /// At the edges of the ranges of a map's numbers.
 #[rustfmt::skip]

@@ -169,7 +169,7 @@ pub fn full_size_plan(rng: &mut Xorshift, turn: u64) -> MapPlan {
 }
 
 /// A walk of this many lines, or of fewer where dead ends are met. One line is always found.
-fn walk(rng: &mut Xorshift, map: &DepotMap, count: u32, turns: Turns) -> Vec<u32> {
+pub fn walk(rng: &mut Xorshift, map: &DepotMap, count: u32, turns: Turns) -> Vec<u32> {
     let mut counts = (0..32).map(|turn| (count >> turn).max(1) as usize);
     let found = counts.find_map(|count| random_walk(rng, map, count, turns));
     found.unwrap_or_default()
@@ -199,7 +199,7 @@ pub fn any_stretch(rng: &mut Xorshift, map: &DepotMap) -> Vec<u8> {
 }
 
 /// Once in so many times banned turns too.
-fn any_turns(rng: &mut Xorshift, rarity: u32) -> Turns {
+pub fn any_turns(rng: &mut Xorshift, rarity: u32) -> Turns {
     match rng.below(rarity) {
         0 => Turns::BannedToo,
         _ => Turns::Allowed,
@@ -310,7 +310,7 @@ pub fn reference_along_chain(map: &DepotMap, count: usize) -> Vec<u8> {
     reference_bytes(map, &stretch, &places)
 }
 
-fn shortest_line(map: &DepotMap, start: u32, end: u32) -> Option<u32> {
+pub fn shortest_line(map: &DepotMap, start: u32, end: u32) -> Option<u32> {
     let between = |line: &u32| map.line(*line).end == end;
     let lines = map.lines_from(start).filter(between);
     lines.min_by_key(|line| map.line(*line).length)
@@ -320,4 +320,10 @@ fn shortest_line(map: &DepotMap, start: u32, end: u32) -> Option<u32> {
 pub fn random_bytes(rng: &mut Xorshift, counts: &[u32]) -> Vec<u8> {
     let count = *rng.pick(counts);
     (0..count).map(|_| rng.below(256) as u8).collect()
+}
+
+/// The length of a line buffer in bytes that is just long enough for these lines, or too short.
+pub fn room_at_the_edge(rng: &mut Xorshift, lines: &[u32]) -> usize {
+    let enough = 4 * lines.len();
+    *rng.pick(&[enough, enough + 3, enough - 1, enough - 4, 0])
 }

@@ -1,4 +1,4 @@
-//! Compares the C functions with the plain writer and reader on random calls.
+//! Compares the C functions with the plain writers and readers on random calls.
 //!
 //! `differential COUNT SEED` makes that many calls or a few more. It stops at the first difference
 //! and shows the call. `differential replay` makes the calls in the rows of the standard input,
@@ -11,6 +11,10 @@ mod damages;
 mod inputs;
 mod memory;
 mod meridian;
+mod point_calls;
+mod point_counts;
+mod point_inputs;
+mod point_run;
 mod points;
 mod run;
 mod step_counts;
@@ -21,6 +25,7 @@ use std::process::ExitCode;
 use plain::maps::Xorshift;
 
 use calls::{ReadCall, WriteCall};
+use point_calls::{ReadPointCall, WritePointCall};
 use run::Run;
 
 fn main() -> ExitCode {
@@ -41,11 +46,16 @@ fn main() -> ExitCode {
 fn replay() -> Result<(), String> {
     for row in io::stdin().lines() {
         let row = row.map_err(|error| error.to_string())?;
-        let compared = ReadCall::compare_row(&row).or_else(|| WriteCall::compare_row(&row));
-        let compared = compared.ok_or_else(|| format!("not a call: {row}"))?;
+        let compared = compare_row(&row).ok_or_else(|| format!("not a call: {row}"))?;
         compared.map_err(|difference| format!("{row}\n{difference}"))?;
     }
     Ok(())
+}
+
+fn compare_row(row: &str) -> Option<Result<(), String>> {
+    let of_lines = ReadCall::compare_row(row).or_else(|| WriteCall::compare_row(row));
+    let of_points = || ReadPointCall::compare_row(row).or_else(|| WritePointCall::compare_row(row));
+    of_lines.or_else(of_points)
 }
 
 fn compare(count: &str, seed: &str) -> Result<(), String> {
@@ -53,12 +63,12 @@ fn compare(count: &str, seed: &str) -> Result<(), String> {
     let (count, seed): (u64, u64) = (number(count)?, number(seed)?);
     let mut run = Run::default();
     let mut turn = 0;
-    while run.calls < count {
+    while run.calls() < count {
         let rng = &mut Xorshift::new(seed.wrapping_mul(1_000_003).wrapping_add(turn));
         let compared = run.turn(rng, turn);
-        compared.map_err(|difference| format!("seed {seed} call {}\n{difference}", run.calls))?;
+        compared.map_err(|difference| format!("seed {seed} call {}\n{difference}", run.calls()))?;
         turn += 1;
     }
-    println!("seed {seed}, {} calls, maps {turn}", run.calls);
+    println!("seed {seed}, {} calls, maps {turn}", run.calls());
     run.report()
 }

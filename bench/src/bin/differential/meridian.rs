@@ -2,8 +2,7 @@
 
 use plain::depot_map::{DepotMap, Node};
 use plain::maps::MapPlan;
-use plain::outcome::{Outcome, Reading, Refusal, WORK_AREA};
-use plain::writer::{write, Stretch};
+use plain::outcome::{Outcome, Refusal};
 
 use crate::counts::print_rows;
 use crate::points::{hops, Hop};
@@ -25,12 +24,12 @@ const NO_LONGITUDE: [i32; 2] = [17_999_999, -18_000_001];
 
 #[derive(Default)]
 pub struct Meridian {
-    /// Stretches with a leg over the meridian, and those of them with one of the greatest and of the
-    /// least difference.
+    /// Stretches or points with a leg over the meridian, and those of them with one of the greatest
+    /// and of the least difference.
     written: Ways,
     written_greatest: Ways,
     written_least: Ways,
-    /// Stretches with refusal 10 for differences that are too great by one alone.
+    /// Those with refusal 10 for differences that are too great by one alone.
     too_far: Ways,
     /// References with a leg over the meridian.
     read: Ways,
@@ -51,16 +50,23 @@ impl Meridian {
         }
     }
 
-    /// Of what is left of a stretch with refusal 10.
-    pub fn count_too_far(&mut self, map: &DepotMap, plan: &MapPlan, left: &Stretch) {
+    /// Of lines with refusal 10. It is asked whether they are written where all nodes on one side of
+    /// the meridian are one nearer to it.
+    pub fn count_too_far(
+        &mut self,
+        map: &DepotMap,
+        plan: &MapPlan,
+        lines: &[u32],
+        is_written: impl Fn(&[u8]) -> bool,
+    ) {
         for way in [EAST, WEST] {
-            let is_too_far = has_nodes_apart(map, left, TOO_GREAT[way]);
-            let is_alone = is_too_far && is_written_with_sides_nearer(plan, left);
+            let is_too_far = has_nodes_apart(map, lines, TOO_GREAT[way]);
+            let is_alone = is_too_far && is_written(&with_sides_nearer(plan).encode());
             count(&mut self.too_far[way], is_alone);
         }
     }
 
-    pub fn count_read(&mut self, map: &DepotMap, reference: &[u8], outcome: &Outcome<Reading>) {
+    pub fn count_read<T>(&mut self, map: &DepotMap, reference: &[u8], outcome: &Outcome<T>) {
         let hops = match outcome {
             Ok(_) | Err(Refusal::PointWithoutNode(1..)) => hops(map, reference),
             Err(_) => return,
@@ -77,8 +83,8 @@ impl Meridian {
         }
     }
 
-    /// Prints the counts. Nothing must be missing.
-    pub fn report(&self) -> Result<(), String> {
+    /// Prints the counts of stretches or points. Nothing must be missing.
+    pub fn report(&self, of: &str) -> Result<(), String> {
         let rows = [
             ("written", self.written),
             ("written, greatest difference", self.written_greatest),
@@ -88,7 +94,8 @@ impl Meridian {
             ("refused 16", self.no_node),
             ("refused 16 at 17,999,999", self.no_longitude),
         ];
-        print_rows("over the 180th meridian, eastward and westward", &rows)
+        let title = format!("{of} over the 180th meridian, eastward and westward");
+        print_rows(&title, &rows)
     }
 }
 
@@ -104,9 +111,9 @@ fn is_across(hop: &Hop, way: usize) -> bool {
 }
 
 /// Whether two nodes on the way are so far apart, with the meridian between them.
-fn has_nodes_apart(map: &DepotMap, stretch: &Stretch, difference: i32) -> bool {
-    let starts = stretch.lines.iter().map(|&line| map.line(line).start);
-    let ends = stretch.lines.iter().map(|&line| map.line(line).end);
+fn has_nodes_apart(map: &DepotMap, lines: &[u32], difference: i32) -> bool {
+    let starts = lines.iter().map(|&line| map.line(line).start);
+    let ends = lines.iter().map(|&line| map.line(line).end);
     let is_apart = |from: Node, to: Node| {
         let is_across = to.longitude - from.longitude != difference;
         is_across && from.differences_to(to)[0] == difference
@@ -117,11 +124,9 @@ fn has_nodes_apart(map: &DepotMap, stretch: &Stretch, difference: i32) -> bool {
     })
 }
 
-/// Whether the stretch is written where all nodes on one side of the meridian are one nearer to it.
-fn is_written_with_sides_nearer(plan: &MapPlan, stretch: &Stretch) -> bool {
+fn with_sides_nearer(plan: &MapPlan) -> MapPlan {
     let mut plan = plan.clone();
     let west_of_greenwich = plan.nodes.iter_mut().filter(|node| node.longitude < 0);
     west_of_greenwich.for_each(|node| node.longitude -= 1);
-    let (pos, neg) = (stretch.positive, stretch.negative);
-    write(&plan.encode(), stretch.lines, pos, neg, WORK_AREA, 459).is_ok()
+    plan
 }

@@ -1,15 +1,10 @@
 //! The points of a reference: where they stand in its bytes, and on the map.
 
 use plain::depot_map::{DepotMap, Node};
-use plain::fields::{FIRST_POINT_BYTES, MIDDLE_POINT_BYTES, SHORTEST_REFERENCE};
+use plain::fields::{place_of_p, MIDDLE_POINT_BYTES, SHORTEST_REFERENCE};
 
 pub fn legs(reference: &[u8]) -> usize {
     (reference.len() - SHORTEST_REFERENCE) / MIDDLE_POINT_BYTES + 1
-}
-
-/// P of a point: the byte after it is Q or R, and the one after Q is D.
-pub fn place_of_p(point: usize) -> usize {
-    FIRST_POINT_BYTES - 2 + MIDDLE_POINT_BYTES * point
 }
 
 /// From a point that has a node to the next, which need not have one.

@@ -2,25 +2,26 @@
 
 use plain::depot_map::DepotMap;
 use plain::maps::{chain, Lengths, MapPlan, Xorshift};
-use plain::outcome::{Outcome, Reading, Refusal, Span};
-use plain::writer::Stretch;
+use plain::outcome::{Outcome, Reading, Refusal, Span, WORK_AREA};
+use plain::writer::{write, Stretch};
 
 use crate::calls::{line_numbers, ReadCall, WriteCall, MOST_LINES_READ};
+use crate::counts::{count, print_answers, Answers};
 use crate::damages::{damaged_map, damaged_reference};
 use crate::inputs::{
     any_offsets, any_reference, any_small_plan, any_stretch, full_size_plan, move_over_meridian,
-    random_bytes, reference_along_chain,
+    random_bytes, reference_along_chain, room_at_the_edge,
 };
 use crate::meridian::Meridian;
+use crate::point_inputs::any_point_reference;
+use crate::point_run::PointRun;
 use crate::step_counts::{self, StepCounts};
 
 /// Of so many maps one is of full size, and one is for long lists.
 const FULL_SIZE_EVERY: u64 = 10;
 
-const ENOUGH_FOR_LINES: usize = 4 * MOST_LINES_READ;
+pub const ENOUGH_FOR_LINES: usize = 4 * MOST_LINES_READ;
 
-/// How many calls had each answer: accepted, and then every refusal by its number.
-type Answers = [u64; 25];
 const OF_WRITER: [usize; 13] = [2, 3, 4, 5, 24, 6, 23, 7, 8, 21, 9, 10, 11];
 const OF_READER: [usize; 17] = [
     2, 3, 4, 5, 24, 6, 23, 12, 13, 14, 15, 16, 17, 18, 22, 19, 20,
@@ -28,7 +29,8 @@ const OF_READER: [usize; 17] = [
 
 #[derive(Default)]
 pub struct Run {
-    pub calls: u64,
+    /// Of stretches.
+    calls: u64,
     writes: Answers,
     reads: Answers,
     longest_reference: usize,
@@ -37,13 +39,44 @@ pub struct Run {
     banned_where_skipped: u64,
     meridian: Meridian,
     steps: StepCounts,
+    points: PointRun,
 }
 
+/// How many stretches, points and references of both a map begins with. Most lead to more calls.
+#[derive(Clone, Copy)]
+struct Inputs {
+    stretches: u32,
+    references: u32,
+    points: u32,
+    point_references: u32,
+}
+
+const ON_FULL_SIZE: Inputs = Inputs {
+    stretches: 6,
+    references: 4,
+    points: 3,
+    point_references: 2,
+};
+
+const ON_SMALL: Inputs = Inputs {
+    stretches: 10,
+    references: 6,
+    points: 5,
+    point_references: 4,
+};
+
+const ON_DAMAGED: Inputs = Inputs {
+    stretches: 1,
+    references: 1,
+    points: 1,
+    point_references: 1,
+};
+
 /// A map with its bytes and its plan, which has the steps of its lines.
-struct Sample {
-    bytes: Vec<u8>,
-    map: DepotMap,
-    plan: MapPlan,
+pub struct Sample {
+    pub bytes: Vec<u8>,
+    pub map: DepotMap,
+    pub plan: MapPlan,
 }
 
 impl Sample {
@@ -54,54 +87,61 @@ impl Sample {
 }
 
 impl Run {
+    pub fn calls(&self) -> u64 {
+        self.calls + self.points.calls
+    }
+
     pub fn turn(&mut self, rng: &mut Xorshift, turn: u64) -> Result<(), String> {
         match turn % FULL_SIZE_EVERY {
             0 => {
                 let plan = full_size_plan(rng, turn / FULL_SIZE_EVERY);
-                self.on_plan(rng, &plan, 6, 4)
+                self.on_plan(rng, &plan, ON_FULL_SIZE)
             }
             1 => self.long_lists(rng),
             _ => {
                 let plan = any_small_plan(rng);
-                self.on_plan(rng, &plan, 10, 6)
+                self.on_plan(rng, &plan, ON_SMALL)
             }
         }
     }
 
-    /// So many stretches and references on the map, and a few on maps that differ from it.
+    /// So many inputs on the map, and a few on maps that differ from it.
     fn on_plan(
         &mut self,
         rng: &mut Xorshift,
         plan: &MapPlan,
-        stretches: u32,
-        references: u32,
+        inputs: Inputs,
     ) -> Result<(), String> {
-        self.on_map(rng, plan.encode(), stretches, references)?;
+        self.on_map(rng, plan.encode(), inputs)?;
         for _ in 0..2 {
             let bytes = damaged_map(rng, plan);
-            self.on_map(rng, bytes, 1, 1)?;
+            self.on_map(rng, bytes, ON_DAMAGED)?;
         }
         Ok(())
     }
 
-    /// So many stretches and references on these bytes, if they are a map.
-    fn on_map(
-        &mut self,
-        rng: &mut Xorshift,
-        bytes: Vec<u8>,
-        stretches: u32,
-        references: u32,
-    ) -> Result<(), String> {
+    /// So many inputs on these bytes, if they are a map.
+    fn on_map(&mut self, rng: &mut Xorshift, bytes: Vec<u8>, inputs: Inputs) -> Result<(), String> {
         let Ok(map) = DepotMap::decode(&bytes) else {
-            return self.on_no_map(rng, &bytes);
+            self.on_no_map(rng, &bytes)?;
+            return self.points.on_no_map(rng, &bytes);
         };
         let sample = Sample::new(bytes, map);
-        for _ in 0..stretches {
+        for _ in 0..inputs.stretches {
             self.stretch(rng, &sample)?;
         }
-        for _ in 0..references {
-            let reference = any_reference(rng, &sample.map);
+        for _ in 0..inputs.references {
+            let reference = match rng.below(16) {
+                0 => any_point_reference(rng, &sample.map),
+                _ => any_reference(rng, &sample.map),
+            };
             self.reference(rng, &sample, &reference)?;
+        }
+        for _ in 0..inputs.points {
+            self.points.point(rng, &sample)?;
+        }
+        for _ in 0..inputs.point_references {
+            self.points.reference(rng, &sample)?;
         }
         Ok(())
     }
@@ -169,8 +209,7 @@ impl Run {
         let Ok(reading) = self.read_on(sample, call)? else {
             return Ok(());
         };
-        let enough = 4 * reading.lines.len();
-        let room = *rng.pick(&[enough, enough + 3, enough - 1, enough - 4, 0]);
+        let room = room_at_the_edge(rng, &reading.lines);
         let call = ReadCall { room, ..call };
         self.read_on(sample, call).map(drop)
     }
@@ -197,7 +236,7 @@ impl Run {
             };
             let _ = self.read_on(&sample, call)?;
         }
-        Ok(())
+        self.points.long_lists(rng, &sample)
     }
 
     fn read_on(&mut self, sample: &Sample, call: ReadCall) -> Result<Outcome<Reading>, String> {
@@ -241,7 +280,11 @@ impl Run {
             }
             Err(Refusal::NoUsablePoints) => {
                 let left = given.without_skipped_lines(map);
-                self.meridian.count_too_far(map, &sample.plan, &left);
+                let (pos, neg) = (left.positive, left.negative);
+                let is_written =
+                    |map: &[u8]| write(map, left.lines, pos, neg, WORK_AREA, 459).is_ok();
+                self.meridian
+                    .count_too_far(map, &sample.plan, left.lines, is_written);
             }
             Err(Refusal::BannedInStretch) => {
                 let is_skipped = is_banned_where_skipped(map, &given);
@@ -295,10 +338,11 @@ impl Run {
         if skipped == 0 {
             return Err("no banned turn was in lines skipped whole alone".to_string());
         }
-        self.meridian.report()?;
-        self.steps.report()?;
+        self.meridian.report("stretches")?;
+        self.steps.report("stretches")?;
         print_answers("write", &self.writes, &OF_WRITER)?;
-        print_answers("read", &self.reads, &OF_READER)
+        print_answers("read", &self.reads, &OF_READER)?;
+        self.points.report()
     }
 }
 
@@ -309,31 +353,9 @@ fn is_banned_where_skipped(map: &DepotMap, given: &Stretch) -> bool {
     !left.is_empty() && !left.windows(2).any(banned)
 }
 
-fn count<T>(answers: &mut Answers, outcome: &Outcome<T>) {
-    let number = outcome
-        .as_ref()
-        .map_or_else(|refusal| refusal.number(), |_| 0);
-    answers[number as usize] += 1;
-}
-
 fn stands_for(reading: &Reading, left: &Stretch) -> bool {
     let holds = |span: Span, offset: u32| (span.least..=span.greatest).contains(&offset);
     reading.lines == left.lines
         && holds(reading.positive, left.positive)
         && holds(reading.negative, left.negative)
-}
-
-fn print_answers(name: &str, answers: &Answers, refusals: &[usize]) -> Result<(), String> {
-    print!("{name}: accepted {}, refused", answers[0]);
-    for &refusal in refusals {
-        print!(" {refusal}: {}", answers[refusal]);
-    }
-    println!();
-    if answers[0] == 0 {
-        return Err(format!("{name}: no call was accepted"));
-    }
-    match refusals.iter().find(|&&refusal| answers[refusal] == 0) {
-        Some(refusal) => Err(format!("{name}: no call had refusal {refusal}")),
-        None => Ok(()),
-    }
 }

@@ -6,7 +6,7 @@ use plain::maps::{number_parts, stored_numbers, MapPlan, PlannedLine, LINE_NUMBE
 
 use crate::counts::print_rows;
 
-/// How many calls of the writer, and how many of the reader.
+/// How many calls of the writer, and how many of the reader, of stretches or of points.
 type Calls = [u64; 2];
 pub const WRITER: usize = 0;
 pub const READER: usize = 1;
@@ -72,18 +72,16 @@ impl StepCounts {
         self.next_sector[end] += u64::from(has_next);
     }
 
-    /// Prints the counts. Nothing must be missing.
-    pub fn report(&self) -> Result<(), String> {
+    /// Prints the counts of stretches or points. Nothing must be missing.
+    pub fn report(&self, of: &str) -> Result<(), String> {
         let refused: Vec<_> = FAULTS.into_iter().zip(self.refused).collect();
-        print_rows("refused 24, written and read", &refused)?;
+        print_rows(&format!("{of} refused 24, written and read"), &refused)?;
         let beside = [
             ("same sector by other steps", self.same_sector),
             ("next sector", self.next_sector),
         ];
-        print_rows(
-            "read, with a line beside the first and beside the last",
-            &beside,
-        )
+        let title = format!("{of} read, with a line beside the first and beside the last");
+        print_rows(&title, &beside)
     }
 }
 

@@ -1,29 +1,14 @@
 -- `copy` meets its contract: after i turns the first i numbers are copied.
 use native.Mathlib.Omega.{arith}
 use borrow.Author.Needs.{needs}
-use Prim.Native.Nat.{ℕ, suc, _+_, _-_, _≤_, _<_}
-use mathlib.Core.Path.{_≡_, refl, ap, subst, _∙_}
+use Prim.Native.Nat.{ℕ, _-_, _≤_}
+use mathlib.Core.Path.{_≡_, refl, ap, _∙_}
 use mathlib.Core.List.{List}
 use lib.ListN.{length, getD, set, length-set}
-use lib.Seq.{paste, paste-zero, paste-suc, take-length}
-use Rattle.model.specs.Work.{placed}
+use lib.Seq.{paste, paste-zero}
+use Rattle.buffers.proofs.Copying.{copied-more, copied-all}
 use Rattle.buffers.proofs.copy.Statement.{statement}
 use Rattle.buffers.proofs.copy.Tie as tie
-
--- One number more, and all of them.
-copied-more : (into from : List ℕ) (i : ℕ) → i < length into → i < length from →
-    set (paste into 0 from i) i (getD from i 0) ≡ paste into 0 from (i + 1)
-copied-more into from i fits inside =
-    let at : 0 + i ≡ i = omega arith in
-    let next : i + 1 ≡ suc i = omega arith in
-    rw next
-    (subst (λ (k : ℕ). set (paste into 0 from i) k (getD from i 0) ≡ paste into 0 from (suc i)) at (paste-suc into 0 from i 0 (omega arith) inside))
-
-copied-all : (into from : List ℕ) (i : ℕ) → i ≡ length from → paste into 0 from i ≡ placed from into
-unfolding placed
-copied-all into from i e =
-    let at : 0 + length from ≡ length from = omega arith in
-    rw (e, at, take-length from) refl
 
 abbrev Inv-loop : tie.InvT-loop
 Inv-loop from into₀ n i₀ into i = (i ≤ n) × (n ≡ length from) × (length into ≡ length into₀) × (into ≡ paste into₀ 0 from i)

@@ -3,7 +3,7 @@ use borrow.Author.Needs.{needs}
 use mathlib.Core.Path.{refl, sym}
 use lib.Seq.{length-take-le}
 use borrow.Author.Tests.{not-true, not-false}
-use Rattle.round_trip.proofs.Handed.{same-size}
+use Rattle.round_trip.proofs.Wrote.{same-size}
 use Rattle.host_trip.proofs.Handed.{wrote, not-written, bytes-fit, handed-back, alike}
 use Rattle.host_trip.proofs.write_two_and_read.Statement.{statement}
 use Rattle.host_trip.proofs.write_two_and_read.Tie as tie

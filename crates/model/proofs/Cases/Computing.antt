@@ -14,7 +14,8 @@ use Rattle.model.specs.Locate.{seek, leg-first, arrivalBefore, legsFrom,
 use Rattle.model.specs.Work.{cleared, placed}
 use Rattle.model.specs.Call.{linesAfter, bytesAfter}
 use Rattle.model.specs.Text.{digits, decimal, numbered, each, acceptance, refusal, text, told}
-use Rattle.model.specs.Host.{words, wordBytes, hostStretch, hostRoom, hostRead, hostWritten, hostLinesAfter, hostBytesAfter}
+use Rattle.model.specs.Host.{words, wordBytes, hostStretch, hostRoom, hostRead, hostWritten, hostLinesAfter, hostBytesAfter, hostPoint, hostPointLinesAfter}
+use Rattle.model.specs.PointAlong.{pointAlongBytes, pointAlongAt, parsePoint, lineReference, alongOf, givenBytes, checkPoint, pointLinesAfter}
 
 unfoldable pub computing : Unit {0}
 unfolding
@@ -23,5 +24,6 @@ unfolding
     unknown somePair apart skip remaining checkStretch bytes2 bytes3 byteP byteQ flag byteR pointBytes offsetBytes bytesOf at2 at3 attributes pointAt
     pointsAt positive negative offsetAt pointCount referenceAt spareBits flags parse joined bannedMeeting fromNode toNode arrivalOf legOf firstLeg lastLeg
     pointOf pointsOf offsetOf referenceOf stretchBytes numberOf placeOf refusalOf seek leg-first arrivalBefore legsFrom hasCodes locate cleared placed
-    linesAfter bytesAfter digits decimal numbered each acceptance refusal text told words wordBytes hostStretch hostRoom hostRead hostWritten hostLinesAfter hostBytesAfter
+    linesAfter bytesAfter digits decimal numbered each acceptance refusal text told words wordBytes hostStretch hostRoom hostRead hostWritten hostLinesAfter hostBytesAfter hostPoint hostPointLinesAfter
+    pointAlongBytes pointAlongAt parsePoint lineReference alongOf givenBytes checkPoint pointLinesAfter
 computing = tt

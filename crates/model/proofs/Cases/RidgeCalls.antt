@@ -48,10 +48,10 @@ write-answer WriteAnswers.bytes = refl
 abbrev pub overTheTop : List ℕ
 overTheTop = 0x0B ∷ 0 ∷ 0x01 ∷ 0xD2 ∷ 0 ∷ 0 ∷ 0 ∷ 0x1B ∷ 0x60 ∷ 0x01 ∷ 0x03 ∷ 0xE8 ∷ 0 ∷ 0 ∷ 0x1B ∷ 0x18 ∷ []
 
-abbrev top : Leg
+abbrev pub top : Leg
 top = record { from = 1; to = 3; leaves = road 0; lowest = 3; distance = 1; arrival = matching (road 24) }
 
-top-only : Only ridge top (2 ∷ 3 ∷ [])
+pub top-only : Only ridge top (2 ∷ 3 ∷ [])
 unfolding computing finding
 top-only =
     only ridge top refl (2 ∷ 3 ∷ []) (reading ridge top refl (2 ∷ 3 ∷ []) (search (connects, arith)) refl (omega arith))

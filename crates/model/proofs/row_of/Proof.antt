@@ -76,6 +76,9 @@ enum-told-20 c = search needs
 enum-told-21 : tie.Need-enum-told-21
 enum-told-21 c = search needs
 
+enum-told-22 : tie.Need-enum-told-22
+enum-told-22 c = search needs
+
 returns : tie.Need-returns
 unfolding numberOf placeOf refusalOf
 returns c = (simp (c .enum-told .given .1), simp (c .enum-told .given .1))
@@ -172,6 +175,10 @@ returns-24 : tie.Need-returns-24
 unfolding numberOf placeOf refusalOf
 returns-24 c = (simp (c .enum-told21 .given .1), simp (c .enum-told21 .given .1))
 
+returns-25 : tie.Need-returns-25
+unfolding numberOf placeOf refusalOf
+returns-25 c = (simp (c .enum-told22 .given .1), simp (c .enum-told22 .given .1))
+
 pub row-of-spec : {M : Type 1} → statement M
 row-of-spec =
     tie.close
@@ -200,6 +207,7 @@ row-of-spec =
     enum-told-19
     enum-told-20
     enum-told-21
+    enum-told-22
     returns
     returns-2
     returns-3
@@ -223,4 +231,5 @@ row-of-spec =
     returns-21
     returns-22
     returns-23
-    returns-24)
+    returns-24
+    returns-25)

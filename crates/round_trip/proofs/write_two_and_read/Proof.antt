@@ -3,7 +3,8 @@ use borrow.Author.Needs.{needs}
 use mathlib.Core.Path.{refl, sym}
 use lib.Seq.{length-take-le}
 use borrow.Author.Tests.{not-true, not-false}
-use Rattle.round_trip.proofs.Handed.{wrote, bytes-fit, handed-back, alike, same-size, handed-too}
+use Rattle.round_trip.proofs.Wrote.{same-size}
+use Rattle.round_trip.proofs.Handed.{wrote, bytes-fit, handed-back, alike, handed-too}
 use Rattle.round_trip.proofs.write_two_and_read.Statement.{statement}
 use Rattle.round_trip.proofs.write_two_and_read.Tie as tie
 

@@ -1,0 +1,130 @@
+//! A call of a C function for points, and what the plain Rust says that it gives.
+
+use std::fmt;
+
+use plain::hexadecimal::{bytes, digits};
+use plain::outcome::{Outcome, PointReading, Refusal, WORK_AREA};
+use plain::point::{read_point, write_point, Point};
+
+use crate::c_functions::{self, PointAnswer};
+use crate::calls::{compare, line_bytes, line_room, written_answer, written_refusal};
+use crate::memory::Memory;
+
+#[derive(Clone, Copy)]
+pub struct ReadPointCall<'a> {
+    pub map: &'a [u8],
+    pub reference: &'a [u8],
+    /// In bytes.
+    pub room: usize,
+}
+
+#[derive(Clone, Copy)]
+pub struct WritePointCall<'a> {
+    pub map: &'a [u8],
+    pub point: Point,
+    pub room: usize,
+}
+
+impl ReadPointCall<'_> {
+    /// The outcome that both agree on, or how they differ.
+    pub fn compare(&self) -> Result<Outcome<PointReading>, String> {
+        let outcome = read_point(self.map, self.reference, WORK_AREA, line_room(self.room));
+        let (answer, result) = match &outcome {
+            Ok(reading) => (point_answer(reading), line_bytes(&reading.lines)),
+            Err(refusal) => (point_refusal(*refusal), Vec::new()),
+        };
+        let memory = Memory::new(self.map, self.reference, self.room);
+        compare(c_functions::read_point, memory, &result, answer)?;
+        Ok(outcome)
+    }
+
+    /// Of a row as it is displayed.
+    pub fn compare_row(row: &str) -> Option<Result<(), String>> {
+        let mut words = row.strip_prefix("read_point ")?.split_ascii_whitespace();
+        let (map, reference) = (bytes(words.next()?)?, bytes(words.next()?)?);
+        let call = ReadPointCall {
+            map: &map,
+            reference: &reference,
+            room: words.next()?.parse().ok()?,
+        };
+        Some(call.compare().map(drop))
+    }
+}
+
+impl WritePointCall<'_> {
+    /// The outcome that both agree on, or how they differ.
+    pub fn compare(&self) -> Result<Outcome<Vec<u8>>, String> {
+        let outcome = write_point(self.map, self.point, WORK_AREA, self.room);
+        let (answer, result) = match &outcome {
+            Ok(reference) => (written_answer(reference), reference.as_slice()),
+            Err(refusal) => (written_refusal(*refusal), [].as_slice()),
+        };
+        let memory = Memory::new(self.map, &[], self.room);
+        let write = |memory: &mut Memory| c_functions::write_point(memory, self.point);
+        compare(write, memory, result, answer)?;
+        Ok(outcome)
+    }
+
+    /// Of a row as it is displayed.
+    pub fn compare_row(row: &str) -> Option<Result<(), String>> {
+        let mut words = row.strip_prefix("write_point ")?.split_ascii_whitespace();
+        let map = bytes(words.next()?)?;
+        let mut number = || words.next()?.parse().ok();
+        let point = Point {
+            line: number()?,
+            offset: number()?,
+            orientation: number()?,
+            side: number()?,
+        };
+        let call = WritePointCall {
+            map: &map,
+            point,
+            room: number()? as usize,
+        };
+        Some(call.compare().map(drop))
+    }
+}
+
+fn point_answer(reading: &PointReading) -> PointAnswer {
+    PointAnswer {
+        refusal: 0,
+        place: 0,
+        lines: reading.lines.len() as u32,
+        least: reading.offset.least,
+        greatest: reading.offset.greatest,
+        orientation: reading.orientation,
+        side: reading.side,
+    }
+}
+
+fn point_refusal(refusal: Refusal) -> PointAnswer {
+    PointAnswer {
+        refusal: refusal.number(),
+        place: refusal.place().unwrap_or(0),
+        ..PointAnswer::default()
+    }
+}
+
+/// As `differential replay` takes it.
+impl fmt::Display for ReadPointCall<'_> {
+    fn fmt(&self, out: &mut fmt::Formatter<'_>) -> fmt::Result {
+        let (map, reference) = (digits(self.map), digits(self.reference));
+        write!(out, "read_point {map} {reference} {}", self.room)
+    }
+}
+
+impl fmt::Display for WritePointCall<'_> {
+    fn fmt(&self, out: &mut fmt::Formatter<'_>) -> fmt::Result {
+        let Point {
+            line,
+            offset,
+            orientation,
+            side,
+        } = self.point;
+        let (map, room) = (digits(self.map), self.room);
+        write!(
+            out,
+            "write_point {map} {line} {offset} {orientation} {side} {room}"
+        )
+    }
+}

@@ -1,0 +1,2 @@
+-- Laws of a point's bytes and its marks.
+pub mod AsLine

@@ -1,0 +1,2 @@
+-- What is promised of a point's bytes and its marks.
+pub mod PointForm

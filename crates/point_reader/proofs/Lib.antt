@@ -1,0 +1,2 @@
+-- Laws of the answers of the reader of points.
+pub mod Answers

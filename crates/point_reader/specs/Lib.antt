@@ -1,0 +1,2 @@
+-- What is promised of an answer with a point's marks.
+pub mod Told

@@ -1,0 +1,2 @@
+-- Laws of points written and read.
+pub mod Handed

@@ -1,0 +1,2 @@
+-- The claim of W5 about calls.
+pub mod Told

@@ -1,0 +1,2 @@
+-- What is said of a point as it is given.
+pub mod PointChecks
