@@ -30,6 +30,7 @@ One row decodes 100 maps one after another, so that the processor has learnt non
 Readings of over 2,304 lines are made twice; a C host's lists have 1,024 at most, so those rows are left out of the aim of 1.2.
 Points are written on any lines that are not refused and, in the rows with "others alike", on lines whose class, form of way and sector some other line has at
 one end too: only there has anything to be searched for.
+A row of offsets is of all spans or bytes that it names, each by a call of its own: 256 spans to a leg, and a byte for each offset.
 """
 
 SEARCHES = """\
@@ -83,7 +84,7 @@ def with_commas(text):
 
 def calls_table(rows):
     calls = [row for row in rows if not row[0].startswith("search")]
-    calls.sort(key=lambda row: ("decode", "read", "write", "read point", "write point").index(row[0].split(",")[0]))
+    calls.sort(key=lambda row: ("decode", "read", "write", "read point", "write point", "offsets").index(row[0].split(",")[0]))
     return table(["call", "proved µs", "plain µs", "ratio"], [[with_commas(row[0])] + row[1:] for row in calls])
 
 

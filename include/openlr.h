@@ -35,8 +35,11 @@ extern "C" {
    that runs due east has the steps (200, 0) out and (-200, 0) back. Nothing asks that the point is 20 m off: only its direction counts.
 
    Version 5: points along a line, for single things such as signs and hydrants: openlr_write_point, openlr_read_point and refusal 25 are new. The rest is as
-   in version 4. */
-#define OPENLR_VERSION 5
+   in version 4.
+   Version 6: an offset byte is the nearest 256th of its leg, an exact half upwards, and 255 where that gives 256; before, it was rounded down. So an offset may
+   have another byte, and a byte another span, than in version 5; office and box must have the same version. Refusal 19 follows: on a leg of up to 512
+   decimetres no offset gives byte 0. */
+#define OPENLR_VERSION 6
 #define OPENLR_UNITS_PER_METRE 10
 
 /* The most that there can be, for buffers that are never too short. */
@@ -128,7 +131,8 @@ struct openlr_reading openlr_read(const uint8_t *map, size_t map_len, const uint
    A byte buffer of OPENLR_LONGEST_REFERENCE bytes is long enough for every reference. Where the reference is written, it stands first in the buffer and the
    bytes after it are as before. Where it is refused, all of the buffer is as before.
 
-   Read back on the same map, the bytes give the same lines without those that an offset covers whole, and spans that contain what is left of the offsets. */
+   Read back on the same map, the bytes give the same lines without those that an offset covers whole, and spans that contain what is left of the offsets. A
+   span's ends differ by less than three 512ths of the length of its leg, the first for the positive offset and the last for the negative one. */
 struct openlr_written openlr_write(const uint8_t *map, size_t map_len, const uint8_t *stretch, size_t stretch_len, uint32_t pos, uint32_t neg,
                                    uint8_t *byte_buffer, size_t byte_buffer_len);
 
@@ -160,7 +164,7 @@ struct openlr_point openlr_read_point(const uint8_t *map, size_t map_len, const 
    before. Where it is refused, all of the buffer is as before.
 
    Read back on the same map, with a line buffer of at least four bytes, the bytes give that one line, the orientation and the side, and a span that contains
-   the offset. */
+   the offset. The span's ends differ by less than three 512ths of the line's length. */
 struct openlr_point_written openlr_write_point(const uint8_t *map, size_t map_len, uint32_t line, uint32_t offset, uint32_t orientation, uint32_t side,
                                                uint8_t *byte_buffer, size_t byte_buffer_len);
 

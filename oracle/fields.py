@@ -1,6 +1,6 @@
 """The fields of a reference, as the scope paper's paragraph "The bytes" words them.
 
-Longitude differences are paper 02's, "Depots on the 180th meridian", and sectors too, "Bearings from the drawing".
+Longitude differences are paper 02's, "Depots on the 180th meridian". So are sectors, "Bearings from the drawing", and offset bytes, "Offsets to the nearest".
 """
 
 from bisect import bisect_right
@@ -16,6 +16,7 @@ GREATEST_STEP = 250
 QUARTER_SECTORS = 8
 # Bounds of a square root are one part of these apart.
 ROOT_PARTS = 10 ** 12
+GREATEST_BYTE = 255
 
 
 @lru_cache(maxsize=None)
@@ -94,8 +95,13 @@ def distance_byte(leg_length):
 
 
 def offset_byte(offset, leg_length):
-    """The byte of an offset that is not 0 and is below the leg length."""
-    return 256 * offset // leg_length
+    """The byte of an offset that is not 0 and is below the leg length: the nearest 256th, "an exact half upwards", and "255 where that gives 256".
+
+    The offset is some whole 256ths of the leg and a rest. With a rest of half a 256th or more, the next 256th is the nearest. The tests hold it to fractions.
+    """
+    whole, rest = divmod(256 * offset, leg_length)
+    nearest = whole + 1 if 2 * rest >= leg_length else whole
+    return min(nearest, GREATEST_BYTE)
 
 
 def offset_span_by_trying(byte, leg_length):
@@ -107,11 +113,12 @@ def offset_span_by_trying(byte, leg_length):
 def offset_span(byte, leg_length):
     """The same as offset_span_by_trying, quick enough for long legs. The tests compare the two.
 
-    An offset gives the byte if byte * leg_length <= 256 * offset < (byte + 1) * leg_length. Since a byte is
-    255 at most, such an offset is below the leg length.
+    A byte is nearest from half a 256th below it, that half counted, to half a 256th above it, that half not counted. In 512ths of the leg these are the odd
+    numbers 2 x byte - 1 and 2 x byte + 1, so that (2 x byte - 1) x leg_length <= 512 x offset < (2 x byte + 1) x leg_length. At byte 0 the offset 1 is the
+    first. Byte 255 also has what is nearest to 256, and so goes on to the last offset below the leg length. The others end before 509 512ths at most.
     """
-    least = max(1, -(-byte * leg_length // 256))
-    greatest = ((byte + 1) * leg_length - 1) // 256
+    least = max(1, ceil(Fraction((2 * byte - 1) * leg_length, 512)))
+    greatest = leg_length - 1 if byte == GREATEST_BYTE else ceil(Fraction((2 * byte + 1) * leg_length, 512)) - 1
     return (least, greatest) if least <= greatest else None
 
 

@@ -245,8 +245,8 @@ def full_map_writes(plain, across, stretches):
 def test_writes():
     """The subject is a stretch, four bytes a line; the numbers are the offsets, and the lengths of the work area and of
     the byte buffer."""
-    calls = [*on_small_maps(write_cases, 2_640), *full_map_writes(plain=8, across=2, stretches=24),
-             *on_small_maps(write_cases_across, 99, FULL_SIZE_ACROSS), *on_small_maps(meridian_write_cases, 128)]
+    calls = [*on_small_maps(write_cases, 2_652), *full_map_writes(plain=8, across=2, stretches=24),
+             *on_small_maps(write_cases_across, 102, FULL_SIZE_ACROSS), *on_small_maps(meridian_write_cases, 128)]
     check_room(calls, lambda given: len(given.lines) <= WRITES_LINE_ROOM and given.byte_room <= WRITES_BYTE_ROOM)
     return packed_calls(calls, lambda given: words(given.lines),
                         lambda given: [given.pos, given.neg, given.work_length, given.byte_room], stretch_row)
@@ -284,9 +284,9 @@ def point_row(given, outcome):
 
 def test_points():
     """The subject is the reference to be read, empty where a point is written."""
-    calls = [*on_small_maps(point_read_cases, 820), *on_small_maps(point_read_edge_cases, 400), *on_small_maps(point_write_cases, 625),
-             *on_small_maps(point_write_edge_cases, 270), *full_map_points(plain=5, across=1, points=40),
-             *on_small_maps(point_read_cases_across, 82, FULL_SIZE_ACROSS), *on_small_maps(point_write_cases_across, 75, FULL_SIZE_ACROSS),
+    calls = [*on_small_maps(point_read_cases, 820), *on_small_maps(point_read_edge_cases, 400), *on_small_maps(point_write_cases, 624),
+             *on_small_maps(point_write_edge_cases, 280), *full_map_points(plain=5, across=1, points=40),
+             *on_small_maps(point_read_cases_across, 82, FULL_SIZE_ACROSS), *on_small_maps(point_write_cases_across, 78, FULL_SIZE_ACROSS),
              *on_small_maps(meridian_point_read_cases, 120), *on_small_maps(meridian_point_write_cases, 72)]
     check_room(calls, point_fits)
     return packed_calls(calls, lambda given: b"" if is_written(given) else given.reference, point_numbers, point_row)

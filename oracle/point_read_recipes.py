@@ -11,9 +11,9 @@ from meridian_recipes import all_across, code_of_the_other_side, no_node_across,
 from outcome import PointRead
 from point_along_line import bytes_of_point, read_point
 from point_write_recipes import accepted_point, any_marks, point_write_outcome
-from read_recipes import (AMPLE_LINES, ReadInput, around, around_the_block, around_twice, changed_byte, changed_leg_field, changed_offset_byte, closed_loop,
-                          composed_legs, damaged_map, damaged_reference, full_size, leg_with_ways_around, legs_can_be_written, lines_exactly_enough,
-                          lines_too_few, row_of_lines, sides_of_an_edge, tie_that_a_ban_decides, two_faults, written_input)
+from read_recipes import (AMPLE_LINES, OFFSET_EDGES, ReadInput, around, around_the_block, around_twice, changed_byte, changed_leg_field, changed_offset_byte,
+                          closed_loop, composed_legs, damaged_map, damaged_reference, full_size, leg_with_ways_around, legs_can_be_written,
+                          lines_exactly_enough, lines_too_few, row_of_lines, sides_of_an_edge, tie_that_a_ban_decides, two_faults, written_input)
 from recipes import any_sample, until_found, work_area_exactly_enough, work_area_too_short
 from reference import LONGEST_POINT_ALONG_LINE, NEGATIVE_FLAG, POINT_STATUS, POSITIVE_FLAG, SHORTEST_REFERENCE, p_byte_positions
 from sample_maps import MapBuilder, chain_of_ties, random_walk, ridge_map
@@ -117,9 +117,12 @@ def each_length_and_flag(rng, turn):
 
 
 def offset_byte_at_edges(rng, turn):
-    """Flagged bytes at both ends, on legs of one line and of three on which some of them are given by no offset: byte 0 up to 256, byte 255 up to 255."""
-    lengths = (1, 2, 100, 255, 256, 257, 1_000, LONGEST_LEG - 1, LONGEST_LEG)
-    byte, length = (0, 1, 128, 254, 255)[turn % 5], lengths[turn // 5 % len(lengths)]
+    """Flagged bytes at both ends, on legs of one line and of three on which some of them are given by no offset: byte 0 up to 512, byte 255 up to 170.
+
+    Each of five bytes on each of 16 lengths has its turn.
+    """
+    lengths = (1, 2, 100, *OFFSET_EDGES, 1_000, LONGEST_LEG - 1, LONGEST_LEG)
+    byte, length = (0, 1, 128, 254, 255)[turn % 5], lengths[turn % len(lengths)]
     parts = [length] if length < 3 or rng.random() < 0.5 else [1, length - 2, 1]
     depot_map = row_of_lines(parts)
     given = point_along(rng, depot_map, tuple(range(len(parts))))
@@ -128,10 +131,14 @@ def offset_byte_at_edges(rng, turn):
 
 
 def offset_without_span(rng, turn):
-    """A flagged byte that no whole offset gives. The line buffer is too short as well every other time."""
-    length, byte = ((1, 0), (1, 255), (2, 127), (2, 129), (100, 1), (100, 255), (255, 0), (255, 255), (256, 0), (200, 4))[turn % 10]
+    """A flagged byte that no whole offset gives. The line buffer is too short as well every other time.
+
+    On 200, offset 5 gives 6.4 and offset 6 gives 7.68, so that 7 is left out. On 255, offset 127 gives 127.498 and offset 128 gives 128.502.
+    """
+    length, byte = ((1, 0), (1, 255), (2, 127), (2, 129), (100, 1), (100, 255), (169, 255), (170, 0), (170, 255), (171, 0), (200, 7), (255, 0), (255, 128),
+                    (256, 0), (257, 0), (511, 0), (512, 0))[turn % 17]
     depot_map = row_of_lines([length])
-    given = point_along(rng, depot_map, (0,), line_room=turn // 10 % 2)
+    given = point_along(rng, depot_map, (0,), line_room=turn % 2)
     r_byte = given.reference[R_POSITION] | POSITIVE_FLAG
     return f"byte {byte} on {length}", replace(given, reference=given.reference[:R_POSITION] + bytes([r_byte, byte]))
 
@@ -166,11 +173,11 @@ def tied_leg(rng, turn):
 
 
 def other_distance(rng, turn):
-    """D of no way. The offset's byte may be one that no offset gives: 19 stands below."""
+    """D of no way. There may be an offset's byte 0, which no offset gives on 200: 19 stands below."""
     depot_map = row_of_lines([100, 100])
     given = point_along(rng, depot_map, (0, 1), turn % 2)
     reference = replaced(given.reference, FIELD_POSITIONS[2], bytes([(1, 2, 255)[turn % 3]]))
-    return "D", replace(given, reference=reference[:16] + b"\xff" * (len(reference) - 16))
+    return "D", replace(given, reference=reference[:16] + bytes(len(reference) - 16))
 
 
 POINT_READ_RECIPES = {

@@ -14,7 +14,7 @@ from reader import LEAST_WORK_LENGTH
 from recipes import any_sample, until_found, work_area_exactly_enough, work_area_too_short
 from reference import LONGEST_POINT_ALONG_LINE
 from sample_maps import MapBuilder, edge_sample, full_size_sample
-from write_recipes import differences_at_ends, line_of_a_node, no_usable_choice, no_usable_choice_by_a_ban
+from write_recipes import differences_at_ends, line_of_a_node, next_to_a_half, no_usable_choice, no_usable_choice_by_a_ban
 
 # Pairs of orientation and side of which one is too large, or both. Of some the last bits alone would do.
 MARKS_TOO_LARGE = ((4, 0), (0, 4), (4, 3), (3, 4), (4, 4), (5, 1), (2, 7), (64, 0), (0, 64), (256, 0), (0, 256), (2 ** 16, 2), (1, 2 ** 16),
@@ -84,6 +84,14 @@ def offset_at_line_end(rng, turn):
     label, given = until_found(lambda: longer_than(2, accepted_point(rng, rng.randrange(1_000))))
     length = line_of(given).length
     return label, replace(given, offset=(0, 1, length - 1, length // 2, length // 2 - 1)[turn % 5])
+
+
+def offset_at_a_half(rng, turn):
+    """Half-way between two 256ths of the line, or next to it."""
+    length, offset = next_to_a_half(rng, turn)
+    builder = MapBuilder()
+    line = builder.line(*builder.row_of_nodes(2), length)
+    return f"{offset} of {length}", PointInput(map_to_bytes(builder.build()), line, offset, **any_marks(rng))
 
 
 def longer_than(length, labelled):
@@ -217,6 +225,7 @@ POINT_WRITE_RECIPES = {
     "point": any_point,
     "orientation and side": each_orientation_and_side,
     "offset at line ends": offset_at_line_end,
+    "offset at a half": offset_at_a_half,
     "byte buffer long enough": bytes_exactly_enough,
     "work area long enough": work_area_exactly_enough(accepted_point),
     "full size": full_size,
@@ -243,7 +252,7 @@ POINT_WRITE_RECIPES = {
 
 # Those with many edges on small maps.
 POINT_WRITE_EDGES = {name: POINT_WRITE_RECIPES[name] for name in (
-    "orientation and side", "parallel lines", "line and way around", "sides of an edge", "refusal 25", "refusal 10, too far")}
+    "orientation and side", "offset at a half", "parallel lines", "line and way around", "sides of an edge", "refusal 25", "refusal 10, too far")}
 
 MERIDIAN_POINT_WRITE_RECIPES = {
     "differences at the ends of 16 bits, across the meridian": of_a_line(differences_at_ends_across),

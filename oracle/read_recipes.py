@@ -9,7 +9,7 @@ from fields import LONGEST_LEG, differences_fit, offset_byte, offset_span_by_try
 from legs import list_length
 from reader import LEAST_WORK_LENGTH, read
 from recipes import any_sample, until_found, work_area_exactly_enough, work_area_too_short
-from reference import last_point_position, p_byte_positions, put_together
+from reference import NEGATIVE_FLAG, POSITIVE_FLAG, last_point_position, p_byte_positions, put_together
 from sample_maps import SMALL_SAMPLES, MapBuilder, chain_of_blocks, chain_of_ties, edge_sample, full_size_sample, other_way, pairs_of, random_walk
 from write_recipes import accepted_input, write_outcome
 from writer import reference_of_legs
@@ -17,6 +17,9 @@ from writer import reference_of_legs
 AMPLE_LINES = 1_024
 # 63 legs of 1,023 lines and one of 1,024.
 MOST_LINES_READ = 65_473
+# Legs around which bytes change their spans. No offset gives byte 255 up to 170, nor byte 0 up to 512; up to 256 a byte has one offset at most; and on
+# multiples of 512 spans start at an exact half between two 256ths.
+OFFSET_EDGES = (170, 171, 255, 256, 257, 511, 512, 513, 514, 1_024)
 
 
 @dataclass(frozen=True)
@@ -280,14 +283,21 @@ def closed_loop(rng, turn):
 
 
 def offset_at_leg_end(rng, turn):
-    """The least and the greatest offset byte of a leg, and offsets of 1 and of one below the leg length."""
-    length = [2, 100, 255, 256, 257, 1_000, 149_999, 150_000][turn % 8]
+    """Bytes 255 and 0 of the positive offset, and those of 1 and of one below the leg length of the negative one. Each on each of 15 lengths has its turn.
+
+    On legs of their own both may be flagged; the other byte is then one that an offset gives.
+    """
+    edge_lengths = (2, 100, *OFFSET_EDGES, 1_000, LONGEST_LEG - 1, LONGEST_LEG)
+    length = edge_lengths[turn % len(edge_lengths)]
     lengths = rng.choice([[length], [length, length], [length, 1_000, length]])
     depot_map = row_of_lines(lengths)
     good = bytes_of_legs(depot_map, [(line,) for line in range(len(lengths))])
-    flags = rng.choice([0x40, 0x20, 0x60])
-    edges = [255, 0, offset_byte(1, length), offset_byte(length - 1, length)]
-    offset_bytes = [edges[turn // 8 % 4], rng.choice(edges)][:bin(flags).count("1")]
+    given = (offset_byte(1, length), offset_byte(length - 1, length))
+    byte, other, is_positive = (255, 0, *given)[turn % 4], rng.choice(given), turn % 4 < 2
+    if len(lengths) > 1 and rng.random() < 0.5:
+        flags, offset_bytes = POSITIVE_FLAG | NEGATIVE_FLAG, (byte, other) if is_positive else (other, byte)
+    else:
+        flags, offset_bytes = POSITIVE_FLAG if is_positive else NEGATIVE_FLAG, (byte,)
     reference = good[:-1] + bytes([good[-1] | flags, *offset_bytes])
     return f"lengths {lengths}", ReadInput(map_to_bytes(depot_map), reference)
 
@@ -438,21 +448,24 @@ def row_of_legs(rng, leg_lengths):
 
 
 def offset_without_span(rng, turn):
-    """A flagged byte that no whole offset gives on its own leg, though on the other leg one would."""
-    length = rng.choice([1, 2, 100, rng.randrange(1, 256)])
+    """A flagged byte that no whole offset gives on its own leg, though on the other leg one would.
+
+    Up to 170 these are bytes 0, 255 and others, up to 255 they are byte 0 and others, and up to 512 byte 0 alone.
+    """
+    length = (1, 2, 100, 170, 171, 255, 256, 257, 511, 512, rng.randrange(1, 513))[turn // 2 % 11]
     free = [byte for byte in range(256) if offset_span_by_trying(byte, length) is None]
-    byte = rng.choice([free[0], free[-1], rng.choice(free)])
+    byte = (free[0], free[-1], rng.choice(free))[turn % 3]
     lengths, flag = (([length, 3_000], 0x40), ([3_000, length], 0x20))[turn % 2]
     depot_map = row_of_lines(lengths)
     good = bytes_of_legs(depot_map, [(0,), (1,)])
     reference = good[:-1] + bytes([good[-1] | flag, byte])
-    given = ReadInput(map_to_bytes(depot_map), reference, line_room=turn % 3)
+    given = ReadInput(map_to_bytes(depot_map), reference, line_room=rng.randrange(3))
     return ("positive", "negative")[turn % 2], given
 
 
 def offsets_reach_total(rng, turn):
-    """One leg with both offsets; up to 256 decimetres a byte belongs to one offset at most."""
-    length = rng.choice([2, 3, 100, 256])
+    """One leg with both offsets; up to 256 decimetres a byte belongs to one offset at most, since the next is a 256th further or more."""
+    length = rng.choice([2, 3, 100, 170, 171, 255, 256])
     pos = rng.choice([1, length - 1, rng.randrange(1, length)])
     depot_map = row_of_lines([length])
     reference = bytes_of_legs(depot_map, [(0,)], pos, length - pos)
@@ -460,7 +473,7 @@ def offsets_reach_total(rng, turn):
 
 
 def offsets_next_to_total(rng, turn):
-    length = rng.choice([3, 100, 256, 1_000, 150_000])
+    length = rng.choice([3, 100, 256, 511, 512, 513, 1_000, 1_024, 150_000])
     pos = rng.choice([1, length - 2, rng.randrange(1, length - 1)])
     depot_map = row_of_lines([length])
     return f"length {length}", ReadInput(map_to_bytes(depot_map),

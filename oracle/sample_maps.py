@@ -133,7 +133,7 @@ def ridge_map(*bans):
 def smallest_sample(rng):
     builder = MapBuilder()
     start, end = builder.row_of_nodes(2)
-    length = rng.choice([1, 2, 255, 256, 257, 585, 586, 587, 149_999, 150_000])
+    length = rng.choice([1, 2, 170, 171, 255, 256, 257, 511, 512, 513, 514, 585, 586, 587, 149_504, 149_999, 150_000])
     builder.line(start, end, length, frc=rng.randrange(8), fow=rng.randrange(8), steps_out=any_steps(rng), steps_back=any_steps(rng))
     return Sample("smallest map", builder.build(), (0,))
 

@@ -35,12 +35,12 @@ class RidgeWithATurnBanned(unittest.TestCase):
         self.assertEqual(write(map_bytes, [0, 2, 3], 0, 0, WORK, 459), Refused(21))
 
     def test_offset_is_measured_against_the_longer_leg(self):
-        # 256 x 500 / 2000 is 64, 40 in hexadecimal, and 256 x 508 / 2000 is 65.02.
+        # 256 x 500 / 2000 is 64, 40 in hexadecimal. 63.5 x 2000 / 256 is 496.1 and 64.5 x 2000 / 256 is 503.9.
         written = bytes.fromhex("0B 000000 000000 1B 68 03 07D0 0000 1B 58 40")
         self.assertEqual(write(ridge((0, 2)), [0, 1], 500, 0, WORK, 17), ReferenceWritten(written))
         outcome = read(ridge((0, 2)), written, WORK, 2)
-        self.assertEqual(outcome, StretchRead((0, 1), (500, 507), (0, 0)))
-        self.assertEqual(outcome_text(outcome), "lines 2 pos 500 507 neg 0 0\n0\n1")
+        self.assertEqual(outcome, StretchRead((0, 1), (497, 503), (0, 0)))
+        self.assertEqual(outcome_text(outcome), "lines 2 pos 497 503 neg 0 0\n0\n1")
 
     def test_straight_way_banned(self):
         # The same bytes stand for the way over the ridge: line 3 has the class, the form and the sector of line 1.
@@ -245,7 +245,7 @@ class TwoLegsMeet(unittest.TestCase):
             self.check(self.THREE_LEGS, 22, bans=bans, lines=self.ROW[:3])
 
     def test_22_before_19_and_20(self):
-        # On a leg of 100 no offset gives byte 1.
+        # On a leg of 100 no offset gives byte 1: 256 x 1 / 100 is 2.56.
         no_offset = self.TWO_LEGS[:-1] + b"\x58\x01"
         self.check(no_offset, 19, bans=())
         self.check(no_offset, 22)

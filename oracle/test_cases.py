@@ -2,6 +2,8 @@
 
 import unittest
 from dataclasses import replace
+from fractions import Fraction
+from math import floor
 
 import cases
 from check_host import read_calls, write_calls
@@ -13,12 +15,13 @@ from outcome import Refused, RefusedCall, ReferenceWritten, StretchRead
 from read_recipes import read_outcome
 from reader import check_joints, leg_lists, legs_of, point_nodes
 from reference import take_apart
+from roundings import EVERY_ROUNDING, roundings
 from sample_maps import FIRST_BEHIND, LAST_BEFORE, lies_across
 from write_recipes import write_outcome
 from writer import skip_lines
 
 # Enough for each recipe to go through its edges at least once.
-MAP_CASES, LEG_CASES, READ_CASES, WRITE_CASES = 540, 540, 1_000, 891
+MAP_CASES, LEG_CASES, READ_CASES, WRITE_CASES = 540, 540, 1_050, 918
 MERIDIAN_MAP_CASES, MERIDIAN_READ_CASES, MERIDIAN_WRITE_CASES = 60, 120, 128
 KINDS = (cases.map_cases, cases.leg_cases, cases.read_cases, cases.write_cases, cases.leg_cases_across, cases.read_cases_across, cases.write_cases_across,
          cases.meridian_map_cases, cases.meridian_read_cases, cases.meridian_write_cases)
@@ -171,7 +174,30 @@ class Coverage(CaseTests):
     def test_spans_at_both_ends_of_a_leg(self):
         spans = {span for case in self.read_cases if isinstance(case.expected, StretchRead)
                  for span in (case.expected.positive_span, case.expected.negative_span)}
-        self.assertLessEqual({(1, 585), (149_415, 149_999), (1, 1), (255, 255)}, spans)
+        # 0.5 x 150,000 / 256 is 292.97 and 254.5 x 150,000 / 256 is 149,121.1. 254.5 x 171 / 256 is 169.998, 254.5 x 256 / 256 is 254.5 and 254.5 x 512 / 256
+        # is 509.
+        self.assertLessEqual({(1, 292), (149_122, 149_999), (1, 1), (170, 170), (255, 255), (509, 511)}, spans)
+
+    def test_bytes_that_no_offset_gives(self):
+        # Each with its leg's length. 256 x 1 / 512 is a half, which gives 1, and 256 x 169 / 170 is 254.49.
+        found = set()
+        for case in self.read_cases_of("refusal 19, no offset"):
+            reference = take_apart(case.given.reference)
+            is_positive = reference.negative_byte is None
+            byte = reference.positive_byte if is_positive else reference.negative_byte
+            found.add((byte, read_map(case.given.map_bytes).lines[0 if is_positive else 1].length))
+        self.assertLessEqual({(0, 170), (255, 170), (0, 171), (0, 256), (0, 257), (0, 511), (0, 512)}, found)
+
+    def test_offsets_at_a_half(self):
+        # The two offsets are each on a leg of one line. What is written is worked out by fractions.
+        kinds = {"positive": set(), "negative": set()}
+        for detail, case in self.write_details("offsets at a half"):
+            reference, lines = take_apart(case.expected.reference), read_map(case.given.map_bytes).lines
+            for side, offset, byte, line in (("positive", case.given.pos, reference.positive_byte, lines[0]),
+                                             ("negative", case.given.neg, reference.negative_byte, lines[1])):
+                self.assertEqual(byte, min(255, floor(Fraction(256 * offset, line.length) + Fraction(1, 2))), detail)
+                kinds[side] |= roundings(offset, line.length)
+        self.assertEqual(kinds, {"positive": EVERY_ROUNDING, "negative": EVERY_ROUNDING})
 
     def test_of_two_faults_the_upper_row_is_given(self):
         seen = set()

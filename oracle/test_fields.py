@@ -1,8 +1,9 @@
-"""Fields against the worked values of the scope paper ("At the edges") and against their plain meaning. Sectors are in test_steps.py."""
+"""Fields against the worked values of the scope paper ("At the edges") and of paper 02, and against their plain meaning. Sectors are in test_steps.py."""
 
 import random
 import unittest
 from fractions import Fraction
+from math import floor
 
 from depot_map import Node
 from fields import (brought_round, coordinate_code, differences, differences_fit, distance_byte, offset_byte, offset_span,
@@ -63,29 +64,121 @@ class SmallFields(unittest.TestCase):
             self.assertEqual(brought_round(longitude + 36_000_000), longitude)
 
 
-class Offsets(unittest.TestCase):
-    def test_spans_worked_out_in_the_scope_paper(self):
+# Legs at which bytes begin to be given by an offset, by several, or by exact halves, and their neighbours.
+EDGE_LEGS = (*range(1, 41), 99, 100, 169, 170, 171, 172, *range(255, 258), *range(511, 515), 1000, *range(1023, 1026))
+
+
+def nearest_of_all(offset, leg_length):
+    """Of 0 to 256 the number of 256ths that is nearest to the offset, by exact fractions; of two that are, the greater one."""
+    share = Fraction(offset, leg_length)
+    return min(range(257), key=lambda number: (abs(Fraction(number, 256) - share), -number))
+
+
+def byte_by_fractions(offset, leg_length):
+    """The nearest whole number to 256 x offset / leg, an exact half upwards, 255 at most."""
+    return min(255, floor(Fraction(256 * offset, leg_length) + Fraction(1, 2)))
+
+
+def offsets_by_byte(leg_length):
+    """For each byte that is given on a leg, the offsets that give it."""
+    found = {}
+    for offset in range(1, leg_length):
+        found.setdefault(offset_byte(offset, leg_length), []).append(offset)
+    return found
+
+
+class OffsetBytes(unittest.TestCase):
+    """Paper 02, "Offsets to the nearest", sentence by sentence. Spans are below."""
+
+    def test_nearest_256th_an_exact_half_upwards(self):
+        rng = random.Random("nearest 256th")
+        pairs = [(offset, length) for length in (*range(2, 30), 170, 171, 512) for offset in range(1, length)]
+        pairs += [(rng.randrange(1, length), length) for length in [rng.randrange(2, 150_001) for _ in range(300)]]
+        # Half-way between two 256ths is an odd number of 512ths, and so whole on multiples of 512 only.
+        pairs += [(odd * length // 512, length) for length in (1_024, 1_536, 149_504) for odd in range(1, 511, 34)]
+        for offset, length in pairs:
+            self.assertEqual(offset_byte(offset, length), min(255, nearest_of_all(offset, length)), (offset, length))
+
+    def test_every_offset_of_many_legs_by_fractions(self):
+        rng = random.Random("bytes by fractions")
+        for length in (*range(2, 300), *EDGE_LEGS, 149_504, 149_999, 150_000, *(rng.randrange(1_000, 20_000) for _ in range(5))):
+            for offset in range(1, length):
+                self.assertEqual(offset_byte(offset, length), byte_by_fractions(offset, length), (offset, length))
+
+    def test_255_where_that_gives_256(self):
+        # 256 x 511 / 512 is 255.5, which is nearest to 256, and 256 x 510 / 511 is 255.499. 256 x 149,999 / 150,000 is 255.998.
+        self.assertEqual([nearest_of_all(length - 1, length) for length in (511, 512, 150_000)], [255, 256, 256])
+        self.assertEqual([offset_byte(length - 1, length) for length in (511, 512, 150_000)], [255, 255, 255])
+        # 255.5 x 149,504 / 256 is 149,212: from there on it is 256.
+        self.assertEqual([offset_byte(offset, 149_504) for offset in (149_211, 149_212, 149_503)], [255, 255, 255])
+
+    def test_offset_1_on_a_leg_of_512_is_exactly_a_half_and_gives_1(self):
+        # 256 x 1 / 511 is 0.501, 256 x 1 / 512 is 0.5 and 256 x 1 / 513 is 0.499.
+        self.assertEqual([offset_byte(1, length) for length in (511, 512, 513)], [1, 1, 0])
+
+    def test_worked_by_hand(self):
+        # 256 x 500 / 1000 is 128, 256 x 999 / 1000 is 255.7, 256 x 1 / 1000 is 0.256 and 256 x 2 / 1000 is 0.512. 256 x 120 / 1000 is 30.72.
+        self.assertEqual([offset_byte(offset, 1000) for offset in (500, 999, 1, 2, 120)], [128, 255, 0, 1, 31])
+        # 256 x 3 / 512 is 1.5 and 256 x 5 / 512 is 2.5: upwards to an even number and to an odd one.
+        self.assertEqual([offset_byte(offset, 512) for offset in (2, 3, 4, 5)], [1, 2, 2, 3])
+
+
+class OffsetSpans(unittest.TestCase):
+    def test_spans_worked_out_in_paper_02(self):
         for span in (offset_span, offset_span_by_trying):
-            self.assertEqual(span(0x80, 1000), (500, 503))
+            self.assertEqual(span(0x80, 1000), (499, 501))
+            # Offset 1 of 100 is 2.56.
             self.assertIsNone(span(1, 100))
 
-    def test_bytes_worked_by_hand(self):
-        # 256 x 500 / 1000 is 128, 256 x 999 / 1000 is 255.7, and 256 x 1 / 1000 is 0.3.
-        self.assertEqual([offset_byte(offset, 1000) for offset in (500, 999, 1)], [128, 255, 0])
-
     def test_offset_0_is_in_no_span(self):
-        self.assertEqual(offset_span(0, 1000), (1, 3))
+        # 0.5 x 1000 / 256 is 1.95, and 0.5 x 1024 / 256 is 2, which gives byte 1. 0.5 x 150,000 / 256 is 292.97.
+        self.assertEqual([offset_span(0, length) for length in (1000, 1024, 150_000)], [(1, 1), (1, 1), (1, 292)])
         self.assertIsNone(offset_span(0, 1))
-        self.assertIsNone(offset_span(0, 256))
+
+    def test_legs_on_which_bytes_0_and_255_are_first_given(self):
+        # 256 x 1 / 512 is a half, which gives 1. 256 x 169 / 170 is 254.49 and 256 x 170 / 171 is 254.503.
+        for length in range(1, 700):
+            self.assertEqual(offset_span(0, length) is None, length <= 512, length)
+            self.assertEqual(offset_span(255, length) is None, length <= 170, length)
+
+    def test_byte_255_goes_on_to_the_end_of_the_leg(self):
+        # 254.5 x 256 / 256 is 254.5, 254.5 x 512 / 256 is 509, 254.5 x 1000 / 256 is 994.1 and 254.5 x 150,000 / 256 is 149,121.1.
+        spans = [offset_span(255, length) for length in (256, 512, 1000, 150_000)]
+        self.assertEqual(spans, [(255, 255), (509, 511), (995, 999), (149_122, 149_999)])
+        # 253.5 x 512 / 256 is 507, and byte 254 ends before 509.
+        self.assertEqual(offset_span(254, 512), (507, 508))
 
     def test_quick_span_equals_trying_every_offset(self):
         rng = random.Random("spans")
-        for length in list(range(1, 40)) + [99, 100, 255, 256, 257, 511, 512, 513, 1000]:
+        for length in (*EDGE_LEGS, *(rng.randrange(41, 1_500) for _ in range(4))):
             for byte in range(256):
-                self.assertEqual(offset_span(byte, length), offset_span_by_trying(byte, length))
-        for length in (149_999, 150_000, rng.randrange(1_000, 150_000)):
-            for byte in (0, 1, 255, rng.randrange(256)):
-                self.assertEqual(offset_span(byte, length), offset_span_by_trying(byte, length))
+                self.assertEqual(offset_span(byte, length), offset_span_by_trying(byte, length), (byte, length))
+        for length in (149_504, 149_999, 150_000, rng.randrange(1_500, 150_000)):
+            for byte in (0, 1, 254, 255, rng.randrange(256)):
+                self.assertEqual(offset_span(byte, length), offset_span_by_trying(byte, length), (byte, length))
+
+    def test_every_offset_is_in_the_span_of_its_byte_alone(self):
+        rng = random.Random("spans of offsets")
+        for length in (*EDGE_LEGS, 149_504, 150_000, rng.randrange(1_500, 150_000)):
+            spans = [span for span in (offset_span(byte, length) for byte in range(256)) if span is not None]
+            # One after another, without a gap, from 1 to the last offset.
+            self.assertEqual([least for least, _ in spans] + [length], [1] + [greatest + 1 for _, greatest in spans], length)
+
+    def test_ends_of_a_span_and_offsets_with_equal_bytes_differ_by_less_than_three_512ths_of_the_leg(self):
+        rng = random.Random("three 512ths")
+        for length in (*range(2, 700), *EDGE_LEGS, 149_504, 149_999, 150_000, rng.randrange(1_500, 150_000)):
+            for byte, offsets in offsets_by_byte(length).items():
+                self.assertLess(Fraction(max(offsets) - min(offsets)), Fraction(3, 512) * length, (byte, length))
+                self.assertEqual(offset_span(byte, length), (min(offsets), max(offsets)))
+
+    def test_a_256th_of_the_leg_would_be_too_little(self):
+        # Byte 255 on 1000 means 995 to 999, 4 apart, and a 256th is 3.9. Bytes below it stay within a 256th.
+        too_far = {byte for byte, offsets in offsets_by_byte(1000).items() if 256 * (offsets[-1] - offsets[0]) > 1000}
+        self.assertEqual(too_far, {255})
+
+    def test_byte_255_comes_within_a_decimetre_of_three_512ths(self):
+        # 254.5 x 149,504 / 256 is 148,628: byte 255 means 148,628 to 149,503, 875 apart. Three 512ths are 876.
+        self.assertEqual(offset_span(255, 149_504), (148_628, 149_503))
 
 
 if __name__ == "__main__":

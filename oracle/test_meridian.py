@@ -124,7 +124,7 @@ class RidgeAcross(unittest.TestCase):
     def test_offset(self):
         written = from_the_ridge_across(THREE_POINTS_OFFSET_500)
         self.assertEqual(write(RIDGE_ACROSS, [0, 1], 500, 0, WORK, 24), ReferenceWritten(written))
-        self.assertEqual(read(RIDGE_ACROSS, written, WORK, 2), StretchRead((0, 1), (500, 503), (0, 0)))
+        self.assertEqual(read(RIDGE_ACROSS, written, WORK, 2), StretchRead((0, 1), (499, 501), (0, 0)))
 
     def test_tie(self):
         self.assertEqual(read(RIDGE_ACROSS, from_the_ridge_across(TWO_POINTS), WORK, 3), Refused(18, 0))

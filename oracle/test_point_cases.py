@@ -4,7 +4,9 @@ the reader of stretches)."""
 import unittest
 from collections import Counter
 from dataclasses import replace
+from fractions import Fraction
 from itertools import combinations, product
+from math import floor
 from typing import NamedTuple
 
 import cases
@@ -12,16 +14,18 @@ from cases import map_outcome, random_source
 from check_host import read_point_calls, write_point_calls
 from check_plain import cases_on_maps, parts_of
 from crossings import stretch_moves
-from depot_map import DepotMap, map_to_bytes
+from depot_map import DepotMap, map_to_bytes, read_map
 from fields import differences
 from legs import LegSearch, list_length
 from outcome import PointRead, Refused, ReferenceWritten
 from point_along_line import read_point, write_point
 from point_read_recipes import FIELD_POSITIONS, R_POSITION, point_read_outcome
+from point_write_recipes import point_write_outcome
 from reader import LEAST_WORK_LENGTH
+from roundings import EVERY_ROUNDING, roundings
 from sample_maps import lies_across
 from test_cases import CaseTests
-from test_stored_cases import MAP_REFUSALS, calls_on_good_maps, case_bytes, rows
+from test_stored_cases import FEW_LINES, MAP_REFUSALS, calls_on_good_maps, case_bytes, rows
 from writer import leg_is_usable
 
 LARGEST = 4_294_967_295
@@ -76,6 +80,25 @@ class Generator(CaseTests):
             self.assertEqual(point_read_outcome(given).number, min(map(int, detail.split(" and "))), detail)
             seen.add(detail)
         self.assertGreater(len(seen), 8)
+
+
+    def test_offsets_at_a_half(self):
+        found = set()
+        for turn in range(30):
+            detail, given = cases.POINT_WRITE_RECIPES["offset at a half"](random_source("halves", 1, turn), turn)
+            length = read_map(given.map_bytes).lines[given.line].length
+            nearest = floor(Fraction(256 * given.offset, length) + Fraction(1, 2))
+            self.assertEqual(point_write_outcome(given).reference[-1], min(255, nearest), detail)
+            found |= roundings(given.offset, length)
+        self.assertEqual(found, EVERY_ROUNDING)
+
+    def test_bytes_that_no_offset_gives(self):
+        # Each of the pairs has its turn, with a line buffer that is too short and with one that is not.
+        found = {(detail, given.line_room) for detail, given in (cases.POINT_READ_RECIPES["refusal 19"](random_source("no offset", 1, turn), turn)
+                                                                 for turn in range(34))}
+        self.assertEqual(len(found), 34)
+        details = {detail for detail, _ in found}
+        self.assertLessEqual({f"byte 0 on {length}" for length in (170, 171, 255, 256, 257, 511, 512)} | {"byte 255 on 169", "byte 255 on 170"}, details)
 
 
 class StoredRead(NamedTuple):
@@ -329,14 +352,41 @@ class StoredPoints(unittest.TestCase):
         unflagged = call.reference[:R_POSITION] + bytes([call.reference[R_POSITION] & 0xBF])
         return list_length(call.depot_map, read_point(call.map_bytes, unflagged, LEAST_WORK_LENGTH, 1_024).lines)
 
+    def flagged_bytes(self, refusal):
+        """The byte, the length of the leg and the row of each point with an offset that is refused so or, for None, read. The maps have few lines."""
+        return [(call.reference[16], self.leg_length(call), call.row) for call in self.read_here
+                if call.is_point() and len(call.reference) == 17 and call.refusal() == refusal and len(call.depot_map.lines) <= FEW_LINES]
+
+    def spans(self):
+        """The byte, the length of the leg and the span of each that is read."""
+        return [(byte, length, *map(int, row.split()[3:5])) for byte, length, row in self.flagged_bytes(None)]
+
     def test_offset_bytes_at_their_edges(self):
-        # Byte 0 is given by no offset up to a length of 256, byte 255 by none up to 255.
-        answers = {}
-        for call in self.read_here:
-            if call.is_point() and len(call.reference) == 17 and call.reference[16] in (0, 255) and call.refusal() in (None, 19):
-                answers.setdefault(call.refusal(), set()).add((call.reference[16], self.leg_length(call)))
-        self.assertLessEqual({(0, 257), (255, 256), (255, 257), (0, 150_000), (255, 150_000)}, answers[None])
-        self.assertLessEqual({(0, 1), (0, 255), (0, 256), (255, 1), (255, 255)}, answers[19])
+        # Byte 0 is given by no offset up to a length of 512, byte 255 by none up to 170.
+        accepted, refused = ({(byte, length) for byte, length, _ in self.flagged_bytes(refusal)} for refusal in (None, 19))
+        self.assertLessEqual({(0, 513), (0, 514), (0, 150_000), *((255, length) for length in (171, 255, 256, 257, 511, 512, 513, 150_000))}, accepted)
+        self.assertLessEqual({(0, 1), (0, 170), (0, 256), (0, 257), (0, 511), (0, 512), (255, 1), (255, 170)}, refused)
+
+    def test_bytes_0_and_255_with_several_offsets(self):
+        several = Counter(byte for byte, _, least, greatest in self.spans() if least < greatest)
+        self.assertGreater(min(several[0], several[255]), 3, several)
+
+    def test_byte_255_with_a_span_wider_than_a_256th(self):
+        wide = [byte for byte, length, least, greatest in self.spans() if 256 * (greatest - least) > length]
+        self.assertEqual(set(wide), {255})
+        self.assertGreater(len(wide), 10)
+
+    def test_spans_that_start_at_an_exact_half(self):
+        # The half before the byte is its own, and the half behind it is the next byte's.
+        starts = [byte for byte, length, least, _ in self.spans() if 512 * least == (2 * byte - 1) * length]
+        ends = [byte for byte, length, _, greatest in self.spans() if 512 * (greatest + 1) == (2 * byte + 1) * length]
+        self.assertGreater(min(len(starts), len(ends)), 3, (starts, ends))
+
+    def test_every_rounding_is_written(self):
+        written = [call for call in self.written_here if call.refusal() is None and call.offset > 0]
+        counts = Counter(kind for call in written for kind in roundings(call.offset, call.depot_map.lines[call.line].length))
+        self.assertEqual(set(counts), EVERY_ROUNDING)
+        self.assertGreater(min(counts.values()), 10, counts)
 
     def test_references_to_stretches(self):
         answers = {(len(call.reference), call.refusal()) for call in self.read_here if call.reference[:1] == b"\x0B"}

@@ -1,4 +1,7 @@
-"""Points along a line: the sentences of paper 02, "Signs and hydrants", the white paper's example (13.2.3) and a hydrant on the ridge, worked out by hand."""
+"""Points along a line: the sentences of paper 02, "Signs and hydrants", the white paper's example (13.2.3) and a hydrant on the ridge, worked out by hand.
+
+Offset bytes are paper 02's, "Offsets to the nearest". The white paper's own are not: it takes the 256ths down.
+"""
 
 import base64
 import itertools
@@ -38,14 +41,14 @@ class HydrantOnTheRidge(unittest.TestCase):
         # Status 2B. Longitude 1000: 1000 x 16,777,216 / 36,000,000 is 466.03, plus a half cut to 466, 0001D2. Latitude 0: 000000.
         # P: orientation 0, FRC 3 and FOW 3 are 8 x 3 + 3, 1B. Q: lowest class 3 and sector 0 are 32 x 3, 60. D: 500 / 586 is 0.
         # Differences 0 and 1000: 0000 03E8. P: side 1, 64 + 1B, 5B. R: positive flag 40 and sector 16 of (0, -200), 10, together 50.
-        # 256 x 120 / 500 is 61.4, 3D.
+        # 256 x 120 / 500 is 61.44; 61 is 3D.
         self.assertEqual(write_point(RIDGE, LINE_2, 120, 0, 1, WORK, 17), ReferenceWritten(HYDRANT))
 
     def test_read_back(self):
-        # Byte 61: 61 x 500 / 256 is 119.1 and 62 x 500 / 256 is 121.1.
+        # Byte 61: 60.5 x 500 / 256 is 118.2 and 61.5 x 500 / 256 is 120.1.
         outcome = read_point(RIDGE, HYDRANT, WORK, 1)
-        self.assertEqual(outcome, PointRead((LINE_2,), (120, 121), 0, 1))
-        self.assertEqual(outcome_text(outcome), "lines 1 offset 120 121 orientation 0 side 1\n2")
+        self.assertEqual(outcome, PointRead((LINE_2,), (119, 120), 0, 1))
+        self.assertEqual(outcome_text(outcome), "lines 1 offset 119 120 orientation 0 side 1\n2")
 
     def test_at_the_start_of_the_line(self):
         # No flag and no byte: R is the sector alone.
@@ -54,9 +57,10 @@ class HydrantOnTheRidge(unittest.TestCase):
         self.assertEqual(read_point(RIDGE, start, WORK, 1), PointRead((LINE_2,), (0, 0), 0, 1))
 
     def test_point_along_two_lines(self):
-        # Lines 0 and 2, 1,500 long, to node 2: Q has sector 8, D is 2, and line 2 arrives. Byte 80 of 1,500: 750 to 755 (256 x 756 / 1500 is 129.02).
+        # Lines 0 and 2, 1,500 long, to node 2: Q has sector 8, D is 2, and line 2 arrives. Byte 80 is 128: 127.5 x 1500 / 256 is 747.1 and 128.5 x 1500 / 256
+        # is 752.9.
         reference = bytes.fromhex("2B 000000 000000 DB 68 02 03E8 03E8 9B 50 80")
-        self.assertEqual(read_point(RIDGE, reference, WORK, 2), PointRead((LINE_0, LINE_2), (750, 755), 3, 2))
+        self.assertEqual(read_point(RIDGE, reference, WORK, 2), PointRead((LINE_0, LINE_2), (748, 752), 3, 2))
         self.assertEqual(read_point(RIDGE, reference, WORK, 1), Refused(20))
 
     def test_tie_of_the_ridge(self):
@@ -68,10 +72,10 @@ class HydrantOnTheRidge(unittest.TestCase):
             self.assertEqual(read_point(banned, tie, WORK, 9), PointRead(lines, (0, 0), 0, 0))
 
     def test_the_other_lines(self):
-        # 256 x 120 / 1000 is 30.7, 1E. Lines 0 and 1 leave in sector 8 and arrive in 24, D is 1. Line 3 leaves in 12 and arrives in 24; it leads from
-        # (1000, 1000) by 1000 and -1000. It is so with every turn of the ridge banned as well.
+        # 256 x 120 / 1000 is 30.72; 31 is 1F. Lines 0 and 1 leave in sector 8 and arrive in 24, D is 1. Line 3 leaves in 12 and arrives in 24; it leads from
+        # (1000, 1000) by 1000 and -1000, and is 500 long as line 2 is. It is so with every turn of the ridge banned as well.
         banned = map_to_bytes(DepotMap(RIDGE_NODES, RIDGE_LINES, ((0, 1), (0, 2), (2, 3))))
-        for line, text in ((LINE_0, "2B 000000 000000 9B 68 01 03E8 0000 DB 58 1E"), (LINE_1, "2B 0001D2 000000 9B 68 01 03E8 0000 DB 58 1E"),
+        for line, text in ((LINE_0, "2B 000000 000000 9B 68 01 03E8 0000 DB 58 1F"), (LINE_1, "2B 0001D2 000000 9B 68 01 03E8 0000 DB 58 1F"),
                            (LINE_3, "2B 0001D2 0001D2 9B 6C 00 03E8 FC18 DB 58 3D")):
             for map_bytes in (RIDGE, banned):
                 self.assertEqual(write_point(map_bytes, line, 120, 2, 3, WORK, 17), ReferenceWritten(bytes.fromhex(text)))
@@ -125,9 +129,13 @@ class WhitePaper(unittest.TestCase):
     def test_other_fields(self):
         self.assertEqual(EXAMPLE[Q], 32 * 2 + sector(drawn_at(202)))
         self.assertEqual(EXAMPLE[D], distance_byte(EXAMPLE_LENGTH))
-        # "30.43% falls into the bucket number 77."
+
+    def test_offset_byte(self):
+        # "30.43% falls into the bucket number 77": 256 x 280 / 920 is 77.9, and the white paper takes it down. So 13.2.3 reads it as "30.27%", 77.5 256ths,
+        # the middle of a bucket from 77 to 78. Paper 02 does not follow it: the nearest to 77.9 is 78, 4E.
         self.assertEqual(EXAMPLE[OFFSET], 77)
-        self.assertEqual(offset_byte(EXAMPLE_OFFSET, EXAMPLE_LENGTH), 77)
+        self.assertEqual(EXAMPLE[OFFSET], 256 * EXAMPLE_OFFSET // EXAMPLE_LENGTH)
+        self.assertEqual(offset_byte(EXAMPLE_OFFSET, EXAMPLE_LENGTH), 78)
 
     def test_taken_apart_and_put_together(self):
         reference = Reference(EXAMPLE_POINTS, positive_byte=77)
@@ -135,13 +143,17 @@ class WhitePaper(unittest.TestCase):
         self.assertEqual(put_together(reference, POINT_STATUS), EXAMPLE)
 
     def test_written_and_read_on_a_map_of_the_example_s_line(self):
-        # Node 0 has the code of the equation, so that the example itself has no first point here.
+        # Node 0 has the code of the equation, so that the example itself has no first point here. The offset byte is 4E in place of 4D.
         line = Line(0, 1, EXAMPLE_LENGTH, 2, 2, drawn_at(202), drawn_at(42))
         map_bytes = map_to_bytes(DepotMap(EXAMPLE_NODES, (line,)))
-        expected = changed(EXAMPLE, 3, 0x9F)
+        of_the_equation = changed(EXAMPLE, 3, 0x9F)
+        expected = changed(of_the_equation, OFFSET, 0x4E)
         self.assertEqual(write_point(map_bytes, 0, EXAMPLE_OFFSET, 0, 2, WORK, 17), ReferenceWritten(expected))
-        # 77 x 920 / 256 is 276.7 and 78 x 920 / 256 is 280.3: among them is the paper's "27.8 meter".
-        self.assertEqual(read_point(map_bytes, expected, WORK, 1), PointRead((0,), (277, 280), 0, 2))
+        # 77.5 x 920 / 256 is 278.5 and 78.5 x 920 / 256 is 282.1: the white paper's 280 is among them.
+        self.assertEqual(read_point(map_bytes, expected, WORK, 1), PointRead((0,), (279, 282), 0, 2))
+        # Its own byte, 77: 76.5 x 920 / 256 is 274.9, up to the same 278.5. Among them is what 13.2.3 reads, "27.8 meter", and no longer the 28 m that it
+        # wrote.
+        self.assertEqual(read_point(map_bytes, of_the_equation, WORK, 1), PointRead((0,), (275, 278), 0, 2))
         self.assertEqual(read_point(map_bytes, EXAMPLE, WORK, 1), Refused(16, 0))
 
 
@@ -159,11 +171,12 @@ class Sentences(unittest.TestCase):
             self.assertEqual((len(written), written[STATUS]), (length, 0x2B))
 
     def test_orientation_and_side_in_bits_7_and_6(self):
+        # Byte 64 on 1000: 63.5 x 1000 / 256 is 248.05 and 64.5 x 1000 / 256 is 251.95.
         self.assertEqual(write_point(ROW_BYTES, 0, 250, 1, 2, WORK, 17), ReferenceWritten(ROW_POINT))
         for orientation, side in itertools.product(range(4), repeat=2):
             expected = changed(changed(ROW_POINT, FIRST_P, 64 * orientation + 0x1B), LAST_P, 64 * side + 0x1B)
             self.assertEqual(write_point(ROW_BYTES, 0, 250, orientation, side, WORK, 17), ReferenceWritten(expected))
-            self.assertEqual(read_point(ROW_BYTES, expected, WORK, 1), PointRead((0,), (250, 253), orientation, side))
+            self.assertEqual(read_point(ROW_BYTES, expected, WORK, 1), PointRead((0,), (249, 251), orientation, side))
 
     def test_negative_flag_must_be_0(self):
         for bits in (0x20, 0x80, 0xA0):
@@ -176,7 +189,7 @@ class Sentences(unittest.TestCase):
                 self.assertEqual(write_point(map_bytes, 0, 0, 0, 0, WORK, 17) != Refused(10), fits, end)
 
     def test_differences_go_round_the_globe(self):
-        # From 17,999,998 to -18,000,000 the difference is 2.
+        # From 17,999,998 to -18,000,000 the difference is 2. 256 x 5 / 20 is 64, 40; 63.5 x 20 / 256 is 4.96 and 64.5 x 20 / 256 is 5.04.
         nodes = (Node(17_999_998, 0), Node(-18_000_000, 0))
         map_bytes = map_to_bytes(DepotMap(nodes, (Line(0, 1, 20, 3, 3, EASTWARD, WESTWARD),)))
         written = write_point(map_bytes, 0, 5, 0, 3, WORK, 17)
@@ -209,8 +222,8 @@ class Sentences(unittest.TestCase):
         depot_map = replace(row, nodes=nodes)
         reference = bytes_of_point(depot_map, tuple(range(count)), 3_999, 2, 1)
         outcome = read_point(map_to_bytes(depot_map), reference, WORK, count)
-        # 255 x 4,000 / 256 is 3,984.4.
-        self.assertEqual(outcome, PointRead(tuple(range(count)), (3_985, 3_999), 2, 1))
+        # 256 x 3,999 / 4,000 is 255.9, nearest to 256, and so 255 is written. 254.5 x 4,000 / 256 is 3,976.6.
+        self.assertEqual(outcome, PointRead(tuple(range(count)), (3_977, 3_999), 2, 1))
         self.assertEqual(read_point(map_to_bytes(depot_map), reference, WORK, count - 1), Refused(20))
 
     def test_references_of_the_one_kind_for_the_reader_of_the_other(self):
@@ -253,8 +266,11 @@ class EachRefusalOfTheReader(unittest.TestCase):
             self.check(changed(ROW_POINT, position, byte), 17, 0)
 
     def test_19(self):
-        # Byte 0 is given by no offset up to a length of 256, byte 255 by none up to 255, and a line of 1 has no offset but 0.
-        for length, byte, span in ((256, 0, None), (257, 0, (1, 1)), (255, 255, None), (256, 255, (255, 255)), (1, 0, None), (1, 255, None), (100, 1, None)):
+        # Byte 0 is given by no offset up to a length of 512: 256 x 1 / 512 is a half, and 256 x 1 / 513 is 0.499. Byte 255 is given by none up to 170:
+        # 256 x 169 / 170 is 254.49 and 256 x 170 / 171 is 254.503. And a line of 1 has no offset but 0.
+        # 254.5 x 255 / 256 is 253.5, 254.5 x 256 / 256 is 254.5 and 254.5 x 512 / 256 is 509. 256 x 1 / 100 is 2.56, which gives 3.
+        for length, byte, span in ((256, 0, None), (257, 0, None), (512, 0, None), (513, 0, (1, 1)), (170, 255, None), (171, 255, (170, 170)),
+                                   (255, 255, (254, 254)), (256, 255, (255, 255)), (512, 255, (509, 511)), (1, 0, None), (1, 255, None), (100, 1, None)):
             map_bytes = map_to_bytes(row_map((0, 1, length)))
             reference = bytes.fromhex("2B 000000 000000 1B 68 00 03E8 0000 1B 58") + bytes([byte])
             expected = Refused(19) if span is None else PointRead((0,), span, 0, 0)
@@ -288,7 +304,7 @@ class OrderOfRefusals(unittest.TestCase):
         return map_bytes
 
     def test_reader(self):
-        # On line 1, 100 long, byte 1 is given by no offset.
+        # On line 1, 100 long, byte 1 is given by no offset: 256 x 1 / 100 is 2.56.
         good = bytes_of_point(ROW, (self.LINE,), self.OFFSET_GIVEN, 1, 2)
         for pair in itertools.combinations((1, 24, 2, 23, 12, 13, 14, 15, 16, 17, 19, 20), 2):
             reference = good
@@ -354,10 +370,39 @@ class ReadBack(unittest.TestCase):
         self.assertGreater(sum(self.check(point_on(rng, sample.depot_map)) for sample in samples for _ in range(12)), 20)
 
     def test_every_offset_of_a_line(self):
-        for length in (1, 2, 255, 256, 257, 586, 1_000):
+        for length in (1, 2, 170, 171, 255, 256, 257, 511, 512, 513, 514, 586, 1_000):
             depot_map = row_map((0, 1, length))
             given = point_on(random.Random(length), depot_map)
             self.assertTrue(all(self.check(replace(given, offset=offset)) for offset in range(length)))
+
+
+class Rounding(unittest.TestCase):
+    """Paper 02, "Offsets to the nearest", for points."""
+
+    def bytes_by_offset(self, length):
+        """What is written for each offset of a line that is not 0."""
+        map_bytes = map_to_bytes(row_map((0, 1, length)))
+        return {offset: write_point(map_bytes, 0, offset, 0, 0, WORK, 17).reference for offset in range(1, length)}
+
+    def test_nearest_exact_half_upwards_and_255_for_256(self):
+        # 256 x offset / 512 is half of the offset: 0.5, 1, 1.5, 2, and 254, 254.5, 255, 255.5.
+        written = self.bytes_by_offset(512)
+        self.assertEqual([written[offset][OFFSET] for offset in (1, 2, 3, 4, 508, 509, 510, 511)], [1, 1, 2, 2, 254, 255, 255, 255])
+
+    def test_flag_where_the_byte_is_0(self):
+        # 256 x 1 / 1000 is 0.256 and 256 x 2 / 1000 is 0.512. R has the flag and sector 24.
+        written = self.bytes_by_offset(1000)
+        self.assertEqual([written[offset][R:] for offset in (1, 2)], [b"\x58\x00", b"\x58\x01"])
+
+    def test_points_with_equal_bytes_are_less_than_three_512ths_apart(self):
+        for length in (2, 171, 512, 513, 1000):
+            offsets = {}
+            for offset, reference in self.bytes_by_offset(length).items():
+                offsets.setdefault(reference, []).append(offset)
+            map_bytes = map_to_bytes(row_map((0, 1, length)))
+            for reference, equal in offsets.items():
+                self.assertLess(512 * (equal[-1] - equal[0]), 3 * length)
+                self.assertEqual(read_point(map_bytes, reference, WORK, 1).span, (equal[0], equal[-1]))
 
 
 class ByTheDefinition(unittest.TestCase):

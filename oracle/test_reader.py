@@ -33,7 +33,8 @@ class EachRefusal(unittest.TestCase):
         self.assertEqual(read(map_bytes, reference, work_length, line_room), Refused(*refusal))
 
     def test_good_reference_is_read(self):
-        self.assertEqual(read(ROW_BYTES, ROW_REFERENCE, WORK, 2), StretchRead((0, 1), (50, 50), (500, 503)))
+        # Byte 128 on 100: 127.5 x 100 / 256 is 49.8 and 128.5 x 100 / 256 is 50.2. On 1000 it is 498.05 and 501.95.
+        self.assertEqual(read(ROW_BYTES, ROW_REFERENCE, WORK, 2), StretchRead((0, 1), (50, 50), (499, 501)))
 
     def test_1(self):
         for work_length in (0, 14_335):
@@ -95,6 +96,7 @@ class EachRefusal(unittest.TestCase):
         self.check(TWO_POINTS, 18, 0, map_bytes=RIDGE)
 
     def test_19_for_either_offset(self):
+        # On 100, offset 1 gives 2.56, and so 3, and offset 99 gives 253.44, and so 253: neither byte 1 nor 255 is given.
         self.check(changed(ROW_REFERENCE, POSITIVE, 1), 19)
         backwards = map_to_bytes(row_map((0, 1, 1000), (1, 2, 100)))
         reference = bytes.fromhex("0B 000000 000000 1B 68 01 03E8 0000 1B 68 00 03E8 0000 1B 78 80 01")
@@ -102,18 +104,40 @@ class EachRefusal(unittest.TestCase):
         self.check(changed(reference, 24, 0xFF), 19, map_bytes=backwards)
 
     def test_19_when_the_least_offsets_reach_the_total(self):
-        # One leg of 10: byte 80 means 5, and 256 x 4 / 10 is 102, 66 in hexadecimal.
+        # One leg of 10: byte 80 means 5, and 256 x 4 / 10 is 102.4; 102 is 66 in hexadecimal.
         map_bytes = map_to_bytes(row_map((0, 1, 10)))
         reference = bytes.fromhex("0B 000000 000000 1B 68 00 03E8 0000 1B 78 80 80")
         self.check(reference, 19, map_bytes=map_bytes)
         outcome = read(map_bytes, changed(reference, 17, 0x66), WORK, 1)
         self.assertEqual(outcome, StretchRead((0,), (5, 5), (4, 4)))
 
+    def test_19_by_the_least_offsets_of_the_nearest(self):
+        # One leg of 1000. Byte 80 starts at 499, and twice that is below 1000. 128.5 x 1000 / 256 is 501.95 and 129.5 x 1000 / 256 is 505.9, so that byte 81
+        # starts at 502, and 499 + 502 is not. 126.5 x 1000 / 256 is 494.1, where byte 7F starts: 495 + 502 is below 1000.
+        map_bytes = map_to_bytes(row_map((0, 1, 1000)))
+        start = bytes.fromhex("0B 000000 000000 1B 68 01 03E8 0000 1B 78")
+        self.assertEqual(read(map_bytes, start + b"\x80\x80", WORK, 1), StretchRead((0,), (499, 501), (499, 501)))
+        self.check(start + b"\x80\x81", 19, map_bytes=map_bytes)
+        self.check(start + b"\x81\x80", 19, map_bytes=map_bytes)
+        self.assertEqual(read(map_bytes, start + b"\x7F\x81", WORK, 1), StretchRead((0,), (495, 498), (502, 505)))
+
     def test_19_on_a_leg_of_length_1(self):
         map_bytes = map_to_bytes(row_map((0, 1, 1)))
         for byte in (0, 1, 128, 255):
             self.check(bytes.fromhex("0B 000000 000000 1B 68 00 03E8 0000 1B 58") + bytes([byte]), 19,
                        map_bytes=map_bytes)
+
+    def test_19_for_bytes_0_and_255_at_their_edges(self):
+        # 256 x 1 / 512 is a half, which gives 1, and 256 x 1 / 513 is 0.499. 256 x 169 / 170 is 254.49 and 256 x 170 / 171 is 254.503.
+        # 254.5 x 256 / 256 is 254.5, and 254.5 x 512 / 256 is 509: from there to the last offset all give 255, also the last, 255.5.
+        for length, byte, span in ((257, 0, None), (512, 0, None), (513, 0, (1, 1)), (170, 255, None), (171, 255, (170, 170)), (256, 255, (255, 255)),
+                                   (512, 255, (509, 511))):
+            map_bytes = map_to_bytes(row_map((0, 1, length)))
+            for r_byte in (0x58, 0x38):
+                reference = bytes.fromhex("0B 000000 000000 1B 68 00 03E8 0000 1B") + bytes([r_byte, byte])
+                spans = (span, (0, 0)) if r_byte == 0x58 else ((0, 0), span)
+                expected = Refused(19) if span is None else StretchRead((0,), *spans)
+                self.assertEqual(read(map_bytes, reference, WORK, 1), expected, (length, byte))
 
     def test_20(self):
         for room in (0, 1):

@@ -3,7 +3,8 @@
 import random
 import unittest
 
-from depot_map import map_to_bytes
+from depot_map import DepotMap, Line, Node, map_to_bytes
+from drawn_steps import EASTWARD, WESTWARD
 from fields import offset_span_by_trying
 from legs import list_length, readings_by_enumeration
 from outcome import ReferenceWritten, StretchRead
@@ -81,6 +82,8 @@ class RoundTrips(unittest.TestCase):
 
 
 class OffsetsOfOneSpan(unittest.TestCase):
+    """Paper 02, "Offsets to the nearest": two stretches with equal bytes, and the span that reading them gives."""
+
     def test_offsets_give_the_same_bytes_if_and_only_if_one_span_holds_both(self):
         # Two lines of 700 and 300 in one leg of 1000; offsets below the end lines' lengths skip no line.
         map_bytes = map_to_bytes(row_map((0, 1, 700), (1, 2, 300)))
@@ -93,8 +96,41 @@ class OffsetsOfOneSpan(unittest.TestCase):
             self.assertEqual(offsets, [pos for pos in range(span[0], span[1] + 1) if pos < 700])
             self.assertEqual(span, offset_span_by_trying(reference[-1], 1000))
 
+    def test_stretches_with_equal_bytes_and_a_spans_ends_differ_by_less_than_three_512ths_of_the_leg(self):
+        # Each leg is too far from the other for a leg of both, and each offset is measured against its own leg.
+        for first, last in ((512, 171), (1000, 513), (1024, 512)):
+            lines = tuple(Line(number, number + 1, length, 3, 3, EASTWARD, WESTWARD) for number, length in enumerate((first, last)))
+            map_bytes = map_to_bytes(DepotMap((Node(0, 0), Node(20_000, 0), Node(40_000, 0)), lines))
+            for length, stretches in ((first, [(offset, 0) for offset in range(1, first)]), (last, [(0, offset) for offset in range(1, last)])):
+                by_bytes = {}
+                for pos, neg in stretches:
+                    by_bytes.setdefault(write(map_bytes, [0, 1], pos, neg, WORK, 24).reference, []).append(pos + neg)
+                for reference, offsets in by_bytes.items():
+                    self.assertLess(512 * (offsets[-1] - offsets[0]), 3 * length)
+                    outcome = read(map_bytes, reference, WORK, 2)
+                    span = outcome.positive_span if stretches[0][0] else outcome.negative_span
+                    self.assertEqual(span, (offsets[0], offsets[-1]))
+
+    def test_a_256th_of_the_leg_would_be_too_little(self):
+        # 995 and 999 of 1000 give FF both, 254.7 being nearest to 255 and 255.7 to 256. They are 4 apart, and a 256th of 1000 is 3.9.
+        map_bytes = map_to_bytes(row_map((0, 1, 1000)))
+        for positive, negative in ((1, 0), (0, 1)):
+            written = [write(map_bytes, [0], positive * offset, negative * offset, WORK, 17).reference for offset in (994, 995, 999)]
+            self.assertEqual([reference[-1] for reference in written], [0xFE, 0xFF, 0xFF])
+            outcome = read(map_bytes, written[1], WORK, 1)
+            self.assertEqual(outcome.positive_span if positive else outcome.negative_span, (995, 999))
+
+    def test_flag_is_set_where_the_byte_is_0(self):
+        # 256 x 1 / 1000 is 0.256. R has both flags, one or none, and sector 24.
+        map_bytes = map_to_bytes(row_map((0, 1, 1000)))
+        good = bytes.fromhex("0B 000000 000000 1B 68 01 03E8 0000 1B")
+        for pos, neg, end in ((1, 0, "58 00"), (0, 1, "38 00"), (1, 1, "78 00 00"), (0, 0, "18")):
+            written = write(map_bytes, [0], pos, neg, WORK, 18)
+            self.assertEqual(written, ReferenceWritten(good + bytes.fromhex(end)))
+            self.assertEqual(read(map_bytes, written.reference, WORK, 1), StretchRead((0,), (pos, pos), (neg, neg)))
+
     def test_sums_of_offsets_next_to_the_total(self):
-        for length in (2, 3, 256, 257, 1000, 150_000):
+        for length in (2, 3, 170, 171, 256, 257, 511, 512, 513, 1000, 150_000):
             map_bytes = map_to_bytes(row_map((0, 1, length)))
             for pos in {0, 1, length // 2, length - 1}:
                 neg = length - 1 - pos

@@ -1,6 +1,7 @@
 """What the scope paper works out by hand: "The tie at the ridge", "At the edges", "Ways to go wrong".
 
-Paper 02, "Bearings from the drawing": "The ridge map takes steps of the same sectors, and these three cases replace the marked ones on bearings."
+Paper 02, "Bearings from the drawing": "The ridge map takes steps of the same sectors, and these three cases replace the marked ones on bearings." And "Offsets
+to the nearest": "byte 80 on a leg of 1000 then means 499 to 501", so that the program prints these for the ridge.
 """
 
 import unittest
@@ -39,9 +40,10 @@ class TieAtTheRidge(unittest.TestCase):
         self.assertEqual(write(RIDGE, [0, 1], 500, 0, WORK, 24), ReferenceWritten(THREE_POINTS_OFFSET_500))
 
     def test_program_prints_the_reading(self):
+        # Byte 128 on 1000: 127.5 x 1000 / 256 is 498.05 and 128.5 x 1000 / 256 is 501.95.
         outcome = read(RIDGE, THREE_POINTS_OFFSET_500, WORK, 1024)
-        self.assertEqual(outcome, StretchRead((0, 1), (500, 503), (0, 0)))
-        self.assertEqual(outcome_text(outcome), "lines 2 pos 500 503 neg 0 0\n0\n1")
+        self.assertEqual(outcome, StretchRead((0, 1), (499, 501), (0, 0)))
+        self.assertEqual(outcome_text(outcome), "lines 2 pos 499 501 neg 0 0\n0\n1")
 
     def test_reading_without_offsets(self):
         self.assertEqual(read(RIDGE, THREE_POINTS, WORK, 1024), StretchRead((0, 1), (0, 0), (0, 0)))
@@ -74,9 +76,17 @@ class AtTheEdges(unittest.TestCase):
     def test_byte_80_on_a_leg_of_1000(self):
         depot_map = map_to_bytes(row_map((0, 1, 1000)))
         reference = bytes.fromhex("0B 000000 000000 1B 68 01 03E8 0000 1B 58 80")
-        self.assertEqual(read(depot_map, reference, WORK, 1), StretchRead((0,), (500, 503), (0, 0)))
+        self.assertEqual(read(depot_map, reference, WORK, 1), StretchRead((0,), (499, 501), (0, 0)))
+
+    def test_offset_1_on_a_leg_of_512(self):
+        # 256 x 1 / 512 is exactly a half. Byte 1 on 512 then goes up to 2, since 256 x 3 / 512 is 1.5, which gives 2.
+        depot_map = map_to_bytes(row_map((0, 1, 512)))
+        reference = bytes.fromhex("0B 000000 000000 1B 68 00 03E8 0000 1B 58 01")
+        self.assertEqual(write(depot_map, [0], 1, 0, WORK, 17), ReferenceWritten(reference))
+        self.assertEqual(read(depot_map, reference, WORK, 1), StretchRead((0,), (1, 2), (0, 0)))
 
     def test_byte_1_on_a_leg_of_100(self):
+        # 256 x 1 / 100 is 2.56, and so offset 1 gives 3.
         depot_map = map_to_bytes(row_map((0, 1, 100)))
         reference = bytes.fromhex("0B 000000 000000 1B 68 00 03E8 0000 1B 58 01")
         self.assertEqual(read(depot_map, reference, WORK, 1), Refused(19))
@@ -123,7 +133,7 @@ class WaysToGoWrong(unittest.TestCase):
         self.assertEqual(read(map_to_bytes(depot_map), expected, WORK, 1), StretchRead((0,), (0, 0), (0, 0)))
 
     def test_negative_offset_is_measured_against_the_last_leg(self):
-        # Legs of 100,000 and 60,000, too long for one leg. 256 x 15,000 / 60,000 is 64, on the first leg 38.
+        # Legs of 100,000 and 60,000, too long for one leg. 256 x 15,000 / 60,000 is 64, on the first leg 38.4.
         map_bytes = map_to_bytes(row_map((0, 1, 100_000), (1, 2, 60_000)))
         written = write(map_bytes, [0, 1], 0, 15_000, WORK, 24)
         # D: 100,000 / 586 is 170, AA; 60,000 / 586 is 102, 66.
@@ -132,8 +142,8 @@ class WaysToGoWrong(unittest.TestCase):
         # A positive offset of 15,000 comes first: 256 x 15,000 / 100,000 is 38.4; 38 is 26 in hexadecimal.
         both = write(map_bytes, [0, 1], 15_000, 15_000, WORK, 25)
         self.assertEqual(both, ReferenceWritten(expected[:-2] + bytes.fromhex("78 26 40")))
-        # 64 x 60,000 / 256 is 15,000 and 65 x 60,000 / 256 is 15,234.4.
-        self.assertEqual(read(map_bytes, expected, WORK, 2), StretchRead((0, 1), (0, 0), (15_000, 15_234)))
+        # 63.5 x 60,000 / 256 is 14,882.8 and 64.5 x 60,000 / 256 is 15,117.2.
+        self.assertEqual(read(map_bytes, expected, WORK, 2), StretchRead((0, 1), (0, 0), (14_883, 15_117)))
 
 
 class DepotMapOfTheRidge(unittest.TestCase):

@@ -27,7 +27,7 @@ class RidgeExample(unittest.TestCase):
             self.assertEqual((folder / "ref.bin").read_bytes(), THREE_POINTS_OFFSET_500)
 
     def test_printed(self):
-        self.assertEqual(shown(FOLDER), "lines 2 pos 500 503 neg 0 0\n0\n1")
+        self.assertEqual(shown(FOLDER), "lines 2 pos 499 501 neg 0 0\n0\n1")
         self.assertEqual((PROGRAM / "stdout").read_text(), shown(FOLDER) + "\n")
 
     def test_points_are_not_printed(self):

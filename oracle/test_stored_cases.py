@@ -1,28 +1,37 @@
-"""The stored cases of the test programs: every answer occurs, full-size maps with bans of each kind, the edges of the 180th meridian and those of sectors.
+"""The stored cases of the test programs: every answer occurs, full-size maps with bans of each kind, the edges of the 180th meridian, those of sectors and
+those of offset bytes.
 
 That pack.py makes them is asked by its --check. What else is asked of points along a line is in test_point_cases.py.
 """
 
+import re
 import unittest
+from collections import Counter
 from dataclasses import replace
 from itertools import permutations
-from typing import NamedTuple
+from typing import NamedTuple, Optional
 
 import check_plain
 from cases import map_outcome
 from check_plain import cases_on_maps, in_groups, numbers_in, parts_of
 from crossings import reading_moves, stretch_moves
 from damages import LINE_NUMBERS, STEP_FIELDS, STEP_PAIRS
-from depot_map import read_number
+from depot_map import read_map, read_number
 from drawn_steps import ENDS_OF_RANGE, steps_at_edges
-from fields import LONGEST_LEG, sector
+from fields import LONGEST_LEG, offset_byte, offset_span, sector
+from legs import list_length
 from outcome import Refused, RefusedCall
 from pack import CRATES, MOST_CASE_BYTES, PROGRAMS
+from reader import leg_lists, legs_of, point_nodes
+from reference import take_apart
+from roundings import EVERY_ROUNDING, roundings
 from sample_maps import FIRST_BEHIND, LAST_BEFORE, lies_across
+from writer import choose_points, skip_lines
 
 STEPS = ("steps_out", "steps_back")
 NORTH_STEPS = {north for _, north in STEP_PAIRS.values()}
 MAP_REFUSALS = {2, 3, 4, 5, 6, 23, 24}
+FEW_LINES = 8
 PARTS_OF_A_CASE = {"test_maps": 1, "test_legs": 2, "test_reads": 3, "test_writes": 3, "test_points": 3}
 
 
@@ -248,6 +257,106 @@ class StepsOfLines(unittest.TestCase):
             edges = {second for row, (first, second) in calls if row.startswith(accepted) and second == (first + 1) % 32}
             self.assertEqual(edges, set(range(32)), name)
             self.assertGreater(sum(row.startswith(refused) and first == second for row, (first, second) in calls), 5, name)
+
+
+class WrittenOffset(NamedTuple):
+    """What is left of an offset of a stored stretch that is accepted, the length of its leg, and the span that is read back."""
+    is_positive: bool
+    offset: int
+    leg_length: int
+    span: tuple
+
+
+class FlaggedByte(NamedTuple):
+    """An offset byte of a stored reading, the length of its leg, and its span; None where the byte, the only one, is refused with 19."""
+    is_positive: bool
+    byte: int
+    leg_length: int
+    span: Optional[tuple]
+
+
+def spans_in(row):
+    """The positive and the negative span in a row that has them."""
+    numbers = [int(number) for number in re.search(r"pos (\d+) (\d+) neg (\d+) (\d+)", row).groups()]
+    return tuple(numbers[:2]), tuple(numbers[2:])
+
+
+def written_offsets():
+    """Those on maps of few lines, where finding the legs takes little time."""
+    for (map_bytes, stretch, (pos, neg, *_)), row in zip(cases_on_maps(parts_of(case_bytes("test_writes"))), rows("test_writes")):
+        depot_map = read_map(map_bytes) if row.startswith("bytes") else None
+        if depot_map is None or len(depot_map.lines) > FEW_LINES:
+            continue
+        remaining, *offsets = skip_lines(depot_map, numbers_in(stretch), pos, neg)
+        legs = choose_points(depot_map, remaining)
+        for is_positive, offset, leg, span in zip((True, False), offsets, (legs[0], legs[-1]), spans_in(row)):
+            if offset != 0:
+                yield WrittenOffset(is_positive, offset, list_length(depot_map, leg), span)
+
+
+def flagged_bytes():
+    """Likewise. A refusal 19 of two bytes does not tell which of them, and is left out."""
+    for depot_map, reference, row in calls_on_good_maps("test_reads"):
+        refused = row.startswith("refused 19")
+        if len(depot_map.lines) > FEW_LINES or not (refused or row.startswith("lines")):
+            continue
+        parts = take_apart(reference)
+        given = parts.positive_byte, parts.negative_byte
+        lists = leg_lists(depot_map, legs_of(parts, point_nodes(depot_map, parts)))
+        spans = (None, None) if refused else spans_in(row)
+        for is_positive, byte, leg, span in zip((True, False), given, (lists[0], lists[-1]), spans):
+            if byte is not None and not (refused and None not in given):
+                yield FlaggedByte(is_positive, byte, list_length(depot_map, leg), span)
+
+
+class OffsetsOfStretches(unittest.TestCase):
+    @classmethod
+    def setUpClass(cls):
+        cls.written, cls.flagged = list(written_offsets()), list(flagged_bytes())
+
+    def flagged_on(self, is_positive):
+        """The bytes of one side that are read, and those that are refused."""
+        of_the_side = [found for found in self.flagged if found.is_positive == is_positive]
+        return [found for found in of_the_side if found.span is not None], [found for found in of_the_side if found.span is None]
+
+    def test_spans_hold_the_offsets_written(self):
+        for found in self.written:
+            self.assertEqual(found.span, offset_span(offset_byte(found.offset, found.leg_length), found.leg_length), found)
+            self.assertTrue(found.span[0] <= found.offset <= found.span[1], found)
+
+    def test_every_rounding_is_written_on_each_side(self):
+        for is_positive in (True, False):
+            counts = Counter(kind for found in self.written if found.is_positive == is_positive for kind in roundings(found.offset, found.leg_length))
+            self.assertEqual(set(counts), EVERY_ROUNDING)
+            self.assertGreater(min(counts.values()), 10, counts)
+
+    def test_bytes_0_and_255_with_several_offsets(self):
+        for is_positive in (True, False):
+            accepted, _ = self.flagged_on(is_positive)
+            for byte in (0, 255):
+                self.assertGreater(sum(found.byte == byte and found.span[0] < found.span[1] for found in accepted), 10, byte)
+
+    def test_byte_255_with_a_span_wider_than_a_256th(self):
+        for is_positive in (True, False):
+            accepted, _ = self.flagged_on(is_positive)
+            wide = [found for found in accepted if 256 * (found.span[1] - found.span[0]) > found.leg_length]
+            self.assertEqual({found.byte for found in wide}, {255})
+            self.assertGreater(len(wide), 10)
+
+    def test_bytes_0_and_255_at_their_edges(self):
+        # Byte 0 is given by no offset up to a length of 512, byte 255 by none up to 170.
+        for is_positive in (True, False):
+            accepted, refused = ({(found.byte, found.leg_length) for found in side} for side in self.flagged_on(is_positive))
+            self.assertLessEqual({(0, 513), (0, 514), (0, 150_000), *((255, length) for length in (171, 255, 256, 257, 511, 512, 513, 150_000))}, accepted)
+            self.assertLessEqual({(0, 1), (0, 170), (0, 256), (0, 257), (0, 511), (0, 512), (255, 1), (255, 170)}, refused)
+
+    def test_spans_that_start_at_an_exact_half(self):
+        # The half before the byte is its own, and the half behind it is the next byte's.
+        for is_positive in (True, False):
+            accepted, _ = self.flagged_on(is_positive)
+            starts = [found for found in accepted if 512 * found.span[0] == (2 * found.byte - 1) * found.leg_length]
+            ends = [found for found in accepted if 512 * (found.span[1] + 1) == (2 * found.byte + 1) * found.leg_length]
+            self.assertGreater(min(len(starts), len(ends)), 3, (len(starts), len(ends)))
 
 
 if __name__ == "__main__":

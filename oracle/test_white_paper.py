@@ -1,4 +1,7 @@
-"""The binary line example of the white paper (13.1.3), field by field, and put together."""
+"""The binary line example of the white paper (13.1.3), field by field, and put together.
+
+The white paper takes an offset byte down. Paper 02, "Offsets to the nearest", does not, and its byte is worked out beside it.
+"""
 
 import base64
 import math
@@ -10,6 +13,7 @@ from fields import coordinate_code, distance_byte, offset_byte, sector
 from outcome import StretchRead
 from reader import read
 from reference import Point, Reference, put_together, take_apart
+from writer import write
 
 # Tables 75 to 90, byte by byte.
 EXAMPLE_BITS = """
@@ -38,7 +42,13 @@ class BinaryExample(unittest.TestCase):
         self.assertEqual(coordinate_code(612_683), int.from_bytes(EXAMPLE[1:4], "big"))
         self.assertEqual([sector(drawn_at(bearing)) for bearing in BEARINGS], [0b01100, 0b10100, 0b11001])
         self.assertEqual([distance_byte(length) for length in (5_610, 2_740)], [EXAMPLE[9], EXAMPLE[16]])
-        self.assertEqual(offset_byte(1_500, 5_610), EXAMPLE[23])
+
+    def test_offset_byte(self):
+        # Table 73: 150 m of 561 m. 256 x 1,500 / 5,610 is 68.45, which the white paper takes down to 68. So 13.1.5 reads it as "26,76%", 68.5 256ths, the
+        # middle of a bucket from 68 to 69. By paper 02 it is 68 as well, being the nearest. The negative offset is 0, which has no byte in either.
+        self.assertEqual(EXAMPLE[23:], bytes([256 * 1_500 // 5_610]))
+        self.assertEqual(offset_byte(1_500, 5_610), 68)
+        self.assertEqual(EXAMPLE[22] & 0b0110_0000, 0b0100_0000)
 
     def test_steps_drawn_at_the_bearings(self):
         # 200 x sin and cos: 141.4 and -141.4; -146.3 and -136.4; -187.9 and 68.4.
@@ -76,9 +86,20 @@ class BinaryExample(unittest.TestCase):
         lines = (Line(0, 1, 5_610, 3, 2, out, drawn_at(0)), Line(1, 2, 2_740, 5, 3, out_again, back))
         reference = bytearray(EXAMPLE)
         reference[6], reference[14] = 0xF4, 0x2B
-        # Byte 68 on 5,610: 68 x 5,610 / 256 is 1,490.2 and 69 x 5,610 / 256 is 1,512.07.
+        # Byte 68 on 5,610: 67.5 x 5,610 / 256 is 1,479.2 and 68.5 x 5,610 / 256 is 1,501.1. The white paper's 1,500 is still among them. The middle of its
+        # bucket is the end of this span: what lies above it gives 69 now.
         self.assertEqual(read(map_to_bytes(DepotMap(nodes, lines)), bytes(reference), 14_336, 2),
-                         StretchRead((0, 1), (1_491, 1_512), (0, 0)))
+                         StretchRead((0, 1), (1_480, 1_501), (0, 0)))
+
+    def test_written_on_a_map_of_the_first_leg(self):
+        # The leg's bytes and the offset's are the example's, but for the latitude's code. 1,502 is just past the span: 256 x 1,502 / 5,610 is 68.54, which the
+        # white paper would take down to 68 too.
+        nodes = (Node(612_683, 4_960_851), Node(612_838, 4_960_398))
+        line = Line(0, 1, 5_610, 3, 2, drawn_at(BEARINGS[0]), drawn_at(BEARINGS[2]))
+        map_bytes = map_to_bytes(DepotMap(nodes, (line,)))
+        for offset, byte in ((1_500, 68), (1_502, 69)):
+            written = write(map_bytes, [0], offset, 0, 14_336, 17).reference
+            self.assertEqual((written[:6] + written[7:14], written[16]), (EXAMPLE[:6] + EXAMPLE[7:14], byte))
 
 
 if __name__ == "__main__":

@@ -5,6 +5,7 @@ from functools import lru_cache
 
 from damages import map_damage
 from depot_map import LARGEST_NUMBER, joins, map_to_bytes, read_map
+from fields import LONGEST_LEG
 from legs import list_length
 from outcome import ReferenceWritten
 from reader import LEAST_WORK_LENGTH
@@ -82,6 +83,27 @@ def skipped_lines(rng, turn):
     pos = list_length(sample.depot_map, before) + rng.choice([0, room // 2])
     neg = list_length(sample.depot_map, after) + rng.choice([0, room - room // 2])
     return sample.label, WriteInput(map_to_bytes(sample.depot_map), sample.stretch, pos, neg)
+
+
+def next_to_a_half(rng, turn):
+    """A leg length and an offset on it half-way between two 256ths, or one decimetre before or behind.
+
+    Half-way is an odd number of 512ths of the leg, and so there is such an offset on multiples of 512 only. Before the first, one 512th, comes byte 0. From the
+    last on, 511 512ths, 256 is the nearest.
+    """
+    part = (1, 2, 3, 147, LONGEST_LEG // 512)[turn % 5]
+    odd = (1, 511, 2 * rng.randrange(256) + 1)[turn % 3]
+    offset = odd * part + (0, -1, 1)[turn // 15 % 3]
+    return 512 * part, min(max(1, offset), 512 * part - 1)
+
+
+def offsets_at_a_half(rng, turn):
+    """Both offsets next to a half, each on a leg of its own. The end of the last leg is too far from the start for one leg."""
+    (first_length, pos), (last_length, neg) = next_to_a_half(rng, turn), next_to_a_half(rng, turn + 7)
+    builder = MapBuilder()
+    nodes = [builder.node(20_000 * number, 0) for number in range(3)]
+    lines = tuple(builder.line(start, end, length) for start, end, length in zip(nodes, nodes[1:], (first_length, last_length)))
+    return f"{pos} of {first_length}, {neg} of {last_length}", WriteInput(map_to_bytes(builder.build()), lines, pos, neg)
 
 
 def longest_reference(rng, turn):
@@ -364,6 +386,7 @@ WRITE_RECIPES = {
     "offsets at line ends": offsets_at_edges,
     "skipped lines": skipped_lines,
     "offsets just below the total": offsets_just_below,
+    "offsets at a half": offsets_at_a_half,
     "byte buffer exactly long enough": bytes_exactly_enough,
     "work area long enough": work_area_exactly_enough(accepted_input),
     "longest reference": longest_reference,

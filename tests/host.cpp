@@ -14,11 +14,11 @@ int main() {
     std::vector<std::uint8_t> bytes(OPENLR_LONGEST_REFERENCE), lines(4 * OPENLR_MOST_LINES);
     const openlr_written written = openlr_write(map.data(), map.size(), stretch.data(), stretch.size(), 500, 0, bytes.data(), bytes.size());
     const openlr_reading reading = openlr_read(map.data(), map.size(), bytes.data(), written.byte_count, lines.data(), lines.size());
-    const bool good = written.refusal == 0 && reading.refusal == 0 && reading.line_count == 2 && reading.pos_least == 500 && reading.pos_greatest == 503;
+    const bool good = written.refusal == 0 && reading.refusal == 0 && reading.line_count == 2 && reading.pos_least == 499 && reading.pos_greatest == 501;
     const openlr_point_written marked =
         openlr_write_point(map.data(), map.size(), 2, 120, OPENLR_ORIENTATION_BOTH, OPENLR_SIDE_LEFT, bytes.data(), OPENLR_LONGEST_POINT);
     const openlr_point point = openlr_read_point(map.data(), map.size(), bytes.data(), marked.bytes, lines.data(), 4);
-    const bool good_point = marked.refusal == 0 && point.refusal == 0 && point.lines == 1 && lines[0] == 2 && point.least == 120 && point.greatest == 121
+    const bool good_point = marked.refusal == 0 && point.refusal == 0 && point.lines == 1 && lines[0] == 2 && point.least == 119 && point.greatest == 120
                             && point.orientation == OPENLR_ORIENTATION_BOTH && point.side == OPENLR_SIDE_LEFT;
     std::puts(good && good_point ? "openlr.h: as a C++ program expects" : "openlr.h: not as a C++ program expects");
     for (const std::uint32_t refusal : {written.refusal, reading.refusal, marked.refusal, point.refusal})

@@ -15,7 +15,7 @@ _Static_assert(OPENLR_LONGEST_MAP == MAP_BYTES && MAP_BYTES == 23558, "every num
 _Static_assert(OPENLR_LONGEST_REFERENCE == 1 + 9 + 63 * 7 + 6 + 2 && OPENLR_LONGEST_REFERENCE == 459, "64 legs and both offsets");
 _Static_assert(OPENLR_LONGEST_POINT == 1 + 9 + 6 + 1 && OPENLR_LONGEST_POINT == 17, "one leg and an offset");
 _Static_assert(OPENLR_MOST_LINES == 1024, "the scope paper's, for a host");
-_Static_assert(OPENLR_VERSION == 5 && OPENLR_UNITS_PER_METRE == 10, "points along a line, decimetres");
+_Static_assert(OPENLR_VERSION == 6 && OPENLR_UNITS_PER_METRE == 10, "offset bytes to the nearest, decimetres");
 _Static_assert(OPENLR_LEAST_STACK == 104 * 1024, "in whole pages");
 _Static_assert(OPENLR_WORK_AREA_SHORT == 1 && OPENLR_MAP_NUMBER == 2 && OPENLR_EQUAL_CODES == 6, "the table's numbers for maps");
 _Static_assert(OPENLR_MAP_BAN == 23 && OPENLR_MAP_STEP == 24, "and the later ones");

@@ -19,7 +19,7 @@ _Static_assert(offsetof(struct openlr_point_written, bytes) == 4, "second");
 enum { UNTOUCHED = 0xEE, GUARD = 0x55, FIRST_P = 7, D = 9, LAST_P = 14, R = 15, OFFSET = 16 };
 
 /* A hydrant at 120 of line 2, without orientation, on the right side. The line runs north from node 1, 466 (01D2) and 0 in codes, to node 2, which is 1000
-   (03E8) further. Q: lowest class 3, sector 0. D: 500 / 586. R: positive flag, sector 16. 256 x 120 / 500 is 61.4 (3D), which is 120 to 121. */
+   (03E8) further. Q: lowest class 3, sector 0. D: 500 / 586. R: positive flag, sector 16. 256 x 120 / 500 is 61.4 (3D), which is 119 (60.9) to 120. */
 static const uint8_t hydrant[OPENLR_LONGEST_POINT] = {0x2B, 0, 0x01, 0xD2, 0, 0, 0, 0x1B, 0x60, 0, 0, 0, 0x03, 0xE8, 0x5B, 0x50, 0x3D};
 
 static int untouched(const uint8_t *buffer, size_t from, size_t to) {
@@ -80,13 +80,29 @@ static void lines_for_each_room(const uint8_t *reference, const uint8_t *lines, 
     }
 }
 
-/* The hydrant; and a point of orientation 3 and side 2 along lines 0 and 2, from node 0 to node 2: 1500 long, so that D is 2, and byte 80 means 750 to 755
-   (256 x 756 / 1500 is 129). */
+/* The hydrant; and a point of orientation 3 and side 2 along lines 0 and 2, from node 0 to node 2: 1500 long, so that D is 2, and byte 80 means 748 to 752
+   (256 x 748 / 1500 is 127.7, 256 x 752 / 1500 is 128.3). */
 static void readings(void) {
     static const uint8_t along_two[] = {0x2B, 0, 0, 0, 0, 0, 0, 0xDB, 0x68, 0x02, 0x03, 0xE8, 0x03, 0xE8, 0x9B, 0x50, 0x80};
     static const uint8_t line_2[] = {2}, lines_0_and_2[] = {0, 2};
-    lines_for_each_room(hydrant, line_2, 1, 120, 121, 0, 1);
-    lines_for_each_room(along_two, lines_0_and_2, 2, 750, 755, 3, 2);
+    lines_for_each_room(hydrant, line_2, 1, 119, 120, 0, 1);
+    lines_for_each_room(along_two, lines_0_and_2, 2, 748, 752, 3, 2);
+}
+
+/* On a line 2 of 512 every odd offset is half between two 256ths and rounds up: 1 to 1, 3 to 2, 509 to 255. 511 rounds up to 256, for which FF is written. The
+   bytes give back the offset and its neighbour, FF three. Nothing gives byte 0. */
+static void rounding(void) {
+    static const uint32_t cases[][4] = {{1, 1, 1, 2}, {2, 1, 1, 2}, {3, 2, 3, 4}, {508, 254, 507, 508}, {509, 255, 509, 511}, {511, 255, 509, 511}};
+    uint8_t map[sizeof ridge], reference[OPENLR_LONGEST_POINT], line[4];
+    put_ridge_with_step(map, LENGTH_2, 512);
+    for (size_t i = 0; i < sizeof cases / sizeof cases[0]; i++) {
+        struct openlr_point_written a = openlr_write_point(map, sizeof map, 2, cases[i][0], 0, 0, reference, sizeof reference);
+        EXPECT(a.refusal == 0 && a.bytes == sizeof reference && reference[OFFSET] == cases[i][1]);
+        struct openlr_point b = openlr_read_point(map, sizeof map, reference, sizeof reference, line, sizeof line);
+        EXPECT(b.refusal == 0 && b.lines == 1 && line[0] == 2 && b.least == cases[i][2] && b.greatest == cases[i][3]);
+    }
+    reference[OFFSET] = 0;
+    EXPECT(is_refused(openlr_read_point(map, sizeof map, reference, sizeof reference, line, sizeof line), OPENLR_NO_OFFSET, 0));
 }
 
 /* Each orientation with each side: bits 7 and 6 of the two P, and back. */
@@ -119,7 +135,7 @@ static void refused_with(size_t at, uint8_t byte, uint32_t number, uint32_t plac
     refused_on(ridge, sizeof ridge, reference, sizeof reference, number, place);
 }
 
-/* Each refusal of the reader. The last two points tie as the ridge does; and on a line 2 of 200 no offset gives byte 4 (3 gives 3.8, 4 gives 5.1). */
+/* Each refusal of the reader. The last two points tie as the ridge does; and on a line 2 of 200 no offset gives byte 7 (5 gives 6.4, 6 gives 7.7). */
 static void reader_refusals(void) {
     static const uint8_t white_paper[] = {0x2B, 0x04, 0x5B, 0xA0, 0x23, 0x46, 0x7E, 0x12, 0x51, 0x01, 0xFF, 0xCE, 0xFF, 0xB4, 0x92, 0x43, 0x4D};
     static const uint8_t tie[] = {0x2B, 0, 0, 0, 0, 0, 0, 0x1B, 0x68, 0x03, 0x07, 0xD0, 0, 0, 0x1B, 0x18};
@@ -141,7 +157,7 @@ static void reader_refusals(void) {
     refused_on(ridge, sizeof ridge, tie, sizeof tie, OPENLR_SEVERAL_READINGS, 0);
     put_ridge_with_step(short_line, LENGTH_2, 200);
     memcpy(longer, hydrant, sizeof hydrant);
-    longer[OFFSET] = 4;
+    longer[OFFSET] = 7;
     refused_on(short_line, sizeof short_line, longer, sizeof hydrant, OPENLR_NO_OFFSET, 0);
 }
 
@@ -216,6 +232,7 @@ int main(void) {
     bytes_for_each_room(120);
     bytes_for_each_room(0);
     readings();
+    rounding();
     orientations_and_sides();
     reader_refusals();
     other_kind();

@@ -27,7 +27,8 @@ static int untouched(const uint8_t *line_buffer, size_t from, size_t to) {
     return 1;
 }
 
-/* Lines 0 and 1. Of 1000 decimetres, byte 80 means 500 to 503 (256 x 504 / 1000 is 129), and byte 40 means 250 to 253 (256 x 254 / 1000 is 65). */
+/* Lines 0 and 1. Of 1000 decimetres, byte 80 means 499 to 501 (256 x 498.05 / 1000 is 127.5 and 256 x 501.95 / 1000 is 128.5), and byte 40 means 249 to 251
+   (248.05 and 251.95 likewise). */
 static void both_offsets(void) {
     static const uint8_t reference[] = {0x0B, 0, 0, 0, 0, 0, 0, 0x1B, 0x68, 0x01, 0x03, 0xE8, 0, 0, 0x1B, 0x68, 0x01, 0x03, 0xE8, 0, 0, 0x1B, 0x78, 0x80, 0x40};
     static const uint8_t expected[] = {0, 0, 0, 0, 1, 0, 0, 0};
@@ -42,7 +43,7 @@ static void both_offsets(void) {
             EXPECT(untouched(line_buffer, 0, room));
         } else {
             EXPECT(a.refusal == 0 && a.place == 0 && a.line_count == 2);
-            EXPECT(a.pos_least == 500 && a.pos_greatest == 503 && a.neg_least == 250 && a.neg_greatest == 253);
+            EXPECT(a.pos_least == 499 && a.pos_greatest == 501 && a.neg_least == 249 && a.neg_greatest == 251);
             EXPECT(memcmp(line_buffer, expected, sizeof expected) == 0 && untouched(line_buffer, sizeof expected, room));
         }
         EXPECT(line_buffer[room] == 0x55);

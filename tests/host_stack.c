@@ -94,8 +94,8 @@ static void run(const char *what, void *(*call)(void *)) {
     EXPECT(pthread_attr_destroy(&attributes) == 0 && munmap(memory, GUARD + OPENLR_LEAST_STACK) == 0);
 }
 
-/* A ring of 16 lines, and 64 legs that each go once around it from node 0, with both offsets. Of 141,168 decimetres, D is 240 (F0), and byte 80 means 70,584 to
-   71,135 (256 x 71,136 / 141,168 is 129). */
+/* A ring of 16 lines, and 64 legs that each go once around it from node 0, with both offsets. Of 141,168 decimetres, D is 240 (F0), and byte 80 means 70,309
+   (256 x 70,309 / 141,168 is 127.5013) to 70,859 (128.4987). */
 static void read_most(void) {
     static const uint8_t first[] = {0x0B, 0, 0, 0, 0, 0, 0, 0x1B, 0x6C, 0xF0}, next[] = {0, 0, 0, 0, 0x1B, 0x6C, 0xF0};
     static const uint8_t last[] = {0, 0, 0, 0, 0x1B, 0x7C, 0x80, 0x80};
@@ -108,13 +108,14 @@ static void read_most(void) {
     given_len = sizeof given;
     run("openlr_read, 64 legs, 1,024 lines", read_once);
     EXPECT(reading.refusal == 0 && reading.line_count == 1024);
-    EXPECT(reading.pos_least == 70584 && reading.pos_greatest == 71135 && reading.neg_least == 70584 && reading.neg_greatest == 71135);
+    EXPECT(reading.pos_least == 70309 && reading.pos_greatest == 70859 && reading.neg_least == 70309 && reading.neg_greatest == 70859);
     for (uint32_t i = 0; i < 1024; i++) EXPECT(line_buffer[4 * i] == i % 16 && line_buffer[4 * i + 1] == 0);
 }
 
 /* Node 0, and around the others two lines from node to node: 1 to 511 the one time, 512 to 1,021 the other. Line 0 leads there, line 1,022 back, and line 1,023
    there again with another form. Bans leave one way from line 0 to that last line: all 1,024 lines, 149,504 decimetres. D is 255. Node 1 is 100 to the east.
-   The same bytes are then a point, of orientation 3 and side 2. Byte FF of 149,504 is 148,920 to 149,503. */
+   The same bytes are then a point, of orientation 3 and side 2. Byte FF of 149,504 is 148,628, exactly half between 254 and 255 256ths, to
+   149,503. */
 static void read_longest_leg(void) {
     static const uint8_t reference[] = {0x0B, 0, 0, 0, 0, 0, 0, 0x1B, 0x6C, 0xFF, 0, 0x64, 0, 0, 0x1D, 0x1C};
     static const uint8_t point_bytes[] = {0x2B, 0, 0, 0, 0, 0, 0, 0xDB, 0x6C, 0xFF, 0, 0x64, 0, 0, 0x9D, 0x5C, 0xFF};
@@ -138,7 +139,7 @@ static void read_longest_leg(void) {
     given_len = sizeof point_bytes;
     memset(line_buffer, 0, sizeof line_buffer);
     run("openlr_read_point, 1,024 lines", read_point_once);
-    EXPECT(point.refusal == 0 && point.lines == 1024 && point.least == 148920 && point.greatest == 149503 && point.orientation == 3 && point.side == 2);
+    EXPECT(point.refusal == 0 && point.lines == 1024 && point.least == 148628 && point.greatest == 149503 && point.orientation == 3 && point.side == 2);
     for (uint32_t i = 0; i < 1024; i++) EXPECT(line_buffer[4 * i] == i % 256 && line_buffer[4 * i + 1] == i / 256);
 }
 
@@ -150,7 +151,8 @@ static void put_chain(uint32_t length) {
     put_stretch(64);
 }
 
-/* A chain of which no two lines fit one leg: 64 legs and both offsets. The bytes are read back. */
+/* A chain of which no two lines fit one leg: 64 legs and both offsets. The bytes are read back: byte 80 of 76,000 means 37,852
+   (256 x 37,852 / 76,000 is 127.5015) to 38,148 (128.4985). */
 static void write_most_legs(void) {
     put_chain(76000);
     pos = neg = 38000;
@@ -159,7 +161,7 @@ static void write_most_legs(void) {
     memcpy(given, byte_buffer, sizeof given);
     given_len = sizeof given;
     run("openlr_read, 64 legs, 64 lines", read_once);
-    EXPECT(reading.refusal == 0 && reading.line_count == 64 && reading.pos_least == 38000 && reading.neg_least == 38000);
+    EXPECT(reading.refusal == 0 && reading.line_count == 64 && reading.pos_least == 37852 && reading.neg_greatest == 38148);
     for (uint32_t i = 0; i < 64; i++) EXPECT(line_buffer[4 * i] == i);
 }
 
@@ -171,8 +173,8 @@ static void write_most_tests(void) {
     EXPECT(written.refusal == 0 && written.byte_count == 16 && byte_buffer[9] == 64000 / 586);
 }
 
-/* A map with every number as long as it can be. Up to three lines join the same two nodes; D tells them apart. Half of 150,000 is byte 80, which is 75,000 to
-   75,585 (256 x 75,586 / 150,000 is 129.0001). */
+/* A map with every number as long as it can be. Up to three lines join the same two nodes; D tells them apart. Half of 150,000 is byte 80, which is 74,708
+   (256 x 74,708 / 150,000 is 127.5017) to 75,292 (128.4983). */
 static void longest_map(void) {
     map_len = 0;
     put_number(NODES);
@@ -208,7 +210,7 @@ static void longest_map(void) {
     given_len = OPENLR_LONGEST_POINT;
     line_buffer[0] = 0;
     run("openlr_read_point, longest map", read_point_once);
-    EXPECT(point.refusal == 0 && point.lines == 1 && line_buffer[0] == 1 && point.least == 75000 && point.greatest == 75585);
+    EXPECT(point.refusal == 0 && point.lines == 1 && line_buffer[0] == 1 && point.least == 74708 && point.greatest == 75292);
 }
 
 int main(void) {

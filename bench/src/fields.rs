@@ -159,23 +159,32 @@ pub fn lengths_of_distance_byte(distance: u8) -> (u32, u32) {
     (least, (least + DISTANCE_STEP - 1).min(LONGEST_LEG))
 }
 
-/// The byte of an offset below the leg length.
+/// The byte of an offset below the leg length: the nearest 256th of the leg, an exact half upwards, and
+/// 255 where that is 256 ("Offsets to the nearest").
+///
+/// The nearest is the greatest whole `k` with `k * leg_length <= 256 * offset + leg_length / 2`. All but
+/// the half leg is whole in it, so the half of an odd leg may be rounded down. On any 64 lines there is
+/// room for it in 32 bits.
 pub fn offset_byte(offset: u32, leg_length: u32) -> u8 {
-    (256 * u64::from(offset) / u64::from(leg_length)) as u8
+    ((256 * offset + leg_length / 2) / leg_length).min(255) as u8
 }
 
 /// The whole offsets from 1 to below the leg length that give the byte, if there are any.
 ///
-/// `256 * offset / leg_length` rounds down to `byte` just if
-/// `byte * leg_length <= 256 * offset < (byte + 1) * leg_length`.
+/// Halfway between 256ths are the odd 512ths: `byte` is the nearest just if
+/// `(2 * byte - 1) * leg_length <= 512 * offset < (2 * byte + 1) * leg_length`. Before byte 0 there is no
+/// other byte, and behind byte 255 none: it goes on where 256 is the nearest.
 pub fn offset_span(byte: u8, leg_length: u32) -> Option<Span> {
-    let edge = |byte: u64| (byte * u64::from(leg_length)).div_ceil(256);
-    let least = edge(u64::from(byte)).max(1);
-    let beyond = edge(u64::from(byte) + 1);
-    (least < beyond).then(|| Span {
-        least: least as u32,
-        greatest: beyond as u32 - 1,
-    })
+    let middle = 2 * u32::from(byte) * leg_length;
+    let least = match byte {
+        0 => 1,
+        _ => (middle + 511 - leg_length) / 512,
+    };
+    let greatest = match byte {
+        255 => leg_length - 1,
+        _ => (middle + leg_length - 1) / 512,
+    };
+    (least <= greatest).then_some(Span { least, greatest })
 }
 
 /// A longitude, or a difference of two, brought into -18,000,000 to 17,999,999 by adding or taking

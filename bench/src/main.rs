@@ -1,6 +1,7 @@
 //! The benchmark: each row times the proved function and the plain Rust one in turn, in one
 //! process, and prints `what | ours µs | plain Rust µs | ratio`.
 
+mod offset_rows;
 mod point_rows;
 mod proved;
 mod worst;
@@ -156,7 +157,8 @@ fn sample(name: &'static str, plan: MapPlan) -> Sample {
     Sample { name, bytes, map }
 }
 
-/// Prints the rows of every kind but worst, or of the kind that the argument names: decode, search, read, write, point or worst.
+/// Prints the rows of every kind but worst, or of the kind that the argument names: decode, search, read, write, point, offsets or
+/// worst.
 /// `worst TEXT` prints those of the maps with this text in their names; they may take minutes.
 /// `once ROW` times nothing, for counting calls.
 fn main() {
@@ -196,6 +198,9 @@ fn main() {
         for sample in &hostile_samples() {
             search_rows(sample);
         }
+    }
+    if wanted("offsets") {
+        offset_rows::print_rows();
     }
 }
 

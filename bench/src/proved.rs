@@ -60,6 +60,8 @@ extern "C" {
         bytes: *mut u8,
         bytes_len: usize,
     ) -> usize;
+    fn measured_offset_byte(leg: u32, offset: u32) -> u32;
+    fn measured_span(leg: u32, byte: u8) -> u64;
 }
 
 /// Decodes a map into the work area. The answer is the number of the refusal, or 0.
@@ -186,4 +188,14 @@ pub fn write_point(
             byte_buffer.len(),
         )
     }
+}
+
+/// The byte of an offset on a leg, or 256 where it does not lie on it.
+pub fn offset_byte(offset: u32, leg_length: u32) -> u32 {
+    unsafe { measured_offset_byte(leg_length, offset) }
+}
+
+/// The sum of the least and the greatest offset that give a byte, or 0 where none does.
+pub fn span(byte: u8, leg_length: u32) -> u64 {
+    unsafe { measured_span(leg_length, byte) }
 }

@@ -114,7 +114,7 @@ fn a_banned_turn_where_legs_meet() {
     assert_eq!(read_on(&ridge(&[]), THREE_POINTS), Ok(vec![0, 1]));
     let read = read_on(&plan, THREE_POINTS);
     assert_eq!(read, Err(Refusal::BannedWhereLegsMeet));
-    // Byte 1 on a leg of 100.
+    // Byte 1 on a leg of 100: offset 1 is 2.56 parts and gives 3.
     let no_offset = "0B0000000000001B680003E800001B680103E800001B5801";
     for (bans, refusal) in [
         ([].as_slice(), Refusal::OffsetByte),

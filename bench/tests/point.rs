@@ -105,8 +105,10 @@ fn node((longitude, latitude): (i32, i32)) -> Node {
     }
 }
 
-/// 28 m along the line, on its left side (13.2.3). The offset byte is 77: 27.7 to 28.0 m, and the paper
-/// says 27.8.
+/// 28 m along the line, on its left side (13.2.3). That is 256 * 280 / 920 = 77.91 parts. The paper rounds
+/// them down and has 4D as its offset byte; the nearest is 78, which is 4E. Halves are odd 512ths: 4E
+/// begins at 155 * 920 / 512 = 278.5 and ends before 157 * 920 / 512 = 282.1. The paper's own byte begins at
+/// 153 * 920 / 512 = 274.9: it is 27.5 to 27.8 m, and the paper says 27.8.
 #[test]
 fn the_white_papers_example() {
     let plan = white_paper_map();
@@ -116,19 +118,22 @@ fn the_white_papers_example() {
         orientation: 0,
         side: 2,
     };
-    let reference = "2B045BA023467E125101FFCEFFB492434D";
-    assert_eq!(write_on(&plan, point), Ok(bytes(reference).unwrap()));
-    let expected = reading(1, (277, 280), 0, 2);
-    assert_eq!(read_on(&plan, reference), Ok(expected));
+    let written = "2B045BA023467E125101FFCEFFB492434E";
+    let papers_own = "2B045BA023467E125101FFCEFFB492434D";
+    assert_eq!(write_on(&plan, point), Ok(bytes(written).unwrap()));
+    for (reference, span) in [(written, (279, 282)), (papers_own, (275, 278))] {
+        assert_eq!(read_on(&plan, reference), Ok(reading(1, span, 0, 2)));
+    }
 }
 
+/// Byte 80 on a leg of 1000 begins at 255 * 1000 / 512 = 498.05 and ends before 257 * 1000 / 512 = 501.95.
 #[test]
 fn a_hydrant_on_the_ridge() {
     let plan = ridge(&[]);
     assert_eq!(write_on(&plan, hydrant()), Ok(bytes(HYDRANT).unwrap()));
     let read = read_on(&plan, HYDRANT).unwrap();
-    assert_eq!(read, reading(1, (500, 503), 1, 2));
-    let printed = "lines 1 offset 500 503 orientation 1 side 2\n1";
+    assert_eq!(read, reading(1, (499, 501), 1, 2));
+    let printed = "lines 1 offset 499 501 orientation 1 side 2\n1";
     assert_eq!(read.to_string(), printed);
     // Line 3, from (1000, 1000) to (2000, 0), with sectors 12 and 24 and a D of 0.
     let on_slope = "2B0001D20001D21B6C0003E8FC181B18";
@@ -136,18 +141,22 @@ fn a_hydrant_on_the_ridge() {
     assert_eq!(read_on(&plan, on_slope), Ok(reading(3, (0, 0), 0, 0)));
 }
 
-/// The flag looks at the offset, and not at its byte.
+/// The flag looks at the offset, and not at its byte. An offset has 0.256 parts a decimetre: 1 has 0.256 and
+/// 2 has 0.512, 5 has 1.28 and 6 has 1.536, 9 has 2.304 and 10 has 2.56; 990 has 253.44 and 991 has 253.696,
+/// 994 has 254.464 and 995 has 254.72; 998 has 255.488 and 999 has 255.744, which would be 256.
 #[test]
 fn offsets_of_a_hydrant() {
     let plan = ridge(&[]);
     for (offset, rest, span) in [
         (0, "18", (0, 0)),
-        (1, "5800", (1, 3)),
-        (3, "5800", (1, 3)),
-        (4, "5801", (4, 7)),
-        (996, "58FE", (993, 996)),
-        (997, "58FF", (997, 999)),
-        (999, "58FF", (997, 999)),
+        (1, "5800", (1, 1)),
+        (2, "5801", (2, 5)),
+        (5, "5801", (2, 5)),
+        (6, "5802", (6, 9)),
+        (994, "58FE", (991, 994)),
+        (995, "58FF", (995, 999)),
+        (998, "58FF", (995, 999)),
+        (999, "58FF", (995, 999)),
     ] {
         let point = Point {
             offset,
@@ -179,14 +188,15 @@ fn every_orientation_and_side() {
     }
 }
 
-/// Byte 80 on all of the lines is 1,000 to 1,007: the leg is a last leg of 2,000.
+/// The leg is a last leg of 2,000: byte 80 begins at 255 * 2000 / 512 = 996.1 and ends before
+/// 257 * 2000 / 512 = 1003.9 along all of the lines.
 #[test]
 fn a_received_point_along_several_lines() {
     for (bans, lines) in [([(2, 3)], vec![0, 1]), ([(0, 1)], vec![0, 2, 3])] {
         let plan = ridge(&bans);
         let expected = PointReading {
             lines,
-            ..reading(0, (1000, 1007), 3, 1)
+            ..reading(0, (997, 1003), 3, 1)
         };
         assert_eq!(read_on(&plan, OVER_THE_RIDGE), Ok(expected.clone()));
         let reference = bytes(OVER_THE_RIDGE).unwrap();
@@ -384,7 +394,7 @@ fn differences_fit_16_bits() {
             read.expect("what is written is read")
         });
         let expected = match fits {
-            true => Ok(reading(0, (500, 503), 1, 2)),
+            true => Ok(reading(0, (499, 501), 1, 2)),
             false => Err(Refusal::NoUsablePoints),
         };
         assert_eq!(read, expected, "{from:?} {to:?}");
@@ -472,19 +482,29 @@ fn legs_without_one_reading() {
     assert_eq!(refusal_on(&ridge(&[(0, 1), (2, 3)]), OVER_THE_RIDGE), none);
 }
 
-/// Also where the line buffer is too short. The least leg with an offset of byte 0 is 257 long.
+/// Also where the line buffer is too short. Offset 1 of 100 gives 3, since 256 / 100 is 2.56, and 2 gives 5.
+/// The least leg with an offset of byte 0 is 513 long: 256 / 512 is exactly a half, and goes up. The least
+/// with one of byte 255 is 171 long: 256 * 169 / 170 is 254.494 and 256 * 170 / 171 is 254.503. Of 585 it
+/// begins at 509 * 585 / 512 = 581.6.
 #[test]
 fn bytes_that_no_offset_gives() {
     for (length, byte, span) in [
         (100, 1, None),
-        (100, 2, Some((1, 1))),
+        (100, 2, None),
+        (100, 3, Some((1, 1))),
+        (100, 4, None),
+        (100, 5, Some((2, 2))),
         (1, 0, None),
         (1, 255, None),
         (2, 128, Some((1, 1))),
         (2, 127, None),
-        (256, 0, None),
-        (257, 0, Some((1, 1))),
-        (585, 255, Some((583, 584))),
+        (512, 0, None),
+        (512, 1, Some((1, 2))),
+        (513, 0, Some((1, 1))),
+        (170, 254, Some((169, 169))),
+        (170, 255, None),
+        (171, 255, Some((170, 170))),
+        (585, 255, Some((582, 584))),
     ] {
         let mut plan = ridge(&[]);
         plan.lines[1].length = length;

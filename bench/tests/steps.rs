@@ -92,6 +92,7 @@ fn the_bytes_of_the_ridge() {
     }
 }
 
+/// Offset 500 of 1000 is 128 parts, and byte 80 is what has 127.5 to below 128.5: 498.05 to below 501.95.
 #[test]
 fn the_tie_at_the_ridge() {
     let map = ridge(&[]).encode();
@@ -100,7 +101,7 @@ fn the_tie_at_the_ridge() {
     let with_offset = "0B0000000000001B680103E800001B680103E800001B5880";
     assert_eq!(written(500), Ok(bytes(with_offset).unwrap()));
     let printed = read(&map, &bytes(with_offset).unwrap(), WORK_AREA, 1024).unwrap();
-    assert_eq!(printed.to_string(), "lines 2 pos 500 503 neg 0 0\n0\n1");
+    assert_eq!(printed.to_string(), "lines 2 pos 499 501 neg 0 0\n0\n1");
 }
 
 #[test]

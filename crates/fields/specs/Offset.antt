@@ -8,7 +8,6 @@ use Rattle.fields.specs.declared.offset.Offsets.the-variants.{Between, N
 
 -- Of the offsets from 1 to below the leg's length, those below `r` give a lesser byte than `b`, and the others `b` or a greater one.
 pub record FirstOffset (leg b r : ℕ) : Type 0 where
-  pub within : r ≤ leg
   pub above : 0 < leg → 0 < r
   pub before : (o : ℕ) → 0 < o → o < r → offsetByte leg o < b
   pub from : (o : ℕ) → r ≤ o → o < leg → b ≤ offsetByte leg o

@@ -38,7 +38,7 @@ TripTells mb stretch pos neg b b′ l l′ (Back count a) =
     Wrote mb stretch pos neg b b′ count × HandedBack mb (hostStretch stretch pos neg) (take count b′) l l′ (asRead a)
 
 -- Where two stretches are accepted with the same bytes, the lines left are the same and what is left of the offsets is no further apart than the ends of
--- the span that reading the bytes gives: demand 3, for both stretches. Otherwise nothing is read.
+-- the span that reading the bytes gives, which is less than three 512ths of the leg: demand 3, for both stretches. Otherwise nothing is read.
 abbrev pub PairTells : List ℕ → List ℕ → ℕ → ℕ → List ℕ → ℕ → ℕ → List ℕ → List ℕ → List ℕ → List ℕ → List ℕ → List ℕ → Pair → Type 0
 PairTells mb s pos neg t pos′ neg′ b b′ o o′ l l′ (FirstRefused why) = NotWritten mb s pos neg b b′ why × (o′ ≡ o) × (l′ ≡ l)
 PairTells mb s pos neg t pos′ neg′ b b′ o o′ l l′ (SecondRefused why) =

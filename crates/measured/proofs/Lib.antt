@@ -1,2 +1,3 @@
 -- Laws that the measured functions share.
 pub mod Refused
+pub mod Offsets

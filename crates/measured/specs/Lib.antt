@@ -1,2 +1,3 @@
 -- What the measured functions answer.
 pub mod Refusal
+pub mod Offsets

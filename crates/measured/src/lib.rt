@@ -2,6 +2,9 @@
 use buffers::wide;
 use depot_map::MapRead;
 use depot_map::read_map;
+use fields::offset::Offsets;
+use fields::offset::offset_byte;
+use fields::offset::span_of;
 use model::PointReadAnswer;
 use model::ReadAnswer;
 use model::WriteAnswer;
@@ -22,6 +25,7 @@ ghost use Rattle.model.specs.Map.{Map};
 ghost use Rattle.search_cells.specs.Area.{Set};
 ghost use Rattle.model.specs.Stretch.{stretchOf};
 ghost use Rattle.model.specs.PointAlong.{pointGiven};
+ghost use Rattle.measured.specs.Offsets.{byteNumber, SpanNumber};
 ghost use Rattle.measured.specs.Refusal.{mapRefusal, ReadNumber, WriteNumber, PointReadNumber, PointWriteNumber};
 
 // Reads a map into the work area: the number of the refusal, or 0.
@@ -149,5 +153,27 @@ pub extern "C" fn measured_write_point(
     match write_point(map, line, offset, orientation, side, work, bytes) {
         WriteAnswer::Written(count) => count,
         WriteAnswer::Refused(why) => number_of(why) as usize,
+    }
+}
+
+// The byte of an offset on a leg, or 256 where it does not lie on it.
+#[no_mangle]
+pub extern "C" fn measured_offset_byte(leg: u32, offset: u32) -> u32
+    ensures { λ r. ⌜ r ≡ byteNumber leg offset ⌝ }
+{
+    if leg <= offset {
+        return 256;
+    }
+    offset_byte(leg, offset)
+}
+
+// The sum of the least and the greatest offset that give a byte, or 0 where none does.
+#[no_mangle]
+pub extern "C" fn measured_span(leg: u32, byte: u8) -> u64
+    ensures { λ r. ⌜ SpanNumber leg byte r ⌝ }
+{
+    match span_of(leg, byte as u32) {
+        Offsets::Between(span) => span.least as u64 + span.greatest as u64,
+        Offsets::Nowhere => 0,
     }
 }

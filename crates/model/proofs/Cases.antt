@@ -34,3 +34,4 @@ pub mod Sectors
 pub mod WrongSectors
 pub mod Points
 pub mod WrongPoints
+pub mod WrongOffsets

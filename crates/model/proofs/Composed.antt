@@ -20,7 +20,8 @@ use Rattle.model.proofs.Every.{Every, none, also}
 use Rattle.model.specs.WellFormed.{WellFormed, LineOk}
 use Rattle.model.proofs.Bytes.{AttributesFit, PointFits, OffsetFits, Fitting}
 use Rattle.model.proofs.Joining.{connected, first-ok, last-ok, lowest-small, from-known, as-many, first-leg, last-leg}
-use Rattle.model.proofs.Spans.{offset-byte, stated, span}
+use Rattle.model.proofs.Nearest.{offset-byte}
+use Rattle.model.proofs.Spans.{stated, span}
 
 -- A code has 24 bits.
 code-small : (half c : ℕ) → c < half + 18_000_000 → code half c < 16_777_216
@@ -45,7 +46,7 @@ offset-fits leg offset inside = go (eqb offset 0)
   where
     go : (t : Bool) → OffsetFits (cond t absent (byte (offsetByte leg offset)))
     go true = tt
-    go false = offset-byte leg offset inside
+    go false = offset-byte leg offset
 
 points-count : (m : Map) (lss : List (List ℕ)) → length (pointsOf m lss) ≡ length lss
 unfolding pointsOf

@@ -118,8 +118,8 @@ module _ (m : Map) (mb : List ℕ) (s : Stretch) (bytes : List ℕ) (k : Written
       }
 
 -- Two offsets in one span.
-pub apart : {a b leg leg′ : ℕ} {s : Span} → Within a s leg → Within b s leg′ → Apart a b s
-apart w w′ = record { up = omega arith; down = omega arith }
+pub apart : {a b leg leg′ : ℕ} {s : Span} → Within a s leg → Within b s leg′ → Apart a b s leg
+apart w w′ = record { up = omega arith; down = omega arith; close = record { up = omega (arith, w .ends .up); down = omega (arith, w .ends .up) } }
 
 module _ (m : Map) (mb bytes : List ℕ) (s t : Stretch) (k : Written m mb s bytes) (k′ : Written m mb t bytes) where
   same-lines : remaining m s .lines ≡ remaining m t .lines
@@ -138,6 +138,8 @@ module _ (m : Map) (mb bytes : List ℕ) (s t : Stretch) (k : Written m mb s byt
         map = m;
         decodes = k .decodes;
         lines = same-lines;
+        legs = k .legs;
+        chosen = k .chosen;
         pos = some-spans m mb s bytes k .0;
         neg = some-spans m mb s bytes k .1;
         reads = a;

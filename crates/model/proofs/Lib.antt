@@ -11,7 +11,9 @@ pub mod Numbers
 pub mod Ranges
 pub mod Steps
 pub mod Cut
+pub mod Nearest
 pub mod Spans
+pub mod OffsetSpans
 pub mod Legs
 pub mod Skipping
 pub mod Joining
@@ -34,6 +36,7 @@ pub mod PointShape
 pub mod PointReading
 pub mod PointWriting
 pub mod PointTrip
+pub mod SpanEnds
 pub mod PointRows
 pub mod CallsOnce
 pub mod HostWrote

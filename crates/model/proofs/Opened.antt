@@ -37,6 +37,19 @@ module _ {Outcome : Type 0} (refused : Refused → Outcome) where
     pub opens-by : (work : ℕ) → Opens refused Asks mb work o → Opens refused Asks′ mb work o
     opens-by work h = on-area-by (ltb work workLength) h
 
+  -- An outcome that is no refusal is one that the map gives.
+  module _ (Asks : Map → Outcome → Type 0) {o : Outcome} (mb : List ℕ) (accepted : (r : Refused) → o ≡ refused r → ⊥) where
+    on-map-opened : (a : MapAnswer) → decode mb ≡ a → OnMap refused Asks a o → (m : Map) × (decode mb ≡ whole m) × Asks m o
+    on-map-opened (whole m) d h = (m, d, h)
+    on-map-opened (MapAnswer.refused r) d h = absurd (accepted r h)
+
+    on-area-opened : (t : Bool) → OnArea refused Asks t mb o → (m : Map) × (decode mb ≡ whole m) × Asks m o
+    on-area-opened true h = absurd (accepted (row 1) h)
+    on-area-opened false h = on-map-opened (decode mb) refl h
+
+    pub opened : (work : ℕ) → Opens refused Asks mb work o → (m : Map) × (decode mb ≡ whole m) × Asks m o
+    opened work h = on-area-opened (ltb work workLength) h
+
   module _ (Asks : Map → Outcome → Type 0) (mb : List ℕ) (work : ℕ) where
     pub area-short : work < workLength → Opens refused Asks mb work (refused (row 1))
     area-short h = rw (lt-ltb work workLength h) refl

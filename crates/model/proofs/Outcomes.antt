@@ -1,20 +1,23 @@
 -- The writer's and the reader's outcomes, taken apart and put together row by row.
-use Prim.Native.Nat.{ℕ, _≤_}
+use Prim.Native.Nat.{ℕ, _+_, _≤_, _<_}
 use mathlib.Core.Path.{_≡_, refl, subst}
 use mathlib.Core.Bool.{Bool, true, false}
 use mathlib.Core.List.{List}
 use native.Mathlib.Omega.{arith}
-use lib.Dec.{ltb}
 use borrow.Author.Tests.{le-ltb}
+use Rattle.model.specs.declared.Span.{Span}
 use Rattle.model.specs.Refusal.{Refused}
-use Rattle.model.specs.Map.{Map, MapAnswer, whole, decode}
-use Rattle.model.specs.Reference.{Reference, parsed, parse}
+use Rattle.model.specs.Map.{Map, whole, decode}
+use Rattle.model.specs.Lines.{Connected, total}
+use Rattle.model.specs.Reference.{Reference, ParseAnswer, parsed, parse}
+use Rattle.model.specs.Reading.{Leg, joined, bannedMeeting}
 use Rattle.model.specs.Stretch.{Stretch, remaining, StretchAnswer, remains, checkStretch}
 use Rattle.model.specs.Choice.{LegTest, good, Chosen, stretchBytes}
-use Rattle.model.specs.Opening.{OnArea}
-use Rattle.model.specs.Outcome.{ReadOutcome, ReadOn, Reads, WriteOutcome, written, WriteBy, WriteOn, WriteStretch, WriteMap, Writes}
+use Rattle.model.specs.Outcome.{LegsRead, every, SpansRead, ReadOutcome, read, ReadEnd, ReadJoined, ReadOn, ReadParsed, Reads, WriteOutcome, written, WriteBy, WriteOn, WriteStretch, Writes}
 use Rattle.model.specs.Work.{workLength}
+use Rattle.model.proofs.Every.{Every, none, also}
 use Rattle.model.proofs.Skipping.{Left, taken}
+use Rattle.model.proofs.Opened.{opened}
 
 -- The writer wrote these bytes on this map.
 pub record Written (m : Map) (mb : List ℕ) (s : Stretch) (bytes : List ℕ) : Type 0 where
@@ -40,18 +43,59 @@ module _ (mb : List ℕ) (s : Stretch) (bytes : List ℕ) (room : ℕ) where
       record { decodes = d; left = rw (t .0) at (t .1); legs = on .0; chosen = on .1; same = on .2 }
   written-stretch m (StretchAnswer.refused n) d e h = absurd (not-refused h)
 
-  written-map : (a : MapAnswer) → decode mb ≡ a → WriteMap a s room (written bytes) → (m : Map) × Written m mb s bytes
-  written-map (whole m) d h = (m, written-stretch m _ d refl h)
-  written-map (MapAnswer.refused n) d h = absurd (not-refused h)
-
-  written-work : (t : Bool) → OnArea WriteOutcome.refused (λ m. WriteStretch m (checkStretch m s) room) t mb (written bytes) → (m : Map) × Written m mb s bytes
-  written-work true h = absurd (not-refused h)
-  written-work false h = written-map _ refl h
-
   pub written-of : (work : ℕ) → Writes mb s work room (written bytes) → (m : Map) × Written m mb s bytes
-  written-of work h = written-work (ltb work workLength) h
+  written-of work h =
+      let g = opened WriteOutcome.refused (λ m. WriteStretch m (checkStretch m s) room) mb (λ r. not-refused) work h in
+      (g .0, written-stretch (g .0) _ (g .1) refl (g .2))
 
 -- The reader comes to the map and the reference.
 pub on-reads : (mb bytes : List ℕ) {m : Map} {r : Reference} (work room : ℕ) (o : ReadOutcome) → workLength ≤ work → decode mb ≡ whole m →
     parse bytes ≡ parsed r → ReadOn m r room o → Reads mb bytes work room o
 on-reads mb bytes work room o full d p h = rw (le-ltb work workLength full, d, p) h
+
+-- The reader accepted these bytes on this map, and this is the reference.
+pub record Accepted (m : Map) (mb bytes : List ℕ) (room : ℕ) (ls : List ℕ) (pos neg : Span) : Type 0 where
+  pub decodes : decode mb ≡ whole m
+  pub reference : Reference
+  pub parses : parse bytes ≡ parsed reference
+  pub on-map : ReadOn m reference room (read ls pos neg)
+
+not-read : {ls : List ℕ} {pos neg : Span} {r : Refused} → read ls pos neg ≡ ReadOutcome.refused r → ⊥
+not-read e = let z : _≡_ {A = ℕ} 0 1 = cc in omega arith
+
+module _ (mb bytes : List ℕ) (room : ℕ) (ls : List ℕ) (pos neg : Span) where
+  accepted-parsed : (m : Map) (a : ParseAnswer) → decode mb ≡ whole m → parse bytes ≡ a → ReadParsed m a room (read ls pos neg) →
+      Accepted m mb bytes room ls pos neg
+  accepted-parsed m (parsed r) d p h = record { decodes = d; reference = r; parses = p; on-map = h }
+  accepted-parsed m (ParseAnswer.refused n) d p h = absurd (not-read h)
+
+  pub accepted-of : (work : ℕ) → Reads mb bytes work room (read ls pos neg) → (m : Map) × Accepted m mb bytes room ls pos neg
+  accepted-of work h =
+      let g = opened ReadOutcome.refused (λ m. ReadParsed m (parse bytes) room) mb (λ r. not-read) work h in
+      (g .0, accepted-parsed (g .0) _ (g .1) refl (g .2))
+
+-- The legs of which an acceptance is: each connected, no banned turn where two meet, and the spans on the first and the last.
+pub record OfLegs (m : Map) (r : Reference) (ls : List ℕ) (pos neg : Span) : Type 0 where
+  pub legs : List (List ℕ)
+  pub lines : ls ≡ joined legs
+  pub connected : Every (Connected m) legs
+  pub free : bannedMeeting m legs ≡ false
+  pub spans : SpansRead m r legs pos neg
+  pub below : pos .least + neg .least < total m (joined legs)
+
+legs-connected : {m : Map} {k : ℕ} {legs : List Leg} {lss : List (List ℕ)} → LegsRead m k legs (every lss) → Every (Connected m) lss
+legs-connected LegsRead.none = none
+legs-connected (LegsRead.only o r) = also (o .reading .allowed .connected) (legs-connected r)
+
+of-end : {m : Map} {r : Reference} {room : ℕ} {lss : List (List ℕ)} {ls : List ℕ} {pos neg : Span} → Every (Connected m) lss →
+    bannedMeeting m lss ≡ false → ReadEnd m r room lss (read ls pos neg) → OfLegs m r ls pos neg
+of-end {lss = lss} c free (ReadEnd.accepted s h k) = record { legs = lss; lines = refl; connected = c; free = free; spans = s; below = h }
+
+module _ (m : Map) (r : Reference) (room : ℕ) (ls : List ℕ) (pos neg : Span) where
+  of-joined : {lss : List (List ℕ)} (t : Bool) → bannedMeeting m lss ≡ t → Every (Connected m) lss → ReadJoined t m r room lss (read ls pos neg) →
+      OfLegs m r ls pos neg
+  of-joined true e c h = absurd (not-read h)
+  of-joined false e c h = of-end c e h
+
+  pub of-legs : ReadOn m r room (read ls pos neg) → OfLegs m r ls pos neg
+  of-legs (ReadOn.every-leg {lss = lss} l h end) = of-joined (bannedMeeting m lss) refl (legs-connected h) end

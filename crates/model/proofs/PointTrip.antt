@@ -149,6 +149,8 @@ module _ (m : Map) (mb bytes : List ℕ) (p q : GivenPoint) (k : PointWritten m 
       let same = a .nothing-else workLength 1 _ (omega arith) (omega arith) (b .accepts workLength 1 (omega arith) (omega arith)) in
       let spans-same : some-spans m mb bytes q j .0 ≡ some-spans m mb bytes p k .0 = cc in
       record {
+        map = m;
+        decodes = k .decodes;
         line = sym cc;
         orientation = sym cc;
         side = sym cc;

@@ -9,17 +9,15 @@ use lib.ListN.{length}
 use lib.Dec.{ltb, leb}
 use borrow.Author.Tests.{lt-ltb, le-ltb, lt-leb, le-leb, leb-false, ltb-false}
 use Rattle.model.specs.Refusal.{Refused, row}
-use Rattle.model.specs.Map.{Map, MapAnswer, whole, decode}
+use Rattle.model.specs.Map.{Map, whole, decode}
 use Rattle.model.specs.Difference.{DifferencesFit}
 use Rattle.model.specs.Lines.{lineAt, nodeAt}
 use Rattle.model.specs.Reading.{Only}
 use Rattle.model.specs.Choice.{fromNode, toNode, legOf, Good}
-use Rattle.model.specs.Opening.{OnArea}
 use Rattle.model.specs.Outcome.{WriteOutcome, written}
-use Rattle.model.specs.Work.{workLength}
-use Rattle.model.specs.PointAlong.{greatestMark, GivenPoint, ownLeg, givenBytes, PointWriteOn, PointCheck, passes, checkPoint, PointWriteChecked, PointWriteMap, PointWrites}
+use Rattle.model.specs.PointAlong.{greatestMark, GivenPoint, ownLeg, givenBytes, PointWriteOn, PointCheck, passes, checkPoint, PointWriteChecked, PointWrites}
 use Rattle.model.proofs.Tests.{neither}
-use Rattle.model.proofs.Opened.{opens-once}
+use Rattle.model.proofs.Opened.{opens-once, opened}
 
 -- ---- one outcome at most
 
@@ -138,14 +136,7 @@ module _ (mb bytes : List ℕ) (p : GivenPoint) (room : ℕ) where
       record { decodes = d; taken-so = taken m p e; good-line = on .0; same = on .1 }
   written-checked m (PointCheck.refused r) d e h = absurd (not-refused h)
 
-  written-map : (a : MapAnswer) → decode mb ≡ a → PointWriteMap a p room (written bytes) → (m : Map) × PointWritten m mb p bytes
-  written-map (whole m) d h = (m, written-checked m _ d refl h)
-  written-map (MapAnswer.refused r) d h = absurd (not-refused h)
-
-  written-work : (t : Bool) → OnArea WriteOutcome.refused (λ m. PointWriteChecked m p (checkPoint m p) room) t mb (written bytes) →
-      (m : Map) × PointWritten m mb p bytes
-  written-work true h = absurd (not-refused h)
-  written-work false h = written-map _ refl h
-
   pub point-written-of : (work : ℕ) → PointWrites mb p work room (written bytes) → (m : Map) × PointWritten m mb p bytes
-  point-written-of work h = written-work (ltb work workLength) h
+  point-written-of work h =
+      let g = opened WriteOutcome.refused (λ m. PointWriteChecked m p (checkPoint m p) room) mb (λ r. not-refused) work h in
+      (g .0, written-checked (g .0) _ (g .1) refl (g .2))

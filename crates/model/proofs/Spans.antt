@@ -1,20 +1,20 @@
 -- An offset byte's span: it is there, it holds the offset that was written, its ends are close, and there is no other.
-use Prim.Native.Nat.{ℕ, zero, suc, _+_, _*_, _-_, _/_, _≤_, _<_}
-use mathlib.Core.Path.{_≡_, refl, subst}
+use Prim.Native.Nat.{ℕ, zero, suc, _+_, _*_, _-_, _≤_, _<_}
+use mathlib.Core.Path.{_≡_, refl, sym, subst}
 use mathlib.Core.Logic.{_≢_}
 use mathlib.Core.Bool.{Bool, true, false, cond}
-use native.Mathlib.Nat.{div-mul-le-self, lt-div-mul-add, div-lt-iff-lt-mul, le-antisymm}
+use native.Mathlib.Nat.{le-antisymm}
 use native.Mathlib.Decide.{decLt, ℕ-discrete}
 use native.Mathlib.Omega.{arith}
 use lib.Dec.{eqb}
 use borrow.Author.Tests.{eqb-true, eqb-false}
 use Rattle.model.specs.declared.Span.{Span}
-use Rattle.model.specs.Field.{offsetByte}
+use Rattle.model.specs.Field.{offsetSteps, greatestOffsetByte, offsetByte}
 use Rattle.model.specs.Reference.{Offset, absent, byte}
 use Rattle.model.specs.Choice.{offsetOf}
 use Rattle.model.specs.Span.{Gives, SpanRead, unflagged, flagged, NoOffset, no-offset}
-use Rattle.model.specs.Demand3.{Within}
-use Rattle.model.proofs.Every.{Byte}
+use Rattle.model.specs.Demand3.{Close, Within}
+use Rattle.model.proofs.Nearest.{past, not-past}
 
 -- The least and the greatest number with a property that can be tested.
 abbrev Least : (ℕ → Type 0) → Type 0
@@ -52,19 +52,43 @@ gives? leg b o = go (decLt 0 o) (decLt o leg) (ℕ-discrete (offsetByte leg o) b
     go (yes a) (no i) s = no λ g. i (g .inside)
     go (no a) i s = no λ g. a (g .above)
 
--- Two offsets of one byte are less than a 256th of the leg apart.
-close : {leg b lo hi : ℕ} → Gives leg b lo → Gives leg b hi → 256 * (hi - lo) < leg
-unfolding offsetByte
-close {leg} {b} {lo} {hi} low high =
-    let leg-pos : 0 < leg = omega arith in
-    omega (arith, div-mul-le-self (256 * lo) leg, lt-div-mul-add {a = 256 * hi} leg-pos, same)
-  where
-    same : 256 * lo / leg * leg ≡ 256 * hi / leg * leg
-    same = rw (low .same, high .same)
+-- Two offsets of one byte differ by less than three 512ths of the leg: 255 also stands for 256. Those of a lesser byte differ by less than two.
+module _ {leg b lo hi : ℕ} (low : Gives leg b lo) (high : Gives leg b hi) where
+  long : 0 < leg
+  long = omega (arith, low .inside)
 
-pub offset-byte : (leg offset : ℕ) → offset < leg → Byte (offsetByte leg offset)
-unfolding offsetByte
-offset-byte leg offset inside = let long : 0 < leg = omega arith in div-lt-iff-lt-mul long .1 (omega arith)
+  -- The greater one is before the half past `b`, and the lesser one is not before the half past the byte below.
+  pub high-end : b < greatestOffsetByte → 512 * hi < (2 * b + 1) * leg
+  high-end small = go (decLt (512 * hi) ((2 * b + 1) * leg))
+    where
+      go : Dec (512 * hi < (2 * b + 1) * leg) → 512 * hi < (2 * b + 1) * leg
+      go (yes h) = h
+      go (no h) = absurd (omega (arith, past leg hi long b small (omega (arith, h)), high .same))
+
+  pub low-end : (a : ℕ) → a < b → (2 * a + 1) * leg ≤ 512 * lo
+  low-end a less = go (decLt (512 * lo) ((2 * a + 1) * leg))
+    where
+      go : Dec (512 * lo < (2 * a + 1) * leg) → (2 * a + 1) * leg ≤ 512 * lo
+      go (yes h) = absurd (omega (arith, not-past leg lo long a h, low .same, less))
+      go (no h) = omega (arith, h)
+
+  pub closer : b < greatestOffsetByte → offsetSteps * (hi - lo) < leg
+  closer small = go b refl
+    where
+      go : (n : ℕ) → n ≡ b → offsetSteps * (hi - lo) < leg
+      go zero e = omega (arith, rw (sym e) at (high-end small))
+      go (suc a) e = omega (arith, rw (sym e) at (high-end small), low-end a (omega (arith, e)))
+
+  close : 512 * (hi - lo) < 3 * leg
+  close = go (decLt b greatestOffsetByte)
+    where
+      go : Dec (b < greatestOffsetByte) → 512 * (hi - lo) < 3 * leg
+      go (yes small) = omega (arith, closer small)
+      go (no h) = omega (arith, low-end 254 (omega (arith, h)), high .inside)
+
+pub ends-close : {leg : ℕ} {o : Offset} {s : Span} → 0 < leg → SpanRead leg o s → Close (s .least) (s .greatest) leg
+ends-close some unflagged = record { up = omega (arith, some); down = omega (arith, some) }
+ends-close some (flagged low high all) = record { up = close low high; down = close high low }
 
 -- What the reference says of the offset that was written.
 pub data Stated (leg : ℕ) : ℕ → Offset → Type 0 where
@@ -89,8 +113,9 @@ span {leg} {offset} (given {b = b} g) =
 
 -- Every span holds the offset.
 pub within : {leg offset : ℕ} {o : Offset} {s : Span} → offset < leg → Stated leg offset o → SpanRead leg o s → Within offset s leg
-within inside without unflagged = record { from = omega arith; to = omega arith; close = omega arith }
-within {offset = offset} inside (given g) (flagged low high all) = record { from = all offset g .0; to = all offset g .1; close = close low high }
+within inside without unflagged = record { from = omega arith; to = omega arith; ends = ends-close (omega (arith, inside)) unflagged }
+within {offset = offset} inside (given g) (flagged low high all) =
+    record { from = all offset g .0; to = all offset g .1; ends = ends-close (omega (arith, inside)) (flagged low high all) }
 
 -- There is one span only, or none.
 pub span-same : {leg : ℕ} {o : Offset} {s s′ : Span} → SpanRead leg o s → SpanRead leg o s′ → s ≡ s′

@@ -23,11 +23,16 @@ pub record Fits (m : Map) (bytes : List ℕ) (lss : List (List ℕ)) : Type 0 wh
   pub locates : locate m reference ≡ located legs
   pub readings : Readings m legs lss
 
--- What is left of an offset lies in a span whose ends are less than a 256th of the leg apart.
+-- Two offsets "differ by less than three 512ths of the leg" (W6), whichever is the greater.
+pub record Close (a b leg : ℕ) : Type 0 where
+  pub up : 512 * (b - a) < 3 * leg
+  pub down : 512 * (a - b) < 3 * leg
+
+-- What is left of an offset lies in a span whose ends are close.
 pub record Within (offset : ℕ) (s : Span) (leg : ℕ) : Type 0 where
   pub from : s .least ≤ offset
   pub to : offset ≤ s .greatest
-  pub close : 256 * (s .greatest - s .least) < leg
+  pub ends : Close (s .least) (s .greatest) leg
 
 -- The reader accepts and hands back these lines and spans, and nothing else, with every "full work area" ("one that refusal 1 lets pass") and
 -- every "long enough buffer" ("at least as many numbers as the stretch has lines left").
@@ -54,22 +59,25 @@ pub record ReadBack (mb : List ℕ) (s : Stretch) (bytes : List ℕ) : Type 0 wh
   pub only : (others : List (List ℕ)) → Fits map bytes others → others ≡ legs
   pub unbanned : bannedPair map (remaining map s .lines) ≡ false
 
--- Two offsets no further apart than a span's ends.
-pub record Apart (a b : ℕ) (s : Span) : Type 0 where
+-- Two offsets no further apart than a span's ends, and close.
+pub record Apart (a b : ℕ) (s : Span) (leg : ℕ) : Type 0 where
   pub up : b ≤ a + (s .greatest - s .least)
   pub down : a ≤ b + (s .greatest - s .least)
+  pub close : Close a b leg
 
--- What two stretches with the same bytes have in common: the lines left, and what is left of the offsets up to the span "that reading
--- their bytes gives".
+-- What two stretches with the same bytes have in common: the lines left, the legs that they are cut into, and what is left of the offsets up to the span
+-- "that reading their bytes gives", each on its own leg.
 pub record Alike (mb bytes : List ℕ) (s t : Stretch) : Type 0 where
   pub map : Map
   pub decodes : decode mb ≡ whole map
   pub lines : remaining map s .lines ≡ remaining map t .lines
+  pub legs : List (List ℕ)
+  pub chosen : Chosen (good map) (remaining map s .lines) legs
   pub pos : Span
   pub neg : Span
   pub reads : ReadAs mb bytes (remaining map s .lines) pos neg
-  pub near-pos : Apart (remaining map s .pos) (remaining map t .pos) pos
-  pub near-neg : Apart (remaining map s .neg) (remaining map t .neg) neg
+  pub near-pos : Apart (remaining map s .pos) (remaining map t .pos) pos (total map (firstLeg legs))
+  pub near-neg : Apart (remaining map s .neg) (remaining map t .neg) neg (total map (lastLeg legs))
 
 -- Demand 3, "a single claim": about a writing that was accepted and reading what it wrote; and about two writings that gave the same bytes.
 pub record Demand3 : Type 0 where

@@ -1,5 +1,5 @@
 -- The values of a reference's fields (paper 01, "The bytes"; document 000, section 7).
-use Prim.Native.Nat.{ℕ, _+_, _*_, _-_, _/_, _%_}
+use Prim.Native.Nat.{ℕ, _+_, _*_, _-_, _/_, _%_, min}
 use mathlib.Core.Bool.{cond}
 use lib.Dec.{leb}
 
@@ -18,6 +18,16 @@ distanceStep = 586
 unfoldable pub distance : ℕ → ℕ
 distance length = length / distanceStep
 
--- "Its byte is 256 × offset ÷ leg length, rounded down."
+-- "Round an offset byte to the nearest 256th, an exact half upwards" (W6): 256 × offset ÷ leg length plus a half, cut.
+abbrev pub offsetSteps : ℕ
+offsetSteps = 256
+
+unfoldable pub nearestStep : ℕ → ℕ → ℕ
+nearestStep leg offset = (2 * offsetSteps * offset + leg) / (2 * leg)
+
+-- "And to write 255 where that gives 256" (W6).
+abbrev pub greatestOffsetByte : ℕ
+greatestOffsetByte = 255
+
 unfoldable pub offsetByte : ℕ → ℕ → ℕ
-offsetByte leg offset = 256 * offset / leg
+offsetByte leg offset = min greatestOffsetByte (nearestStep leg offset)

@@ -42,14 +42,16 @@ pub record PointBack (mb : List ℕ) (p : GivenPoint) (bytes : List ℕ) : Type 
       (lines ≡ ownLeg p) × (orientation ≡ p .orientation) × (side ≡ p .side)
 
 -- What two points with the same bytes have in common: the line, the orientation and the side, and the offset up to the span that reading their bytes
--- gives.
+-- gives, and close on that line.
 pub record PointsAlike (mb bytes : List ℕ) (p q : GivenPoint) : Type 0 where
+  pub map : Map
+  pub decodes : decode mb ≡ whole map
   pub line : p .line ≡ q .line
   pub orientation : p .orientation ≡ q .orientation
   pub side : p .side ≡ q .side
   pub span : Span
   pub reads : PointReadAs mb bytes p span
-  pub near : Apart (p .offset) (q .offset) span
+  pub near : Apart (p .offset) (q .offset) span (lineAt map (p .line) .length)
 
 -- A single claim, as demand 3 is: about a writing that was accepted and reading what it wrote; and about two writings that gave the same bytes.
 pub record PointTrip : Type 0 where

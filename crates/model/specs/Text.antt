@@ -56,7 +56,7 @@ unfoldable pub each : List ℕ → List ℕ → List ℕ
 each word [] = []
 each word (x ∷ xs) = numbered word x ++ each word xs
 
--- "First the count and the offset spans": lines 2 pos 500 503 neg 0 0.
+-- "First the count and the offset spans": lines 2 pos 499 501 neg 0 0.
 unfoldable pub acceptance : ℕ → Span → Span → List ℕ
 acceptance count pos neg =
     numbered linesWord count

@@ -23,6 +23,11 @@ pub const GREATEST_LEG_LENGTH: u32 = 150_000;
 // Decimetres to a step of byte D: 58.6 m (specs/Field.antt).
 pub const DISTANCE_STEP: u32 = 586;
 
+// An offset byte counts 256ths of a leg, and the greatest byte (specs/Field.antt).
+pub const OFFSET_STEPS: u64 = 256;
+
+pub const GREATEST_OFFSET_BYTE: u32 = 255;
+
 // The most lines of a stretch (specs/Stretch.antt).
 pub const GREATEST_STRETCH: usize = 64;
 

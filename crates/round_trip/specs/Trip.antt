@@ -41,7 +41,7 @@ pub record BothWritten (mb : List ℕ) (s t : Stretch) (w w′ b b′ o o′ : L
   pub second : WriteCall mb t between o (Writer.Written size) w′ o′
 
 -- Where both are accepted with the same bytes, the lines left are the same and what is left of the offsets is no further apart than the ends of the
--- span that reading the bytes gives: demand 3, for both stretches. Otherwise nothing is read.
+-- span that reading the bytes gives, which is less than three 512ths of the leg: demand 3, for both stretches. Otherwise nothing is read.
 abbrev pub PairTells : List ℕ → Stretch → Stretch → List ℕ → List ℕ → List ℕ → List ℕ → List ℕ → List ℕ → List ℕ → List ℕ → List ℕ → List ℕ → Pair → Type 0
 PairTells mb s t w w′ b b′ o o′ v v′ l l′ (FirstRefused why) = WriteCall mb s w b (Writer.Refused why) w′ b′ × (o′ ≡ o) × (v′ ≡ v) × (l′ ≡ l)
 PairTells mb s t w w′ b b′ o o′ v v′ l l′ (SecondRefused why) =

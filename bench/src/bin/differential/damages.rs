@@ -228,8 +228,9 @@ fn change_field(rng: &mut Xorshift, bytes: &mut [u8]) {
     }
 }
 
-/// Other flags, with as many offset bytes, at the edges or anything.
-fn change_offsets(rng: &mut Xorshift, bytes: &mut Vec<u8>) {
+/// Other flags, with as many offset bytes, at the edges or anything. Two bytes are often 256 or 257 together:
+/// with 257 the least offsets may just be the total.
+pub fn change_offsets(rng: &mut Xorshift, bytes: &mut Vec<u8>) {
     let r = place_of_p(legs(bytes)) + 1;
     let flags = *rng.pick(&[POSITIVE_FLAG, NEGATIVE_FLAG, POSITIVE_FLAG | NEGATIVE_FLAG]);
     bytes.truncate(r + 1);
@@ -237,6 +238,9 @@ fn change_offsets(rng: &mut Xorshift, bytes: &mut Vec<u8>) {
     for _ in 0..flags.count_ones() {
         let offsets = [0, 1, 2, 127, 128, 254, 255, rng.below(256)];
         bytes.push(*rng.pick(&offsets) as u8);
+    }
+    if let ([positive, negative], 0) = (&mut bytes[r + 1..], rng.below(2)) {
+        *negative = (rng.below(2) as u8).wrapping_sub(*positive);
     }
 }
 

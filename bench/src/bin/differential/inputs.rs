@@ -9,6 +9,8 @@ use plain::maps::{
 use plain::writer::{reference_bytes, Stretch, MOST_LINES};
 
 use crate::calls::line_bytes;
+use crate::damages::change_offsets;
+use crate::points::total_length;
 
 const MOST_LEGS: usize = 64;
 pub const MOST_BANS: usize = 512;
@@ -21,11 +23,20 @@ pub const WESTERNMOST: i32 = -18_000_000;
 /// which hold 32,768 westward alone, and half a circle.
 const WIDTHS: [i32; 7] = [2, 32_767, 32_768, 32_768, 32_769, 32_769, 18_000_000];
 
-/// At the edges of D, and the longest.
-const EDGE_LENGTHS: [u32; 9] = [1, 585, 586, 587, 1171, 1172, 75_000, 149_999, 150_000];
+/// At the edges of D, with and without offsets of byte 255 and of byte 0, and the longest.
+const EDGE_LENGTHS: [u32; 13] = [
+    1, 170, 171, 512, 513, 585, 586, 587, 1171, 1172, 75_000, 149_999, 150_000,
+];
+
+/// Where an offset byte ends and the next begins, in 512ths of the leg: the first two and the last two. From
+/// the last on the nearest is 256.
+const EDGE_PARTS: [u32; 4] = [1, 3, 509, 511];
 
 pub fn any_small_plan(rng: &mut Xorshift) -> MapPlan {
     let mut plan = small_map(rng.draw());
+    if rng.below(4) == 0 {
+        make_multiples_of_512(&mut plan);
+    }
     if rng.below(4) == 0 {
         for _ in 0..rng.within(1, 4) {
             let line = rng.below(plan.lines.len() as u32) as usize;
@@ -43,6 +54,13 @@ pub fn any_small_plan(rng: &mut Xorshift) -> MapPlan {
     }
     plan.bans = any_bans(rng, &plan);
     plan
+}
+
+/// On a leg of another length no offset is exactly at a half.
+fn make_multiples_of_512(plan: &mut MapPlan) {
+    for line in &mut plan.lines {
+        line.length = line.length.next_multiple_of(512);
+    }
 }
 
 /// A few directions for all lines, and for some lines steps beside them. So many lines have one sector
@@ -215,12 +233,14 @@ fn any_count(rng: &mut Xorshift) -> u32 {
     }
 }
 
-/// The positive and the negative offset: none, at and beside the ends of lines, at and beside the
-/// total, and beyond.
+/// The positive and the negative offset: none, at and beside the ends of lines and the edges of offset
+/// bytes, at and beside the total, and beyond.
 pub fn any_offsets(rng: &mut Xorshift, map: &DepotMap, lines: &[u32]) -> (u32, u32) {
-    let lengths: Vec<u32> = lines.iter().filter_map(|&line| length(map, line)).collect();
+    let mut lengths: Vec<u32> = lines.iter().filter_map(|&line| length(map, line)).collect();
     let total: u32 = lengths.iter().sum();
-    let (pos, neg) = (offset(rng, &lengths), offset(rng, &lengths));
+    let pos = offset(rng, &lengths);
+    lengths.reverse();
+    let neg = offset(rng, &lengths);
     match rng.below(32) {
         0 => (pos, total.wrapping_sub(pos)),
         1 => (pos, total.wrapping_sub(pos).wrapping_sub(1)),
@@ -238,17 +258,31 @@ fn length(map: &DepotMap, line: u32) -> Option<u32> {
     map.lines.get(line as usize).map(|line| line.length)
 }
 
+/// Of lines with these lengths, from the end of the stretch on that it is taken from.
 fn offset(rng: &mut Xorshift, lengths: &[u32]) -> u32 {
     let total = lengths.iter().sum();
     let skipped = rng.within(0, lengths.len().min(3) as u32) as usize;
     let end: u32 = lengths[..skipped].iter().sum();
-    match rng.below(6) {
+    let leg = lengths[skipped..].iter().take(rng.within(1, 3) as usize);
+    match rng.below(8) {
         0 => end,
         1 => end + 1,
         2 => end.saturating_sub(1),
         3 => rng.within(0, total),
+        4 | 5 => end + offset_at_edge(rng, leg.sum()),
         _ => rng.within(0, total / 8),
     }
+}
+
+/// The least offset with a byte, or the greatest with the one before it.
+pub fn offset_at_edge(rng: &mut Xorshift, leg_length: u32) -> u32 {
+    let parts = match rng.below(4) {
+        0 => *rng.pick(&EDGE_PARTS),
+        _ => 2 * rng.below(256) + 1,
+    };
+    let edge = (parts * leg_length).div_ceil(512);
+    edge.saturating_sub(rng.below(2))
+        .min(leg_length.saturating_sub(1))
 }
 
 /// Mostly a reference that may be read.
@@ -256,12 +290,17 @@ pub fn any_reference(rng: &mut Xorshift, map: &DepotMap) -> Vec<u8> {
     match rng.below(12) {
         0 => random_bytes(rng, &[0, 1, 15, 16, 17, 18, 19, 23, 459, 460, 466, 3000]),
         1 => [vec![STATUS_BYTE], random_bytes(rng, &[15, 16, 17, 22, 458])].concat(),
+        2..=4 => {
+            let mut bytes = composed_reference(rng, map);
+            change_offsets(rng, &mut bytes);
+            bytes
+        }
         _ => composed_reference(rng, map),
     }
 }
 
 /// The reference of a walk that is cut anywhere, and mostly where a turn is banned. Its legs need not
-/// be readings.
+/// be readings. The offsets are brought below the legs that they are on.
 fn composed_reference(rng: &mut Xorshift, map: &DepotMap) -> Vec<u8> {
     let count = any_count(rng);
     let turns = any_turns(rng, 3);
@@ -277,10 +316,11 @@ fn composed_reference(rng: &mut Xorshift, map: &DepotMap) -> Vec<u8> {
         .chain([lines.len()])
         .collect();
     let (positive, negative) = any_offsets(rng, map, &lines);
+    let (first_leg, last_leg) = (&lines[..places[1]], &lines[places[places.len() - 2]..]);
     let stretch = Stretch {
         lines: &lines,
-        positive,
-        negative,
+        positive: positive % total_length(map, first_leg),
+        negative: negative % total_length(map, last_leg),
     };
     reference_bytes(map, &stretch, &places)
 }

@@ -11,6 +11,7 @@ mod damages;
 mod inputs;
 mod memory;
 mod meridian;
+mod offset_counts;
 mod point_calls;
 mod point_counts;
 mod point_inputs;

@@ -7,7 +7,8 @@ use plain::point::{is_alone, point_bytes, Point};
 use plain::writer::Stretch;
 
 use crate::damages::damaged_reference;
-use crate::inputs::{any_offsets, any_turns, random_bytes, shortest_line, walk};
+use crate::inputs::{any_offsets, any_turns, offset_at_edge, random_bytes, shortest_line, walk};
+use crate::points::total_length;
 
 /// The greatest length of random bytes, and of a reference that is cut off or goes on.
 const LONGEST: u32 = 20;
@@ -51,7 +52,6 @@ fn any_number(rng: &mut Xorshift) -> u32 {
 
 /// None, at the ends of the line and beyond, at the edges of an offset byte, or anything.
 fn any_offset(rng: &mut Xorshift, length: u32) -> u32 {
-    let edge = (rng.below(257) * length).div_ceil(256);
     match rng.below(24) {
         0..=3 => 0,
         4 => 1,
@@ -59,8 +59,7 @@ fn any_offset(rng: &mut Xorshift, length: u32) -> u32 {
         7 => length,
         8 => length + 1,
         9 => u32::MAX - rng.below(3),
-        10..=12 => edge.min(length - 1),
-        13..=15 => edge.saturating_sub(1),
+        10..=15 => offset_at_edge(rng, length),
         _ => rng.below(length),
     }
 }
@@ -86,6 +85,7 @@ fn composed_point(rng: &mut Xorshift, map: &DepotMap) -> Vec<u8> {
     let turns = any_turns(rng, 6);
     let lines = walk(rng, map, count, turns);
     let (positive, _) = any_offsets(rng, map, &lines);
+    let positive = positive % total_length(map, &lines);
     point_along(rng, map, &lines, positive)
 }
 

@@ -8,6 +8,7 @@ use plain::point::{write_point, Point};
 use crate::counts::{count, print_answers, Answers};
 use crate::inputs::{any_reference, random_bytes, room_at_the_edge};
 use crate::meridian::Meridian;
+use crate::offset_counts::PointOffsets;
 use crate::point_calls::{ReadPointCall, WritePointCall};
 use crate::point_counts::PointCounts;
 use crate::point_inputs::{any_point, any_point_reference, damaged_point, point_along_chain};
@@ -22,6 +23,7 @@ pub struct PointRun {
     pub calls: u64,
     writes: Answers,
     reads: Answers,
+    offsets: PointOffsets,
     meridian: Meridian,
     steps: StepCounts,
     counts: PointCounts,
@@ -129,6 +131,7 @@ impl PointRun {
     ) -> Result<Outcome<PointReading>, String> {
         let outcome = self.read(call)?;
         self.counts.count_read(call.reference, &outcome);
+        self.offsets.count_read(call.reference, &outcome);
         self.meridian
             .count_read(&sample.map, call.reference, &outcome);
         if let Ok(reading) = &outcome {
@@ -159,6 +162,8 @@ impl PointRun {
         match &outcome {
             Ok(reference) => {
                 self.meridian.count_written(&sample.map, reference);
+                self.offsets
+                    .count_written(&sample.map, call.point, reference);
                 self.read_back(sample, call, reference)?;
             }
             Err(Refusal::NoUsablePoints) => {
@@ -214,6 +219,7 @@ impl PointRun {
             "points: {} calls, most lines read {}",
             self.calls, self.counts.most_lines
         );
+        self.offsets.report()?;
         self.meridian.report("points")?;
         self.steps.report("points")?;
         self.counts.report()?;

@@ -1,7 +1,13 @@
-//! The points of a reference: where they stand in its bytes, and on the map.
+//! The points of a reference: where they stand in its bytes, and on the map; and its offset bytes, with
+//! the legs that they are on.
 
 use plain::depot_map::{DepotMap, Node};
-use plain::fields::{place_of_p, MIDDLE_POINT_BYTES, SHORTEST_REFERENCE};
+use plain::fields::{
+    place_of_p, MIDDLE_POINT_BYTES, NEGATIVE_FLAG, POSITIVE_FLAG, SHORTEST_REFERENCE,
+};
+
+/// Of the positive and of the negative offset.
+const FLAGS: [u8; 2] = [POSITIVE_FLAG, NEGATIVE_FLAG];
 
 pub fn legs(reference: &[u8]) -> usize {
     (reference.len() - SHORTEST_REFERENCE) / MIDDLE_POINT_BYTES + 1
@@ -48,4 +54,45 @@ fn differences(reference: &[u8], point: usize) -> [i32; 2] {
         let bytes = [reference[at], reference[at + 1]];
         i32::from(i16::from_be_bytes(bytes))
     })
+}
+
+/// The positive and the negative offset byte of a reference with as many as it has flags.
+pub fn offset_bytes(reference: &[u8]) -> [Option<u8>; 2] {
+    let r = place_of_p(legs(reference)) + 1;
+    let mut bytes = reference[r + 1..].iter().copied();
+    FLAGS.map(|flag| match reference[r] & flag {
+        0 => None,
+        _ => bytes.next(),
+    })
+}
+
+/// The reference with each of its offsets alone.
+pub fn with_one_offset(reference: &[u8]) -> [Option<Vec<u8>>; 2] {
+    let r = place_of_p(legs(reference)) + 1;
+    let offset_bytes = offset_bytes(reference);
+    [0, 1].map(|offset| {
+        let byte = offset_bytes[offset]?;
+        let mut bytes = [&reference[..=r], &[byte]].concat();
+        bytes[r] = bytes[r] & !(POSITIVE_FLAG | NEGATIVE_FLAG) | FLAGS[offset];
+        Some(bytes)
+    })
+}
+
+/// The lengths of the first and of the last leg of a reference that stands for these lines. A leg before
+/// the last ends where it first comes to its end: with more lines it would not be least.
+pub fn end_legs(map: &DepotMap, reference: &[u8], lines: &[u32]) -> [u32; 2] {
+    let mut first = None;
+    let mut rest = lines;
+    for hop in &hops(map, reference)[1..] {
+        let is_last_line = |&line: &u32| map.node(map.line(line).end) == hop.from;
+        let last_line = rest.iter().position(is_last_line);
+        let (leg, behind) = rest.split_at(1 + last_line.expect("a leg ends at its point"));
+        first = first.or(Some(leg));
+        rest = behind;
+    }
+    [first.unwrap_or(rest), rest].map(|leg| total_length(map, leg))
+}
+
+pub fn total_length(map: &DepotMap, lines: &[u32]) -> u32 {
+    lines.iter().map(|&line| map.line(line).length).sum()
 }

@@ -13,6 +13,7 @@ use crate::inputs::{
     random_bytes, reference_along_chain, room_at_the_edge,
 };
 use crate::meridian::Meridian;
+use crate::offset_counts::StretchOffsets;
 use crate::point_inputs::any_point_reference;
 use crate::point_run::PointRun;
 use crate::step_counts::{self, StepCounts};
@@ -37,6 +38,7 @@ pub struct Run {
     most_lines: usize,
     /// Calls with refusal 21 in which all banned turns are in lines skipped whole.
     banned_where_skipped: u64,
+    offsets: StretchOffsets,
     meridian: Meridian,
     steps: StepCounts,
     points: PointRun,
@@ -241,6 +243,8 @@ impl Run {
 
     fn read_on(&mut self, sample: &Sample, call: ReadCall) -> Result<Outcome<Reading>, String> {
         let outcome = self.read(call)?;
+        self.offsets
+            .count_read(&sample.map, call.reference, &outcome);
         self.meridian
             .count_read(&sample.map, call.reference, &outcome);
         if let Ok(reading) = &outcome {
@@ -276,6 +280,7 @@ impl Run {
             Ok(reference) => {
                 self.meridian.count_written(map, reference);
                 let left = given.without_skipped_lines(map);
+                self.offsets.count_written(map, &left, reference);
                 self.read_back(sample, call, reference, &left)?;
             }
             Err(Refusal::NoUsablePoints) => {
@@ -338,6 +343,7 @@ impl Run {
         if skipped == 0 {
             return Err("no banned turn was in lines skipped whole alone".to_string());
         }
+        self.offsets.report()?;
         self.meridian.report("stretches")?;
         self.steps.report("stretches")?;
         print_answers("write", &self.writes, &OF_WRITER)?;

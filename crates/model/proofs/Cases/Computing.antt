@@ -1,6 +1,6 @@
 -- One name for all definitions that compute: to unfold it is to unfold what its line names.
 use Rattle.model.specs.Number.{groups, number, groupBytes, numberBytes}
-use Rattle.model.specs.Field.{codeSize, code, distance, offsetByte}
+use Rattle.model.specs.Field.{codeSize, code, distance, nearestStep, offsetByte}
 use Rattle.model.specs.Sector.{direction, turned, turnedBy, inFirst, quadrant, within, squared, half, octant, sectorOf, sector}
 use Rattle.model.specs.Map.{field, lonCode, latCode, sameCodes, among, clash, fitting, allFitting, ended, readBan, decodeBans, readSteps, readLine, decodeLines, readNode, decodeNodes, decode}
 use Rattle.model.specs.Difference.{difference, moved, brought, lonDifference, lonSum, signed, differences, standsAt}
@@ -19,7 +19,7 @@ use Rattle.model.specs.PointAlong.{pointAlongBytes, pointAlongAt, parseP
 
 unfoldable pub computing : Unit {0}
 unfolding
-    groups number groupBytes numberBytes codeSize code distance offsetByte direction turned turnedBy inFirst quadrant within squared half octant sectorOf sector field lonCode latCode sameCodes among clash fitting allFitting ended readBan decodeBans readSteps readLine
+    groups number groupBytes numberBytes codeSize code distance nearestStep offsetByte direction turned turnedBy inFirst quadrant within squared half octant sectorOf sector field lonCode latCode sameCodes among clash fitting allFitting ended readBan decodeBans readSteps readLine
     decodeLines readNode decodeNodes decode difference moved brought lonDifference lonSum signed differences standsAt lineAt nodeAt turnAmong banned total lowest firstOf lastOf leaving arriving
     unknown somePair apart skip remaining checkStretch bytes2 bytes3 byteP byteQ flag byteR pointBytes offsetBytes bytesOf at2 at3 attributes pointAt
     pointsAt positive negative offsetAt pointCount referenceAt spareBits flags parse joined bannedMeeting fromNode toNode arrivalOf legOf firstLeg lastLeg

@@ -1,11 +1,12 @@
--- The cases marked [M] in paper 01, "At the edges", and in paper 02, W3, as one theorem; and the two numbers of "The depot map".
-use Prim.Native.Nat.{ℕ, _≤_}
+-- The cases marked [M] in paper 01, "At the edges", as paper 02 has changed them (W3, W6), as one theorem; and the two numbers of "The depot map".
+use Prim.Native.Nat.{ℕ, _+_, _*_, _-_, _/_, _≤_}
 use mathlib.Core.Path.{_≡_, refl}
+use mathlib.Core.Logic.{_≢_}
 use mathlib.Core.List.{List, [], _∷_}
 use native.Mathlib.Omega.{arith}
 use Rattle.model.specs.declared.Span.{Span}
 use Rattle.model.specs.Number.{number, got, faulty}
-use Rattle.model.specs.Field.{code, distance}
+use Rattle.model.specs.Field.{code, distance, offsetByte}
 use Rattle.model.specs.Sector.{sector}
 use Rattle.model.specs.Map.{Map, MapAnswer, decode}
 use Rattle.model.specs.Lines.{total}
@@ -14,11 +15,15 @@ use Rattle.model.specs.Choice.{firstLeg, lastLeg}
 use Rattle.model.specs.Refusal.{row}
 use Rattle.model.specs.Span.{Gives, SpanRead, flagged, NoOffset, no-offset}
 use Rattle.model.specs.Outcome.{SpansRead, ReadOutcome, ReadEnd}
+use Rattle.model.proofs.OffsetSpans.{greatest-offset, byte-255-span, byte-255-nowhere}
 use Rattle.model.proofs.Cases.Computing.{computing}
 
 -- The code of a longitude, given as the map stores it.
 abbrev pub lon : ℕ → ℕ
 lon c = code 18_000_000 c
+
+abbrev pub span : ℕ → ℕ → Span
+span least greatest = record { least = least; greatest = greatest }
 
 -- Once every leg is read the reader gives this refusal, and nothing else, whatever the line buffer.
 pub record Ends (m : Map) (r : Reference) (lss : List (List ℕ)) (n : ℕ) : Type 0 where
@@ -31,10 +36,19 @@ pub record Edges : Type 0 where
   pub distances : distance 585 ∷ distance 586 ∷ distance 150_000 ∷ [] ≡ 0 ∷ 1 ∷ 255 ∷ []
   -- "(0, 5) gives 0, (5, 5) gives 4, (-5, 0) gives 24" (paper 02, W3, in place of those on bearings).
   pub sectors : sector 250 255 ∷ sector 255 255 ∷ sector 245 250 ∷ [] ≡ 0 ∷ 4 ∷ 24 ∷ []
-  pub byte-80-on-1000 : SpanRead 1_000 (byte 0x80) (record { least = 500; greatest = 503 })
+  -- "On a leg of 512, offset 1 is exactly a half and gives 1"; "byte 80 on a leg of 1000 then means 499 to 501" (W6).
+  pub offset-1-on-512 : offsetByte 512 1 ≡ 1
+  pub byte-80-on-1000 : SpanRead 1_000 (byte 0x80) (span 499 501)
   pub byte-1-on-100 : (m : Map) (r : Reference) (lss : List (List ℕ)) → total m (firstLeg lss) ≡ 100 → r .pos ≡ byte 1 → Ends m r lss 19
   pub negative-byte-1-on-100 : (m : Map) (r : Reference) (lss : List (List ℕ)) → total m (lastLeg lss) ≡ 100 → r .neg ≡ byte 1 →
       Ends m r lss 19
+  -- The greatest offset of a leg gives 255 and is in its span, from a leg of 171 on; up to 170 nothing gives 255 (W6).
+  pub greatest-offset : (leg : ℕ) → 171 ≤ leg → (offsetByte leg (leg - 1) ≡ 255) × SpanRead leg (byte 0xFF) (span ((509 * leg + 511) / 512) (leg - 1))
+  pub no-255 : (leg : ℕ) → leg ≤ 170 → NoOffset leg (byte 0xFF)
+  -- Legs of 1, 2 and 3, with no other byte (W6).
+  pub leg-of-1 : (b : ℕ) → NoOffset 1 (byte b)
+  pub leg-of-2 : SpanRead 2 (byte 0x80) (span 1 1) × ((b : ℕ) → b ≢ 0x80 → NoOffset 2 (byte b))
+  pub leg-of-3 : SpanRead 3 (byte 0x55) (span 1 1) × SpanRead 3 (byte 0xAB) (span 2 2) × ((b : ℕ) → b ≢ 0x55 → b ≢ 0xAB → NoOffset 3 (byte b))
   pub longitudes-0-and-1 : decode
       (2 ∷ 0x80 ∷ 0xD1 ∷ 0xCA ∷ 0x08 ∷ 0xC0 ∷ 0xA8 ∷ 0xA5 ∷ 0x04 ∷ 0x81 ∷ 0xD1 ∷ 0xCA ∷ 0x08 ∷ 0xC0 ∷ 0xA8 ∷ 0xA5 ∷ 0x04 ∷ 1 ∷ 0 ∷ 1
       ∷ 0xE8 ∷ 0x07 ∷ 3 ∷ 3 ∷ 0xC2 ∷ 0x03 ∷ 0xFA ∷ 0x01 ∷ 50 ∷ 0xFA ∷ 0x01 ∷ 0 ∷ []) ≡
@@ -42,7 +56,7 @@ pub record Edges : Type 0 where
   pub number-300 : number (0xAC ∷ 0x02 ∷ []) ≡ got 300 []
   pub not-shortest : number (0x80 ∷ 0x00 ∷ []) ≡ faulty
 
--- No whole offset from 1 to 99 gives byte 1 on a leg of 100: 1 gives 2.
+-- No whole offset from 1 to 99 gives byte 1 on a leg of 100: 1 gives 3.
 no-byte-1 : NoOffset 100 (byte 1)
 unfolding computing
 no-byte-1 = no-offset {b = 1} λ o (g : Gives 100 1 o). omega arith
@@ -68,9 +82,22 @@ pub spanned : (leg b lo hi : ℕ) → Gives leg b lo → Gives leg b hi → ((o 
     SpanRead leg (byte b) (record { least = lo; greatest = hi })
 spanned leg b lo hi low high all = flagged low high all
 
-pub byte-80 : SpanRead 1_000 (byte 0x80) (record { least = 500; greatest = 503 })
+pub byte-80 : SpanRead 1_000 (byte 0x80) (span 499 501)
 unfolding computing
-byte-80 = spanned 1_000 0x80 500 503 (omega arith) (omega arith) (λ o g. omega arith)
+byte-80 = spanned 1_000 0x80 499 501 (omega arith) (omega arith) (λ o g. omega arith)
+
+-- The only offset of a leg of 2, and the two of a leg of 3.
+pub half-of-2 : SpanRead 2 (byte 0x80) (span 1 1)
+unfolding computing
+half-of-2 = spanned 2 0x80 1 1 (omega arith) (omega arith) (λ o g. omega arith)
+
+pub third-of-3 : SpanRead 3 (byte 0x55) (span 1 1)
+unfolding computing
+third-of-3 = spanned 3 0x55 1 1 (omega arith) (omega arith) (λ o g. omega arith)
+
+two-thirds-of-3 : SpanRead 3 (byte 0xAB) (span 2 2)
+unfolding computing
+two-thirds-of-3 = spanned 3 0xAB 2 2 (omega arith) (omega arith) (λ o g. omega arith)
 
 pub edges : Edges
 unfolding computing
@@ -79,11 +106,17 @@ edges =
       codes = refl;
       distances = refl;
       sectors = refl;
+      offset-1-on-512 = refl;
       byte-80-on-1000 = byte-80;
       byte-1-on-100 = λ m r lss leg e.
           no-spans (λ room. ReadEnd.no-pos (rw (leg, e) no-byte-1)) (λ pos neg s. spanless (rw (leg, e) at (s .pos-read)));
       negative-byte-1-on-100 = λ m r lss leg e.
           no-spans (λ room. ReadEnd.no-neg (rw (leg, e) no-byte-1)) (λ pos neg s. spanless (rw (leg, e) at (s .neg-read)));
+      greatest-offset = λ leg h. (greatest-offset leg (omega (arith, h)), byte-255-span leg (omega (arith, h)));
+      no-255 = byte-255-nowhere;
+      leg-of-1 = λ b. no-offset {b = b} λ o (g : Gives 1 b o). omega (arith, g .above, g .inside);
+      leg-of-2 = (half-of-2, λ b other. no-offset {b = b} λ o (g : Gives 2 b o). omega arith);
+      leg-of-3 = (third-of-3, two-thirds-of-3, λ b other another. no-offset {b = b} λ o (g : Gives 3 b o). omega arith);
       longitudes-0-and-1 = refl;
       number-300 = refl;
       not-shortest = refl;

@@ -6,7 +6,7 @@ use mathlib.Core.List.{List, [], _∷_, map}
 use native.Mathlib.Omega.{arith}
 use lib.ListN.{replicate}
 use Rattle.model.specs.Refusal.{row}
-use Rattle.model.specs.Field.{code, offsetByte}
+use Rattle.model.specs.Field.{code, nearestStep, offsetByte}
 use Rattle.model.specs.Map.{Node, Map, lonCode, latCode}
 use Rattle.model.specs.Difference.{Near, DifferencesFit, difference, moved, brought, lonDifference, lonSum, signed, differences, standsAt}
 use Rattle.model.specs.Lines.{total, lowest, leaving, arriving}
@@ -51,9 +51,13 @@ pub record FieldCases : Type 0 where
   pub codes : lon 17_999_998 ∷ lon 17_999_997 ∷ lon 17_900_000 ∷ lon 0 ∷ [] ≡ 0xFF_FF_FF ∷ 0xFF_FF_FF ∷ 0xFF_49_F5 ∷ 0x80_00_00 ∷ []
   pub latitudes : code 9_000_000 18_000_000 ∷ code 9_000_000 0 ∷ [] ≡ 0x40_00_00 ∷ 0xC0_00_00 ∷ []
   pub node-codes : lonCode (node 100_000 2) ∷ latCode (node 2 100_000) ∷ [] ≡ 46_603 ∷ 46_603 ∷ []
-  pub offset-bytes : map (offsetByte 1_000) (3 ∷ 4 ∷ 500 ∷ 999 ∷ []) ≡ 0 ∷ 1 ∷ 128 ∷ 255 ∷ []
-  -- On a leg of 257 an offset of 1 is just below 1 of 256 parts.
-  pub offset-just-below : map (offsetByte 257) (1 ∷ 2 ∷ 256 ∷ []) ≡ 0 ∷ 1 ∷ 255 ∷ []
+  -- "To the nearest 256th", "255 where that gives 256" (W6): 999 of 1000 is nearest to 256 of them.
+  pub offset-bytes : map (offsetByte 1_000) (1 ∷ 2 ∷ 500 ∷ 997 ∷ 998 ∷ 999 ∷ []) ≡ 0 ∷ 1 ∷ 128 ∷ 255 ∷ 255 ∷ 255 ∷ []
+  pub nearest-steps : map (nearestStep 1_000) (1 ∷ 2 ∷ 500 ∷ 997 ∷ 998 ∷ 999 ∷ []) ≡ 0 ∷ 1 ∷ 128 ∷ 255 ∷ 255 ∷ 256 ∷ []
+  -- "An exact half upwards": on a leg of 512 every odd offset is one, the last of them between 255 and 256. On a leg of 513 offset 1 is just below a half, on 511
+  -- just above.
+  pub halves : map (nearestStep 512) (1 ∷ 2 ∷ 3 ∷ 509 ∷ 511 ∷ []) ≡ 1 ∷ 1 ∷ 2 ∷ 255 ∷ 256 ∷ []
+  pub near-halves : offsetByte 513 1 ∷ offsetByte 511 1 ∷ [] ≡ 0 ∷ 1 ∷ []
   -- Differences of 16 bits, signed: 1000 and -1000, and the ends -32,768 and 32,767.
   pub sixteen-bits : difference 0 1_000 ∷ difference 1_000 0 ∷ difference 32_768 0 ∷ difference 0 32_767 ∷ [] ≡ 0x03E8 ∷ 0xFC18 ∷ 0x8000 ∷ 0x7FFF ∷ []
   pub reached : moved 0 0x03E8 1_000 ∷ moved 1_000 0xFC18 0 ∷ moved 32_768 0x8000 0 ∷ moved 0 0x7FFF 32_767 ∷ [] ≡ replicate 4 true
@@ -122,7 +126,9 @@ field-cases =
       latitudes = refl;
       node-codes = refl;
       offset-bytes = refl;
-      offset-just-below = refl;
+      nearest-steps = refl;
+      halves = refl;
+      near-halves = refl;
       sixteen-bits = refl;
       reached = refl;
       not-reached = refl;

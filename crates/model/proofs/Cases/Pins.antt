@@ -151,7 +151,7 @@ host-writes =
     record { answered = record { outcome = written threeFrom500; asked = writes-from-500; answers = refl; buffer-after = refl } }
 
 pub host-reads : HostReadCall mapBytes threeFrom500 (replicate 8 7)
-    (record { refusal = 0; place = 0; lines = 2; posLeast = 500; posGreatest = 503; negLeast = 0; negGreatest = 0 }) (0 ∷ 0 ∷ 0 ∷ 0 ∷ 1 ∷ 0 ∷ 0 ∷ 0 ∷ [])
+    (record { refusal = 0; place = 0; lines = 2; posLeast = 499; posGreatest = 501; negLeast = 0; negGreatest = 0 }) (0 ∷ 0 ∷ 0 ∷ 0 ∷ 1 ∷ 0 ∷ 0 ∷ 0 ∷ [])
 unfolding computing
 host-reads =
     record { answered = record { outcome = read (0 ∷ 1 ∷ []) from-500 none; asked = reads-from-500; answers = refl; buffer-after = refl } }

@@ -13,7 +13,7 @@ use Rattle.model.specs.Field.{code, distance, offsetByte}
 use Rattle.model.specs.Reference.{absent, byte}
 use Rattle.model.specs.Reading.{Only}
 use Rattle.model.specs.Choice.{legOf, Good}
-use Rattle.model.specs.Span.{unflagged}
+use Rattle.model.specs.Span.{SpanRead, unflagged}
 use Rattle.model.specs.Outcome.{LegsRead, SpansRead, ReadEnd, ReadOn, written}
 use Rattle.model.specs.Work.{workLength}
 use Rattle.model.specs.Host.{hostPoint, hostPointLinesAfter}
@@ -74,9 +74,11 @@ Checks n ps = map (checkPoint ridge) ps ≡ map (λ p. PointCheck.refused (row n
 pub record PointCases : Type 0 where
   pub taken-apart : parsePoint bytes ≡ parsed fields
   pub put-together : pointAlongBytes fields ≡ bytes
-  -- The values of its text: latitude 49.60597, and longitude 6.12829, whose code by its own equation is one less than in the bytes; 92 m, and 28 m of them.
+  -- The values of its text: latitude 49.60597, and longitude 6.12829, whose code by its own equation is one less than in the bytes; 92 m, and 28 m of them. 256 ×
+  -- 280 ÷ 920 is 77.9: it cuts that to 77, and what is written now is 78 (W6). Byte 77 is 275 to 278 then, without the 280.
   pub codes : code 18_000_000 18_612_829 ∷ code 9_000_000 13_960_597 ∷ [] ≡ 0x045B9F ∷ 0x23467E ∷ []
-  pub values : distance 920 ∷ offsetByte 920 280 ∷ [] ≡ 1 ∷ 77 ∷ []
+  pub values : distance 920 ∷ offsetByte 920 280 ∷ [] ≡ 1 ∷ 78 ∷ []
+  pub its-span : SpanRead 920 (byte 77) (record { least = 275; greatest = 278 })
   -- Orientation and side in bits 7 and 6 of their own P, each number in its place. P's bits are never refused.
   pub marks : map (λ x. pointAlongBytes (marked x leftSide)) (0 ∷ 1 ∷ 2 ∷ 3 ∷ []) ≡
       markedBytes 0x12 0x92 ∷ markedBytes 0x52 0x92 ∷ markedBytes 0x92 0x92 ∷ markedBytes 0xD2 0x92 ∷ []
@@ -111,6 +113,7 @@ point-cases =
       put-together = refl;
       codes = refl;
       values = refl;
+      its-span = spanned 920 77 275 278 (omega arith) (omega arith) (λ o g. omega arith);
       marks = refl;
       sides = refl;
       lengths = refl;
@@ -132,13 +135,20 @@ abbrev pub hydrant : GivenPoint
 hydrant = pointGiven 2 120 noOrientation rightSide
 
 -- Longitude 1000 has code 466; D is 0, as 50 m are under 58.6; P is 3 × 8 + 3, the last one with 64 for the right side; R has the flag and sector 16; 256 ×
--- 120 ÷ 500 is 61.
+-- 120 ÷ 500 is 61.4.
 abbrev pub hydrantBytes : List ℕ
 hydrantBytes =
     0x2B ∷ 0 ∷ 0x01 ∷ 0xD2 ∷ 0 ∷ 0 ∷ 0 ∷ 0x1B ∷ 0x60 ∷ 0 ∷ 0 ∷ 0 ∷ 0x03 ∷ 0xE8 ∷ 0x5B ∷ 0x50 ∷ 0x3D ∷ []
 
+-- A decimetre further along, 256 × 121 ÷ 500 is 61.95: 62, and not 61 (W6).
+abbrev pub nextHydrant : GivenPoint
+nextHydrant = pointGiven 2 121 noOrientation rightSide
+
+abbrev pub nextBytes : List ℕ
+nextBytes = take 16 hydrantBytes ++ 0x3E ∷ []
+
 abbrev pub hydrantSpan : Span
-hydrantSpan = record { least = 120; greatest = 121 }
+hydrantSpan = record { least = 119; greatest = 120 }
 
 hydrant-only : Only ridge (legOf ridge true (2 ∷ [])) (2 ∷ [])
 unfolding computing finding
@@ -173,11 +183,15 @@ module _ (work room : ℕ) (full : workLength ≤ work) where
   unfolding computing
   hydrant-written fits = rw (le-ltb work workLength full) (PointWriteOn.accepted hydrant-good (omega arith))
 
+  pub next-written : 17 ≤ room → PointWrites mapBytes nextHydrant work room (written nextBytes)
+  unfolding computing
+  next-written fits = rw (le-ltb work workLength full) (PointWriteOn.accepted hydrant-good (omega arith))
+
   pub hydrant-read : 1 ≤ room → PointReads mapBytes hydrantBytes work room (read (2 ∷ []) hydrantSpan noOrientation rightSide)
   unfolding computing
   hydrant-read fits =
       let spans : SpansRead ridge (lineReference (alongOf ridge hydrant)) ((2 ∷ []) ∷ []) hydrantSpan none =
-      record { pos-read = spanned 500 0x3D 120 121 (omega arith) (omega arith) (λ o g. omega arith); neg-read = unflagged } in
+      record { pos-read = spanned 500 0x3D 119 120 (omega arith) (omega arith) (λ o g. omega arith); neg-read = unflagged } in
       on-point-reads mapBytes hydrantBytes {a = alongOf ridge hydrant} work room _ full (on-the-ridge .map) refl
       (PointReadOn.accepted
       (ReadOn.every-leg {legs = legOf ridge true (2 ∷ []) ∷ []} refl (LegsRead.only hydrant-only LegsRead.none) (ReadEnd.accepted spans (omega arith) (omega arith))))

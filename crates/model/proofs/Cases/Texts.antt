@@ -11,11 +11,11 @@ use Rattle.model.proofs.Cases.Computing.{computing}
 use Rattle.model.proofs.Cases.Ridge.{mapBytes, threeFrom500, twoPoints}
 use Rattle.model.proofs.Cases.RidgeCalls.{three-from-500, two-points}
 
--- lines 2 pos 500 503 neg 0 0, then a row with 0 and a row with 1.
+-- lines 2 pos 499 501 neg 0 0, then a row with 0 and a row with 1.
 abbrev linesAtTheRidge : List ℕ
 linesAtTheRidge =
     108 ∷ 105 ∷ 110 ∷ 101 ∷ 115 ∷ 32 ∷ 50
-    ∷ 32 ∷ 112 ∷ 111 ∷ 115 ∷ 32 ∷ 53 ∷ 48 ∷ 48 ∷ 32 ∷ 53 ∷ 48 ∷ 51
+    ∷ 32 ∷ 112 ∷ 111 ∷ 115 ∷ 32 ∷ 52 ∷ 57 ∷ 57 ∷ 32 ∷ 53 ∷ 48 ∷ 49
     ∷ 32 ∷ 110 ∷ 101 ∷ 103 ∷ 32 ∷ 48 ∷ 32 ∷ 48 ∷ 10
     ∷ 48 ∷ 10
     ∷ 49 ∷ 10

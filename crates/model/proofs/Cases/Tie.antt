@@ -76,7 +76,7 @@ abbrev pub none : Span
 none = record { least = 0; greatest = 0 }
 
 abbrev pub from-500 : Span
-from-500 = record { least = 500; greatest = 503 }
+from-500 = record { least = 499; greatest = 501 }
 
 pub legs-read : LegsRead ridge 0 threeLegs (every cuts)
 legs-read = LegsRead.only first-only (LegsRead.only last-only LegsRead.none)

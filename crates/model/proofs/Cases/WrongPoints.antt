@@ -17,7 +17,7 @@ use Rattle.model.proofs.PointReading.{point-reads-once}
 use Rattle.model.proofs.PointWriting.{point-writes-once}
 use Rattle.model.proofs.Cases.Ridge.{mapBytes}
 use Rattle.model.proofs.Cases.RidgeCalls.{write-answer}
-use Rattle.model.proofs.Cases.Points.{hydrant, hydrantBytes, hydrantSpan, topPoint, hydrant-written, hydrant-read, over-the-top-read}
+use Rattle.model.proofs.Cases.Points.{hydrant, hydrantBytes, nextHydrant, hydrantSpan, topPoint, hydrant-written, next-written, hydrant-read, over-the-top-read}
 use Rattle.model.specs.declared.PointReadAnswer.the-variants as Reader
 use Rattle.model.specs.declared.WriteAnswer.the-variants as Writer
 
@@ -63,6 +63,14 @@ module _ (work bytes : List ℕ) (full : workLength ≤ length work) (enough : 1
 
   pub no-other-offset : {a : WriteAnswer} → PointWriteCall mapBytes hydrant work bytes a work′ bytes′ → (getD bytes′ 16 0 ≡ 0x3D → ⊥) → ⊥
   no-other-offset c other = other (ap (λ (bs : List ℕ). getD bs 16 0) (left c))
+
+  -- One that rounds the byte of the next hydrant down (W6).
+  pub no-byte-rounded-down : {a : WriteAnswer} → PointWriteCall mapBytes nextHydrant work bytes a work′ bytes′ → getD bytes′ 16 0 ≡ 0x3D → ⊥
+  unfolding bytesAfter placed
+  no-byte-rounded-down c e =
+      let after = write-as (next-written (length work) (length bytes) full enough) c .1 in
+      let z : _≡_ {A = ℕ} 0x3D 0x3E = sym e ∙ ap (λ (bs : List ℕ). getD bs 16 0) after in
+      omega arith
 
 -- The reader, with a full work area and a line buffer that is not empty.
 module _ (work lines : List ℕ) (full : workLength ≤ length work) (some : 1 ≤ length lines) {work′ lines′ : List ℕ} where

@@ -94,7 +94,7 @@ module _ (work lines : List ℕ) (full : workLength ≤ length work) where
         let e = left (0 ∷ 1 ∷ []) none none outcome c in
         other (ap (λ (ls : List ℕ). getD ls 0 0) e, ap (λ (ls : List ℕ). getD ls 1 0) e)
 
-    -- With positive offset 500: one that gives another span than 500 to 503, or gives it for the negative offset.
+    -- With positive offset 500: one that gives another span than 499 to 501, or gives it for the negative offset.
     pub no-other-span : {n : ℕ} {pos neg : Span} {work′ lines′ : List ℕ} →
         ReadCall mapBytes threeFrom500 work lines (Reader.Read n pos neg) work′ lines′ → ((pos ≡ from-500) × (neg ≡ none) → ⊥) → ⊥
     no-other-span c other =

@@ -1,46 +1,28 @@
--- `first_offset` meets its contract, in the order of its tests: no such offset, offset 0 is left out, and the offset itself.
-use Rattle.fields.proofs.Offsets.{product-fits, lesser-byte, byte-reached}
+-- `first_offset` meets its contract: half way before the byte, and from 1 on for byte 0.
+use Rattle.fields.proofs.Offsets.{own-within, own-some, half-before}
 use native.Mathlib.Omega.{arith}
 use borrow.Author.Needs.{needs}
 use Rattle.fields.proofs.offset.first_offset.Statement.{statement}
 use Rattle.fields.proofs.offset.first_offset.Tie as tie
 
-mul-first : tie.Need-mul-first
-mul-first c = omega (arith, product-fits (c .args .byte) (c .args .leg) (c .pre) (omega arith))
-
-add-first : tie.Need-add-first
-add-first c = omega (arith, product-fits (c .args .byte) (c .args .leg) (c .pre) (omega arith))
-
 returns : tie.Need-returns
-returns c =
-    record {
-      within = search needs;
-      above = λ h. h;
-      before = λ o h k. lesser-byte _ _ _ (omega arith) (omega arith);
-      from = λ o h k. absurd (omega arith);
-    }
+returns c = search needs
 
-returns-2 : tie.Need-returns-2
-returns-2 c =
-    record {
-      within = search needs;
-      above = λ h. search needs;
-      before = λ o h k. absurd (omega arith);
-      from = λ o h k. byte-reached _ _ _ (omega arith) (omega arith);
-    }
+sub-result : tie.Need-sub-result
+sub-result c = omega (arith, c .before .pre .1, own-some (c .before .args .leg) (c .before .args .byte) (omega arith))
+
+sub-result-2 : tie.Need-sub-result-2
+sub-result-2 c = search needs
+
+add-result : tie.Need-add-result
+add-result c = omega (arith, c .before .pre .1, own-within (c .before .args .leg) (c .before .args .byte) (c .before .pre .0))
 
 cast-result : tie.Need-cast-result
-cast-result c = search needs
+cast-result c = omega (arith, c .before .pre .1, own-within (c .before .args .leg) (c .before .args .byte) (c .before .pre .0))
 
-returns-3 : tie.Need-returns-3
-returns-3 c =
-    record {
-      within = search needs;
-      above = λ h. search needs;
-      before = λ o h k. lesser-byte _ _ _ (omega arith) k;
-      from = λ o h k. byte-reached _ _ _ (omega arith) h;
-    }
+returns-2 : tie.Need-returns-2
+returns-2 c = rw (c .before .pre .1) (half-before (c .before .args .leg) (c .before .args .byte) (omega arith) (c .before .pre .0))
 
 pub first-offset-spec : {M : Type 1} → statement M
 first-offset-spec =
-    tie.close (tie.spec mul-first add-first returns returns-2 cast-result returns-3)
+    tie.close (tie.spec returns sub-result sub-result-2 add-result cast-result returns-2)

@@ -1,24 +1,45 @@
--- `offset_byte` meets its contract: it computes the definition, and the byte of an offset on its leg is below 256.
-use Rattle.model.specs.Field.{offsetByte}
-use mathlib.Core.Path.{refl}
-use Rattle.fields.proofs.Offsets.{byte-fits}
+-- `offset_byte` meets its contract: it computes the definition, case by case of the lesser of two.
+use Rattle.model.specs.Field.{nearestStep, offsetByte}
 use native.Mathlib.Omega.{arith}
 use borrow.Author.Needs.{needs}
 use Rattle.fields.proofs.offset.offset_byte.Statement.{statement}
 use Rattle.fields.proofs.offset.offset_byte.Tie as tie
 
-mul-result : tie.Need-mul-result
-mul-result c = search needs
+mul-nearest : tie.Need-mul-nearest
+mul-nearest c = search needs
 
-div-result : tie.Need-div-result
-div-result c = search needs
+add-nearest : tie.Need-add-nearest
+add-nearest c = search needs
 
-cast-result : tie.Need-cast-result
-cast-result c = omega (arith, byte-fits (c .args .leg) (c .args .offset) (c .pre))
+mul-nearest-2 : tie.Need-mul-nearest-2
+mul-nearest-2 c = search needs
+
+div-nearest : tie.Need-div-nearest
+div-nearest c = search needs
+
+cast-if1 : tie.Need-cast-if1
+cast-if1 c = search needs
 
 returns : tie.Need-returns
-unfolding offsetByte
-returns c = (refl, byte-fits (c .args .leg) (c .args .offset) (c .pre))
+unfolding nearestStep offsetByte
+returns c = (omega arith, omega arith)
+
+cast-result : tie.Need-cast-result
+cast-result c = search needs
+
+returns-2 : tie.Need-returns-2
+unfolding nearestStep offsetByte
+returns-2 c = (omega arith, omega arith)
 
 pub offset-byte-spec : {M : Type 1} → statement M
-offset-byte-spec = tie.close (tie.spec mul-result div-result cast-result returns)
+offset-byte-spec =
+    tie.close
+    (tie.spec
+    mul-nearest
+    add-nearest
+    mul-nearest-2
+    div-nearest
+    cast-if1
+    returns
+    cast-result
+    returns-2)

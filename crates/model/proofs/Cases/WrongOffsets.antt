@@ -1,0 +1,72 @@
+-- Wrong answers about offsets that the promises shut out (W6): a byte rounded down, 256 written as 0, a span of FF without what is nearest to 256;
+-- and that a span's ends would be less than a 256th apart.
+use Prim.Native.Nat.{ℕ, _*_, _-_, _≤_, _<_}
+use mathlib.Core.Path.{_≡_, refl, sym, ap}
+use mathlib.Core.List.{List, [], _∷_, _++_}
+use native.Mathlib.Omega.{arith}
+use lib.ListN.{length, take, getD}
+use borrow.Author.Tests.{le-ltb}
+use Rattle.model.specs.declared.Span.{Span}
+use Rattle.model.specs.declared.WriteAnswer.{WriteAnswer}
+use Rattle.model.specs.Stretch.{remains, checkStretch}
+use Rattle.model.specs.Reference.{byte}
+use Rattle.model.specs.Choice.{stretchBytes}
+use Rattle.model.specs.Span.{SpanRead, unflagged}
+use Rattle.model.specs.Outcome.{read, ReadEnd, ReadOn, Reads, written, WriteBy, Writes}
+use Rattle.model.specs.Work.{workLength}
+use Rattle.model.specs.Call.{ReadCall, WriteCall}
+use Rattle.model.proofs.Outcomes.{on-reads}
+use Rattle.model.proofs.Cases.Computing.{computing}
+use Rattle.model.proofs.Cases.Edges.{span, spanned}
+use Rattle.model.proofs.Cases.Ridge.{mapBytes, ridge, threePoints, stretch, three, cuts, threeLegs, on-the-ridge}
+use Rattle.model.proofs.Cases.Tie.{cut-in-two, none, legs-read}
+use Rattle.model.proofs.Cases.WrongWriters.{left}
+use Rattle.model.proofs.Cases.WrongReaders.{counted}
+use Rattle.model.specs.declared.ReadAnswer.the-variants as Reader
+
+-- The ridge's three points with a positive offset of this byte.
+abbrev threeWith : ℕ → List ℕ
+threeWith b = take 22 threePoints ++ 0x58 ∷ b ∷ []
+
+-- Where the stretch from an offset on has these bytes, every call leaves the offset's byte behind the others.
+byte-left : (pos b : ℕ) (work bytes : List ℕ) {work′ bytes′ : List ℕ} {a : WriteAnswer} → checkStretch ridge (stretch pos) ≡ remains (stretch pos) →
+    stretchBytes ridge cuts (stretch pos) ≡ threeWith b → workLength ≤ length work → 24 ≤ length bytes → WriteCall mapBytes (stretch pos) work bytes a work′ bytes′ →
+    getD bytes′ 23 0 ≡ b
+byte-left pos b work bytes taken are full enough c =
+    let fits : length (stretchBytes ridge cuts (stretch pos)) ≤ length bytes = rw are enough in
+    let outcome : Writes mapBytes (stretch pos) (length work) (length bytes) (written (stretchBytes ridge cuts (stretch pos))) =
+    rw (le-ltb (length work) workLength full, on-the-ridge .map, taken) (WriteBy.accepted cut-in-two fits) in
+    ap (λ (bs : List ℕ). getD bs 23 0) (left (threeWith b) (rw (sym are) outcome) c)
+
+module _ (work bytes : List ℕ) {work′ bytes′ : List ℕ} {a : WriteAnswer} (full : workLength ≤ length work) (enough : 24 ≤ length bytes) where
+  -- 256 × 499 ÷ 1000 is 127.7: 80, and not 7F.
+  pub no-byte-rounded-down : WriteCall mapBytes (stretch 499) work bytes a work′ bytes′ → (getD bytes′ 23 0 ≡ 0x80 → ⊥) → ⊥
+  unfolding computing
+  no-byte-rounded-down c other = other (byte-left 499 0x80 work bytes refl refl full enough c)
+
+  -- 256 × 999 ÷ 1000 is 255.7, nearest to 256: FF, and not 00.
+  pub no-wrapped-byte : WriteCall mapBytes (stretch 999) work bytes a work′ bytes′ → (getD bytes′ 23 0 ≡ 0xFF → ⊥) → ⊥
+  unfolding computing
+  no-wrapped-byte c other = other (byte-left 999 0xFF work bytes refl refl full enough c)
+
+-- Byte FF on 1000.
+last-span : SpanRead 1_000 (byte 0xFF) (span 995 999)
+unfolding computing
+last-span = spanned 1_000 0xFF 995 999 (omega arith) (omega arith) (λ o g. omega arith)
+
+from-last : (work room : ℕ) → workLength ≤ work → 2 ≤ room → Reads mapBytes (threeWith 0xFF) work room (read (0 ∷ 1 ∷ []) (span 995 999) none)
+unfolding computing
+from-last work room full enough =
+    on-reads mapBytes (threeWith 0xFF) {r = three (byte 0xFF)} work room _ full (on-the-ridge .map) refl
+    (ReadOn.every-leg {legs = threeLegs} refl legs-read
+    (ReadEnd.accepted (record { pos-read = last-span; neg-read = unflagged }) (omega arith) (omega (arith, enough))))
+
+-- A bound of a 256th, as it was before, that a span's ends would keep: those of FF on 1000 are four apart.
+pub no-bound-of-a-256th : ((leg b : ℕ) (s : Span) → SpanRead leg (byte b) s → 256 * (s .greatest - s .least) < leg) → ⊥
+no-bound-of-a-256th bound = omega (arith, bound 1_000 0xFF (span 995 999) last-span)
+
+-- 998 is the greatest offset whose nearest number of 256ths is 255; 999 is written as FF too.
+pub no-last-span-cut : (work lines : List ℕ) {n : ℕ} {pos neg : Span} {work′ lines′ : List ℕ} → workLength ≤ length work → 2 ≤ length lines →
+    ReadCall mapBytes (threeWith 0xFF) work lines (Reader.Read n pos neg) work′ lines′ → (pos ≡ span 995 999 → ⊥) → ⊥
+no-last-span-cut work lines full enough c other =
+    other (let e = counted (0 ∷ 1 ∷ []) (span 995 999) none (from-last (length work) (length lines) full enough) c in cc)
