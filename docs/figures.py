@@ -31,6 +31,8 @@ Readings of over 2,304 lines are made twice; a C host's lists have 1,024 at most
 Points are written on any lines that are not refused and, in the rows with "others alike", on lines whose class, form of way and sector some other line has at
 one end too: only there has anything to be searched for.
 A row of offsets is of all spans or bytes that it names, each by a call of its own: 256 spans to a leg, and a byte for each offset.
+A row of "tests" writes stretches of 64 lines, which have 2,080 legs, with so many leg tests; the other rows of stretches have tests for all. Many calls with
+few tests are refused. Plain Rust answers what the tests would give and makes only those that matter to it.
 """
 
 SEARCHES = """\
@@ -43,7 +45,7 @@ and writer in plain Rust use the heap of nodes and lines.
 EFFORT = """\
 ## Searches and leg tests of the writer
 
-Means over the stretches of a row.
+Means over the stretches of a row. A leg test of the proved writer is counted where it asks a search; most are answered by the table.
 """
 
 STACK = """\

@@ -2,7 +2,8 @@
 
      host MAP POS NEG LINE ..
 
-   MAP is the name of a map's file, POS and NEG are the offsets in decimetres, and the rest are line numbers. */
+   MAP is the name of a map's file, POS and NEG are the offsets in decimetres, and the rest are line numbers. It tests every leg, which gives the fewest
+   points. */
 #include "arguments.h"
 
 static void put_line(uint8_t *bytes, uint32_t line) {
@@ -31,7 +32,7 @@ int main(int argc, char **argv) {
         put_line(stretch + 4 * i, line);
     }
 
-    struct openlr_written written = openlr_write(map, map_len, stretch, 4 * count, pos, neg, reference, sizeof reference);
+    struct openlr_written written = openlr_write(map, map_len, stretch, 4 * count, pos, neg, OPENLR_MOST_TESTS, reference, sizeof reference);
     if (written.refusal != 0) {
         printf("writer: refused %u: %s\n", (unsigned)written.refusal, openlr_refusal_sentence(written.refusal));
         return 1;

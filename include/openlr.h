@@ -38,15 +38,18 @@ extern "C" {
    in version 4.
    Version 6: an offset byte is the nearest 256th of its leg, an exact half upwards, and 255 where that gives 256; before, it was rounded down. So an offset may
    have another byte, and a byte another span, than in version 5; office and box must have the same version. Refusal 19 follows: on a leg of up to 512
-   decimetres no offset gives byte 0. */
-#define OPENLR_VERSION 6
+   decimetres no offset gives byte 0.
+   Version 7: openlr_write is given how many leg tests it may make. It answers how many it made, and by how many points at most the reference exceeds the
+   fewest. Refusal 26 is new. With OPENLR_MOST_TESTS it writes and refuses as in version 6. Maps, references and the other functions are as in version 6. */
+#define OPENLR_VERSION 7
 #define OPENLR_UNITS_PER_METRE 10
 
-/* The most that there can be, for buffers that are never too short. */
+/* The most that there can be: for buffers that are never too short, and for a test of every leg. */
 #define OPENLR_LONGEST_MAP 23558     /* Bytes of a map that is not refused: 512 nodes of 8, 1,024 lines of 17, 512 bans of 4, and three counts of 2. */
 #define OPENLR_LONGEST_REFERENCE 459 /* Bytes of a reference: 1 and a first point of 9, 63 middle points of 7, a last one of 6, and two offsets of 1. */
 #define OPENLR_LONGEST_POINT 17      /* Bytes of a point along a line: 1 and a first point of 9, a last one of 6, and an offset of 1. */
 #define OPENLR_MOST_LINES 1024       /* Lines that openlr_read and openlr_read_point hand back, each in four bytes. */
+#define OPENLR_MOST_TESTS 2080       /* Leg tests that openlr_write makes: 64 * 65 / 2, one for each leg of the longest stretch. */
 
 /* Bytes of stack that a thread needs for a call of any of the functions: 104 KiB, of which a call takes up to 78. */
 #define OPENLR_LEAST_STACK 106496
@@ -69,6 +72,7 @@ enum openlr_refusal {
     OPENLR_STRETCH_BAN = 21,
     OPENLR_STRETCH_OFFSETS = 9,
     OPENLR_POINT_MARKS = 25,
+    OPENLR_UNFINISHED = 26, /* Of openlr_write only. More tests may find a reference. */
     OPENLR_NO_CHOICE = 10,
     OPENLR_BYTES_SHORT = 11,
     /* The reader. */
@@ -113,8 +117,10 @@ struct openlr_reading {
 
 /* What openlr_write answers. */
 struct openlr_written {
-    uint32_t refusal;    /* 0: the reference is written. Else the number of the refusal. */
-    uint32_t byte_count; /* How many bytes the reference has, 16 to 459. They are the first of the byte buffer. 0 where refused. */
+    uint32_t refusal;    /* 0: the reference is written. Else the number of the refusal; then every other field is 0. */
+    uint32_t byte_count; /* How many bytes the reference has, 16 to 459. They are the first of the byte buffer. */
+    uint32_t tests;      /* How many leg tests were made, 1 to 2,080. */
+    uint32_t excess;     /* By how many points at most the reference exceeds the fewest. 0: no number of tests gives fewer. */
 };
 
 /* Reads the reference of `reference_len` bytes on the map of `map_len` bytes.
@@ -126,14 +132,43 @@ struct openlr_reading openlr_read(const uint8_t *map, size_t map_len, const uint
                                   size_t line_buffer_len);
 
 /* Writes a reference for a stretch: the line numbers in the `stretch_len` bytes of `stretch`, each line ending where the next starts, less `pos` decimetres at
-   its start and `neg` decimetres at its end.
+   its start and `neg` decimetres at its end. `tests` is how many leg tests it may make, any number. With OPENLR_MOST_TESTS, or more, every leg is tested.
 
    A byte buffer of OPENLR_LONGEST_REFERENCE bytes is long enough for every reference. Where the reference is written, it stands first in the buffer and the
    bytes after it are as before. Where it is refused, all of the buffer is as before.
 
-   Read back on the same map, the bytes give the same lines without those that an offset covers whole, and spans that contain what is left of the offsets. A
-   span's ends differ by less than three 512ths of the length of its leg, the first for the positive offset and the last for the negative one. */
-struct openlr_written openlr_write(const uint8_t *map, size_t map_len, const uint8_t *stretch, size_t stretch_len, uint32_t pos, uint32_t neg,
+   Whatever the number of tests: read back on the same map, the bytes give the same lines without those that an offset covers whole, and spans that contain what
+   is left of the offsets; and nothing else fits the bytes. A span's ends differ by less than three 512ths of the length of its leg, the first for the positive
+   offset and the last for the negative one.
+
+   Legs are the parts of what is left of the stretch when the lines that an offset covers whole are dropped: of n lines there are n * (n + 1) / 2. A leg tests
+   good if the differences between its ends fit 16 bits and it is the only reading of its own bytes. Legs are tested in the order of their start, then of their
+   end: as many as `tests` says, or all if they are fewer. The reference has the fewest points of all whose legs are tested good. `excess` compares it with the
+   fewest points that there would be if every untested leg were good, and is 0 once every leg is tested.
+
+   More tests never give more points or bytes and never a greater excess, and what is written with some tests is not refused with more. They may give other
+   bytes with as many points. Where the legs tested good allow no reference, it is refused: with 26 if one exists once untested legs count as good, so that more
+   tests may find one, and with 10 if none exists even so. With 0 tests a stretch that is not refused before gets 26. Refusal 11 looks at the reference found
+   with these tests: in a short buffer, more tests may write where fewer get 11.
+
+   An office that wants something to send soon starts with a few tests, and sends again what is found with more if it is shorter. Each call makes all of its
+   tests anew, and so their number is doubled:
+
+     uint8_t bytes[OPENLR_LONGEST_REFERENCE];
+     uint32_t sent = 0;
+     for (uint32_t tests = 64;; tests *= 2) {
+         struct openlr_written a = openlr_write(map, map_len, stretch, stretch_len, pos, neg, tests, bytes, sizeof bytes);
+         if (a.refusal == OPENLR_UNFINISHED) continue;
+         if (a.refusal != 0) break;
+         if (sent == 0 || a.byte_count < sent) {
+             send_to_box(bytes, a.byte_count);
+             sent = a.byte_count;
+         }
+         if (a.excess == 0) break;
+     }
+
+   The loop ends: once the tests made no longer grow, at the latest with OPENLR_MOST_TESTS, every leg is tested, 26 is not given and the excess is 0. */
+struct openlr_written openlr_write(const uint8_t *map, size_t map_len, const uint8_t *stretch, size_t stretch_len, uint32_t pos, uint32_t neg, uint32_t tests,
                                    uint8_t *byte_buffer, size_t byte_buffer_len);
 
 /* What openlr_read_point answers. */
@@ -185,6 +220,7 @@ static inline const char *openlr_refusal_sentence(uint32_t refusal) {
     case OPENLR_STRETCH_BAN: return "a line of the stretch is banned straight after the one before it";
     case OPENLR_STRETCH_OFFSETS: return "the offset, or the two together, are not below the length of the line or stretch";
     case OPENLR_POINT_MARKS: return "the orientation or the side is over 3";
+    case OPENLR_UNFINISHED: return "the legs tested good allow no reference to the stretch, but more tests may find one";
     case OPENLR_NO_CHOICE: return "no choice of points is usable for the stretch, or the line of the point is not told by its two ends";
     case OPENLR_BYTES_SHORT: return "the byte buffer is shorter than the reference";
     case OPENLR_REFERENCE_LENGTH: return "the reference has under 16 bytes, over 459 (of a point over 17) or a count of bytes that no reference has";

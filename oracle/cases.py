@@ -4,11 +4,13 @@ import random
 from dataclasses import dataclass, replace
 from itertools import combinations
 
+from best_found_recipes import BEST_FOUND_RECIPES
 from damages import map_damage
 from depot_map import DepotMap, map_to_bytes, read_map
 from fields import LONGEST_LEG
 from legs import Leg, LegSearch, Readings, describe_leg, list_length
 from meridian_recipes import MERIDIAN_READ_RECIPES, MERIDIAN_WRITE_RECIPES, READ_RECIPES_ACROSS, WRITE_RECIPES_ACROSS, all_across
+from numbers_of_tests import lines_left, telling_tests
 from outcome import outcome_of
 from point_read_recipes import (MERIDIAN_POINT_READ_RECIPES, POINT_READ_EDGES, POINT_READ_RECIPES, POINT_READ_RECIPES_ACROSS, POINTS_FOR_STRETCHES_RECIPES,
                                 point_read_outcome)
@@ -262,6 +264,15 @@ def call_cases(kind, recipes, outcome):
     return make_cases_of_kind
 
 
+def with_other_tests(kind, seed, made):
+    """Those writings whose legs come to be tested, each again with another number of tests. They have a kind for their random source."""
+    for index, case in enumerate(made):
+        left = lines_left(case.given)
+        if left is not None:
+            given = replace(case.given, tests=telling_tests(random_source(kind, seed, index), *left))
+            yield CallCase(f"other tests, {case.label}", given, write_outcome(given))
+
+
 map_cases = map_cases_of("map", MAP_RECIPES)
 leg_cases = leg_cases_of("leg", LEG_RECIPES)
 read_cases = call_cases("read", READ_RECIPES, read_outcome)
@@ -274,6 +285,8 @@ write_cases_across = call_cases("write", WRITE_RECIPES_ACROSS, write_outcome)
 meridian_map_cases = map_cases_of("meridian map", MERIDIAN_MAP_RECIPES)
 meridian_read_cases = call_cases("meridian read", MERIDIAN_READ_RECIPES, read_outcome)
 meridian_write_cases = call_cases("meridian write", MERIDIAN_WRITE_RECIPES, write_outcome)
+# Writings whose answers depend on the number of tests.
+best_found_cases = call_cases("best found", BEST_FOUND_RECIPES, write_outcome)
 # Points along a line: read, written, more of those with many edges, both at the meridian too, and given to the reader of stretches.
 point_read_cases = call_cases("point read", POINT_READ_RECIPES, point_read_outcome)
 point_write_cases = call_cases("point write", POINT_WRITE_RECIPES, point_write_outcome)

@@ -7,9 +7,11 @@ import argparse
 from dataclasses import replace
 
 from answers import answers, hexadecimal, report
-from cases import (meridian_point_read_cases, meridian_point_write_cases, meridian_read_cases, meridian_write_cases, point_read_cases,
-                   point_read_cases_across, point_write_cases, point_write_cases_across, read_cases, read_cases_across, write_cases, write_cases_across)
+from cases import (best_found_cases, meridian_point_read_cases, meridian_point_write_cases, meridian_read_cases, meridian_write_cases, point_read_cases,
+                   point_read_cases_across, point_write_cases, point_write_cases_across, random_source, read_cases, read_cases_across, write_cases,
+                   write_cases_across)
 from host_calls import MOST_LINES, line_bytes
+from numbers_of_tests import any_tests
 from outcome import outcome_text
 from point_read_recipes import point_read_outcome
 from point_write_recipes import point_write_outcome
@@ -45,15 +47,25 @@ def read_point_calls(seed, count):
     return calls_of_a_reader("read_point", cases, point_read_outcome)
 
 
+def write_cases_for_c(seed, count):
+    """Every fifth case is one whose answer depends on the number of tests. Of the others, every other one has any number of tests instead of all."""
+    fifth = count // 5
+    for index, case in enumerate(with_meridian(seed, count - fifth, write_cases, write_cases_across, meridian_write_cases)):
+        tests = any_tests(random_source("tests from C", seed, index), len(case.given.lines))
+        yield replace(case.given, tests=tests) if index % 2 else case.given
+    for case in best_found_cases(seed, fifth):
+        yield case.given
+
+
 def write_calls(seed, count):
     """Likewise. Every fifth stretch has one to three bytes too many, "a byte list whose length is no multiple of four"."""
-    for index, case in enumerate(with_meridian(seed, count, write_cases, write_cases_across, meridian_write_cases)):
-        given = replace(case.given, work_length=LEAST_WORK_LENGTH)
+    for index, made in enumerate(write_cases_for_c(seed, count)):
+        given = replace(made, work_length=LEAST_WORK_LENGTH)
         stretch = line_bytes(given.lines)
         if index % 5 == 4:
             stretch += bytes(index // 5 % 3 + 1)
             given = replace(given, lines=())
-        numbers = f"{given.pos} {given.neg} {given.byte_room}"
+        numbers = f"{given.pos} {given.neg} {given.tests} {given.byte_room}"
         yield f"write {hexadecimal(given.map_bytes)} {hexadecimal(stretch)} {numbers}", one_row(write_outcome(given))
 
 

@@ -87,8 +87,9 @@ def lines_row(answer):
 
 
 def written_row(answer, read_back):
-    _, count, reference = answer.split()
-    return f"bytes {count} sum {number_sum(bytes.fromhex(reference))} read {lines_row(read_back)}"
+    """The count of bytes, of a stretch tests and excess too, and the sum over the bytes."""
+    *heading, reference = answer.split()
+    return f"{' '.join(heading)} sum {number_sum(bytes.fromhex(reference))} read {lines_row(read_back)}"
 
 
 def simple_rows(row):
@@ -102,7 +103,7 @@ def call_rows(reader, line_room):
     def rows_of(program, calls):
         rows = answers(program, calls)
         written = [index for index, answer in enumerate(rows) if answer.startswith("bytes")]
-        read_calls = [f"{reader} {calls[index].split()[1]} {rows[index].split()[2]} {LEAST_WORK_LENGTH} {line_room}" for index in written]
+        read_calls = [f"{reader} {calls[index].split()[1]} {rows[index].split()[-1]} {LEAST_WORK_LENGTH} {line_room}" for index in written]
         read_back = dict(zip(written, answers(program, read_calls)))
         return [written_row(answer, read_back[index]) if index in read_back else lines_row(answer) for index, answer in enumerate(rows)]
     return rows_of

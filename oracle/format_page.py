@@ -5,14 +5,14 @@ from pathlib import Path
 from typing import NamedTuple, Optional
 
 from answers import hexadecimal
-from depot_map import STEP_SHIFT, Node, write_number
+from depot_map import STEP_SHIFT, Node, read_map, write_number
 from fields import coordinate_code, differences, differences_fit, distance_byte, offset_byte, offset_span, sector
 from host_calls import MOST_LINES, line_bytes, lines_of
-from outcome import PointRead, Refused, ReferenceWritten, StretchRead
+from outcome import PointRead, PointWritten, Refused, StretchRead, StretchWritten
 from point_along_line import read_point, write_point
 from reader import LEAST_WORK_LENGTH, read
 from reference import LONGEST_POINT_ALONG_LINE, LONGEST_REFERENCE
-from writer import write
+from writer import ALL_TESTS, legs_in_order, skip_lines, write
 
 PAGE = Path(__file__).parent.parent / "docs" / "FORMAT.md"
 
@@ -24,8 +24,12 @@ class Kind(NamedTuple):
     room: int
 
 
-KINDS = {"read": Kind(True, (), MOST_LINES), "write": Kind(False, ("pos", "neg"), LONGEST_REFERENCE),
+KINDS = {"read": Kind(True, (), MOST_LINES), "write": Kind(False, ("pos", "neg", "tests"), LONGEST_REFERENCE),
          "read point": Kind(True, (), MOST_LINES), "write point": Kind(False, ("line", "offset", "orientation", "side"), LONGEST_POINT_ALONG_LINE)}
+
+
+# What a number is where the page gives none; others are 0.
+NOT_GIVEN = {"tests": ALL_TESTS}
 
 
 class Call(NamedTuple):
@@ -47,7 +51,8 @@ class Call(NamedTuple):
         if self.kind == "read point":
             return read_point(self.map_bytes, self.given, work, self.room)
         if self.kind == "write":
-            return write(self.map_bytes, lines_of(self.given), *self.numbers, work, self.room)
+            pos, neg, tests = self.numbers
+            return write(self.map_bytes, lines_of(self.given), pos, neg, work, self.room, tests)
         return write_point(self.map_bytes, *self.numbers, work, self.room)
 
     def row(self):
@@ -151,8 +156,9 @@ class Page:
         settings = {word: int(number) for word, number in re.findall(r"(\w+) (\d+)", rest)}
         if re.sub(r"\w+ \d+", "", rest).strip() or not settings.keys() <= {"room", "work", *kind.numbers}:
             raise ValueError(f"cannot be read: {row}")
-        numbers = tuple(settings.get(word, 0) for word in kind.numbers)
-        return Call(row, name, map_bytes, given, numbers, settings.get("room", kind.room), settings.get("work"), self._answer(right))
+        numbers = tuple(settings.get(word, NOT_GIVEN.get(word, 0)) for word in kind.numbers)
+        call = Call(row, name, map_bytes, given, numbers, settings.get("room", kind.room), settings.get("work"), None)
+        return call._replace(answer=self._written(call, right) if right.startswith("writes ") else self._answer(right))
 
     def _bytes(self, text):
         """The bytes at the start of a text, and the text after them."""
@@ -178,8 +184,29 @@ class Page:
         if point:
             least, greatest, orientation, side = (int(number) for number in point.groups()[1:])
             return PointRead(tuple(map(int, point[1].split())), (least, greatest), orientation, side)
-        written = text.removeprefix("writes ")
-        return ReferenceWritten(self.names[written] if written in self.names else bytes.fromhex(written))
+        raise ValueError(f"cannot be read: {text}")
+
+    def _written(self, call, text):
+        """What is written. Of a stretch, tests and excess may be left out where all legs are tested: one test for each leg then, and an excess of 0."""
+        written, tests, excess = re.fullmatch(r"writes (.*?)(?: tests (\d+) excess (\d+))?", text).groups()
+        reference = self.names[written] if written in self.names else bytes.fromhex(written)
+        if call.kind == "write point":
+            if tests is not None:
+                raise ValueError(f"a point has no tests: {call.text}")
+            return PointWritten(reference)
+        if tests is None:
+            return StretchWritten(reference, tests_for_all(call), 0)
+        return StretchWritten(reference, int(tests), int(excess))
+
+
+def tests_for_all(call):
+    """How many legs there are of the lines that remain of a stretch."""
+    pos, neg, tests = call.numbers
+    remaining, *_ = skip_lines(read_map(call.map_bytes), lines_of(call.given), pos, neg)
+    count = len(legs_in_order(len(remaining)))
+    if tests < count:
+        raise ValueError(f"tests and excess are missing: {call.text}")
+    return count
 
 
 def _stretch(text):

@@ -9,6 +9,7 @@ from damages import replaced
 from depot_map import GREATEST_LATITUDE, map_to_bytes, read_map
 from drawn_steps import EASTWARD, WESTWARD
 from fields import brought_round, code_pair, coordinate_code
+from numbers_of_tests import all_with_all_tests
 from outcome import RefusedCall
 from read_recipes import AMPLE_LINES, READ_RECIPES, ReadInput, bytes_of_legs
 from reference import p_byte_positions
@@ -262,12 +263,12 @@ def half_a_circle(rng, turn):
     return f"{plain} apart", WriteInput(map_to_bytes(builder.build()), (line,), byte_room=AMPLE_BYTES * (turn // 16 % 2))
 
 
-MERIDIAN_WRITE_RECIPES = {
+MERIDIAN_WRITE_RECIPES = all_with_all_tests({
     "differences at the ends of 16 bits, across the meridian": differences_at_ends_across,
     "back and forth across the meridian": stretch_back_and_forth,
     "far line skipped, across the meridian": far_line_skipped,
     "refusal 10, half a circle": half_a_circle,
-}
+})
 
 READ_RECIPES_ACROSS = all_across(READ_RECIPES, reading_across)
 WRITE_RECIPES_ACROSS = all_across(WRITE_RECIPES, writing_across)

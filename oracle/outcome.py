@@ -29,8 +29,16 @@ class PointRead:
 
 
 @dataclass(frozen=True)
-class ReferenceWritten:
-    """An accepted write."""
+class StretchWritten:
+    """An accepted write of a stretch: the bytes, the leg tests made, and by how many points at most these bytes exceed the fewest."""
+    reference: bytes
+    tests: int
+    excess: int
+
+
+@dataclass(frozen=True)
+class PointWritten:
+    """An accepted write of a point along a line. Its writer is given no number of tests."""
     reference: bytes
 
 
@@ -61,12 +69,18 @@ def heading(outcome):
     return f"lines {len(outcome.lines)} pos {least_positive} {greatest_positive} neg {least_negative} {greatest_negative}"
 
 
+def written_heading(outcome):
+    """The same of an accepted write. Of a stretch the tests made and the excess stand behind the count of bytes."""
+    count = f"bytes {len(outcome.reference)}"
+    return f"{count} tests {outcome.tests} excess {outcome.excess}" if isinstance(outcome, StretchWritten) else count
+
+
 def outcome_text(outcome):
     """The text that the scope paper's printing program gives ("The tie at the ridge")."""
     if isinstance(outcome, Refused):
         place = "" if outcome.place is None else f" {outcome.place}"
         return f"refused {outcome.number}{place}"
-    if isinstance(outcome, ReferenceWritten):
-        # The scope paper shows no program for the writer. This form follows the reader's: count, then data.
-        return f"bytes {len(outcome.reference)}\n{outcome.reference.hex().upper()}"
+    if isinstance(outcome, (StretchWritten, PointWritten)):
+        # The scope paper shows no program for the writers. This form follows the reader's: count, then data.
+        return f"{written_heading(outcome)}\n{outcome.reference.hex().upper()}"
     return "\n".join([heading(outcome)] + [str(line) for line in outcome.lines])

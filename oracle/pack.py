@@ -5,19 +5,21 @@ Usage: python3 oracle/pack.py [--check]. With --check nothing is written; files 
 
 import argparse
 import sys
+from collections import Counter
 from dataclasses import replace
 from pathlib import Path
 
-from cases import (leg_cases, leg_cases_across, map_cases, meridian_map_cases, meridian_point_read_cases, meridian_point_write_cases, meridian_read_cases,
-                   meridian_write_cases, point_read_cases, point_read_cases_across, point_read_edge_cases, point_write_cases, point_write_cases_across,
-                   point_write_edge_cases, points_for_stretches_cases, random_source, read_cases, read_cases_across, stretch_leg, write_cases,
-                   write_cases_across)
+from cases import (best_found_cases, leg_cases, leg_cases_across, map_cases, meridian_map_cases, meridian_point_read_cases, meridian_point_write_cases,
+                   meridian_read_cases, meridian_write_cases, point_read_cases, point_read_cases_across, point_read_edge_cases, point_write_cases,
+                   point_write_cases_across, point_write_edge_cases, points_for_stretches_cases, random_source, read_cases, read_cases_across, stretch_leg,
+                   with_other_tests, write_cases, write_cases_across)
 from depot_map import LATITUDE_SHIFT, LONGITUDE_SHIFT, MOST_BANS, MOST_LINES, map_to_bytes
 from drawn_steps import ENDS_OF_RANGE, steps_at_edges
 from fields import sector
 from legs import LegSearch, list_length
 from meridian_recipes import ACROSS
-from outcome import Refused, heading, outcome_text
+from numbers_of_tests import any_tests, given_all_tests
+from outcome import Refused, heading, outcome_text, written_heading
 from point_along_line import read_point
 from point_read_recipes import composed_point_from, point_read_outcome
 from point_write_recipes import PointInput, many_points_on_a_map, point_write_outcome
@@ -37,6 +39,9 @@ POINTS_LINE_ROOM, POINTS_BYTE_ROOM = 1_100, 40
 # The recipe whose maps would take too much room.
 FULL_SIZE = "full size"
 FULL_SIZE_ACROSS = FULL_SIZE + ACROSS
+# Recipes of writings whose maps take much room and that soon have had all their edges. So many cases of each will do.
+CASES_OF_LARGE_MAPS = {"longest reference": 15, "tie that a ban decides": 32, "all but one line skipped": 40, "around the block": 24,
+                       "refusal 21, in skipped lines": 36}
 
 
 def packed(parts):
@@ -229,7 +234,7 @@ def write_row(outcome, read_back):
     if isinstance(outcome, Refused):
         return refusal_row(outcome)
     reference = outcome.reference
-    return f"bytes {len(reference)} sum {number_sum(reference)} work cleared rest kept read {lines_text(read_back(reference))}"
+    return f"{written_heading(outcome)} sum {number_sum(reference)} work cleared rest kept read {lines_text(read_back(reference))}"
 
 
 def stretch_row(given, outcome):
@@ -237,19 +242,33 @@ def stretch_row(given, outcome):
 
 
 def full_map_writes(plain, across, stretches):
+    """Each stretch with all tests, and with any number of them."""
     for rng, sample in full_size_samples("full-size writes", plain, across):
-        for given in many_on_a_map(rng, sample.depot_map, stretches):
-            yield given, write_outcome(given)
+        for made in many_on_a_map(rng, sample.depot_map, stretches):
+            for given in (given_all_tests(rng, made), replace(made, tests=any_tests(rng, len(made.lines)))):
+                yield given, write_outcome(given)
+
+
+def few_of_large_maps(made):
+    """The cases but for those of large maps beyond what will do."""
+    counts = Counter()
+    for case in made:
+        recipe = case.label.split(":")[0]
+        counts[recipe] += 1
+        if counts[recipe] <= CASES_OF_LARGE_MAPS.get(recipe, counts[recipe]):
+            yield case
 
 
 def test_writes():
-    """The subject is a stretch, four bytes a line; the numbers are the offsets, and the lengths of the work area and of
-    the byte buffer."""
-    calls = [*on_small_maps(write_cases, 2_652), *full_map_writes(plain=8, across=2, stretches=24),
-             *on_small_maps(write_cases_across, 102, FULL_SIZE_ACROSS), *on_small_maps(meridian_write_cases, 128)]
+    """The subject is a stretch, four bytes a line; the numbers are the offsets, the number of tests, and the lengths of the work area and of the byte
+    buffer."""
+    made = [*few_of_large_maps(write_cases(seed=1, count=2_652, left_out=FULL_SIZE)),
+            *write_cases_across(seed=1, count=102, left_out=FULL_SIZE_ACROSS), *meridian_write_cases(seed=1, count=128)]
+    made += [*with_other_tests("other tests", 1, made), *best_found_cases(seed=1, count=405)]
+    calls = [*((case.given, case.expected) for case in made), *full_map_writes(plain=8, across=2, stretches=24)]
     check_room(calls, lambda given: len(given.lines) <= WRITES_LINE_ROOM and given.byte_room <= WRITES_BYTE_ROOM)
     return packed_calls(calls, lambda given: words(given.lines),
-                        lambda given: [given.pos, given.neg, given.work_length, given.byte_room], stretch_row)
+                        lambda given: [given.pos, given.neg, given.tests, given.work_length, given.byte_room], stretch_row)
 
 
 def full_map_points(plain, across, points):

@@ -7,7 +7,7 @@ from dataclasses import replace
 
 from depot_map import read_map
 from legs import LegSearch, list_length
-from outcome import PointRead, ReferenceWritten, RefusedCall, outcome_of
+from outcome import PointRead, PointWritten, RefusedCall, outcome_of
 from reader import check_work_length, flagged_span, leg_lists, legs_of, point_nodes
 from reference import POINT_STATUS, put_together, take_point_along_line
 from writer import leg_is_usable, reference_of_legs
@@ -60,9 +60,9 @@ def _write_point(map_bytes, line, offset, orientation, side, work_length, byte_r
     reference = bytes_of_point(depot_map, (line,), offset, orientation, side)
     if byte_room < len(reference):
         raise RefusedCall(11)
-    return ReferenceWritten(reference)
+    return PointWritten(reference)
 
 
 def write_point(map_bytes, line, offset, orientation, side, work_length, byte_room):
-    """The outcome of a call of the writer of points: ReferenceWritten or Refused."""
+    """The outcome of a call of the writer of points: PointWritten or Refused."""
     return outcome_of(_write_point, map_bytes, line, offset, orientation, side, work_length, byte_room)

@@ -8,7 +8,7 @@ from depot_map import LARGEST_NUMBER, MOST_LINES, Line, map_to_bytes, read_map
 from drawn_steps import EASTWARD, NORTHWARD, WESTWARD
 from fields import LONGEST_LEG
 from meridian_recipes import all_across, differences_at_ends_across, half_a_circle, stretch_back_and_forth, writing_across
-from outcome import ReferenceWritten
+from outcome import PointWritten
 from point_along_line import GREATEST_ORIENTATION, GREATEST_SIDE, write_point
 from reader import LEAST_WORK_LENGTH
 from recipes import any_sample, until_found, work_area_exactly_enough, work_area_too_short
@@ -63,7 +63,7 @@ def accepted_point(rng, turn):
     def attempt():
         label, point = any_point(rng, turn)
         for given in (point, replace(point, offset=0)):
-            if isinstance(point_write_outcome(given), ReferenceWritten):
+            if isinstance(point_write_outcome(given), PointWritten):
                 return label, given
         return None
     return until_found(attempt)

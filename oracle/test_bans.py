@@ -6,12 +6,12 @@ from dataclasses import replace
 from depot_map import DepotMap, Line, Node, map_to_bytes, read_map
 from drawn_steps import EASTWARD, WESTWARD
 from legs import Leg, LegSearch, Marks, readings_by_enumeration
-from outcome import Refused, ReferenceWritten, StretchRead, outcome_text
+from outcome import Refused, StretchRead, StretchWritten, outcome_text
 from reader import read
 from sample_maps import ridge_map
 from test_depot_map import ONE_LINE, TWO_NODES, refusal_of, refusal_of_hex
 from test_legs import EAST, WEST_ARRIVAL, as_readings
-from test_scope_paper import RIDGE, THREE_POINTS, TWO_POINTS, WORK, row_map
+from test_scope_paper import RIDGE, THREE_POINTS, TWO_POINTS, WORK, all_tested, row_map
 from writer import choose_points, write
 
 LARGEST = 4_294_967_295
@@ -29,7 +29,7 @@ class RidgeWithATurnBanned(unittest.TestCase):
         # From line 0 only line 1 is left, so that two points will do for it. D of 2000 is 3.
         map_bytes = ridge((0, 2))
         self.assertEqual(TWO_POINTS, bytes.fromhex("0B 000000 000000 1B 68 03 07D0 0000 1B 18"))
-        self.assertEqual(write(map_bytes, [0, 1], 0, 0, WORK, 16), ReferenceWritten(TWO_POINTS))
+        self.assertEqual(write(map_bytes, [0, 1], 0, 0, WORK, 16), all_tested(TWO_POINTS, 2))
         self.assertEqual(read(map_bytes, TWO_POINTS, WORK, 2), StretchRead((0, 1), *NO_OFFSETS))
         self.assertEqual(read(RIDGE, TWO_POINTS, WORK, 2), Refused(18, 0))
         self.assertEqual(write(map_bytes, [0, 2, 3], 0, 0, WORK, 459), Refused(21))
@@ -37,7 +37,7 @@ class RidgeWithATurnBanned(unittest.TestCase):
     def test_offset_is_measured_against_the_longer_leg(self):
         # 256 x 500 / 2000 is 64, 40 in hexadecimal. 63.5 x 2000 / 256 is 496.1 and 64.5 x 2000 / 256 is 503.9.
         written = bytes.fromhex("0B 000000 000000 1B 68 03 07D0 0000 1B 58 40")
-        self.assertEqual(write(ridge((0, 2)), [0, 1], 500, 0, WORK, 17), ReferenceWritten(written))
+        self.assertEqual(write(ridge((0, 2)), [0, 1], 500, 0, WORK, 17), all_tested(written, 2))
         outcome = read(ridge((0, 2)), written, WORK, 2)
         self.assertEqual(outcome, StretchRead((0, 1), (497, 503), (0, 0)))
         self.assertEqual(outcome_text(outcome), "lines 2 pos 497 503 neg 0 0\n0\n1")
@@ -45,14 +45,14 @@ class RidgeWithATurnBanned(unittest.TestCase):
     def test_straight_way_banned(self):
         # The same bytes stand for the way over the ridge: line 3 has the class, the form and the sector of line 1.
         map_bytes = ridge((0, 1))
-        self.assertEqual(write(map_bytes, [0, 2, 3], 0, 0, WORK, 16), ReferenceWritten(TWO_POINTS))
+        self.assertEqual(write(map_bytes, [0, 2, 3], 0, 0, WORK, 16), all_tested(TWO_POINTS, 3))
         self.assertEqual(read(map_bytes, TWO_POINTS, WORK, 3), StretchRead((0, 2, 3), *NO_OFFSETS))
         self.assertEqual(write(map_bytes, [0, 1], 0, 0, WORK, 459), Refused(21))
 
     def test_either_half_of_the_way_over_the_ridge_banned(self):
-        self.assertEqual(write(ridge((2, 3)), [0, 1], 0, 0, WORK, 16), ReferenceWritten(TWO_POINTS))
+        self.assertEqual(write(ridge((2, 3)), [0, 1], 0, 0, WORK, 16), all_tested(TWO_POINTS, 2))
         self.assertEqual(write(ridge((2, 3)), [0, 2], 0, 0, WORK, 16),
-                         ReferenceWritten(bytes.fromhex("0B 000000 000000 1B 68 02 03E8 03E8 1B 10")))
+                         all_tested(bytes.fromhex("0B 000000 000000 1B 68 02 03E8 03E8 1B 10"), 2))
 
     def test_both_ways_banned(self):
         self.assertEqual(read(ridge((0, 1), (0, 2)), TWO_POINTS, WORK, 3), Refused(17, 0))
@@ -60,12 +60,12 @@ class RidgeWithATurnBanned(unittest.TestCase):
     def test_no_turn_banned(self):
         self.assertEqual(ridge(), RIDGE)
         self.assertEqual(RIDGE[-1:], b"\x00")
-        self.assertEqual(write(RIDGE, [0, 1], 0, 0, WORK, 23), ReferenceWritten(THREE_POINTS))
+        self.assertEqual(write(RIDGE, [0, 1], 0, 0, WORK, 23), all_tested(THREE_POINTS, 2))
 
     def test_pair_listed_twice(self):
         for bans in (((0, 2), (0, 2)), ((0, 2),) * 512):
             self.assertEqual(read_map(ridge(*bans)).bans, bans)
-            self.assertEqual(write(ridge(*bans), [0, 1], 0, 0, WORK, 16), ReferenceWritten(TWO_POINTS))
+            self.assertEqual(write(ridge(*bans), [0, 1], 0, 0, WORK, 16), all_tested(TWO_POINTS, 2))
             self.assertEqual(read(ridge(*bans), TWO_POINTS, WORK, 2), StretchRead((0, 1), *NO_OFFSETS))
 
 
@@ -185,7 +185,7 @@ class Legs(unittest.TestCase):
         # One leg of 400; nodes 0 and 2 are 2000 apart.
         map_bytes = map_to_bytes(row_map(*BLOCK, bans=[(0, 1)]))
         written = bytes.fromhex("0B 000000 000000 1B 68 00 07D0 0000 1B 18")
-        self.assertEqual(write(map_bytes, [0, 2, 3, 1], 0, 0, WORK, 16), ReferenceWritten(written))
+        self.assertEqual(write(map_bytes, [0, 2, 3, 1], 0, 0, WORK, 16), all_tested(written, 4))
         self.assertEqual(read(map_bytes, written, WORK, 4), StretchRead((0, 2, 3, 1), *NO_OFFSETS))
         # Without the ban these bytes are lines 0 and 1, and going around takes more points.
         free = map_to_bytes(row_map(*BLOCK))
@@ -196,7 +196,7 @@ class Legs(unittest.TestCase):
         # Line 2 is never in mid-leg, being longer than line 1; what may come after it changes nothing.
         lines = ((0, 1, 100), (1, 2, 100), (1, 2, 500), (2, 3, 50))
         free, banned = (map_to_bytes(row_map(*lines, bans=bans)) for bans in ((), [(2, 3)]))
-        written = ReferenceWritten(bytes.fromhex("0B 000000 000000 1B 68 00 0BB8 0000 1B 18"))
+        written = all_tested(bytes.fromhex("0B 000000 000000 1B 68 00 0BB8 0000 1B 18"), 3)
         for map_bytes in (free, banned):
             self.assertEqual(write(map_bytes, [0, 1, 3], 0, 0, WORK, 16), written)
             self.assertEqual(read(map_bytes, written.reference, WORK, 3), StretchRead((0, 1, 3), *NO_OFFSETS))
@@ -279,7 +279,7 @@ class StretchWithABannedPair(unittest.TestCase):
 
     def test_other_pairs_do_not_count(self):
         map_bytes = map_to_bytes(row_map(*self.ROW, bans=[(0, 1)]))
-        self.assertIsInstance(write(map_bytes, [1, 2], 0, 0, WORK, 459), ReferenceWritten)
+        self.assertIsInstance(write(map_bytes, [1, 2], 0, 0, WORK, 459), StretchWritten)
 
     def test_lines_that_an_offset_skips_count(self):
         # Both lines of the pair are skipped, at the start and at the end; then the first or the second of them alone.

@@ -1,6 +1,7 @@
 """The case generator: the same for the same seed, and every aim and every edge occurs."""
 
 import unittest
+from collections import Counter
 from dataclasses import replace
 from fractions import Fraction
 from math import floor
@@ -11,20 +12,22 @@ from crossings import reading_moves, stretch_moves
 from damages import LINE_FIELDS, STEP_FIELDS, STEP_PAIRS
 from depot_map import map_to_bytes, read_map
 from legs import LegSearch, Readings, has_banned_pair, list_length, passes_a_node_twice
-from outcome import Refused, RefusedCall, ReferenceWritten, StretchRead
+from numbers_of_tests import WIDE_NUMBERS, any_tests, first_decided, leg_count, lines_left
+from outcome import Refused, RefusedCall, StretchRead, StretchWritten
 from read_recipes import read_outcome
 from reader import check_joints, leg_lists, legs_of, point_nodes
 from reference import take_apart
 from roundings import EVERY_ROUNDING, roundings
 from sample_maps import FIRST_BEHIND, LAST_BEFORE, lies_across
 from write_recipes import write_outcome
-from writer import skip_lines
+from writer import ALL_TESTS, skip_lines
 
 # Enough for each recipe to go through its edges at least once.
 MAP_CASES, LEG_CASES, READ_CASES, WRITE_CASES = 540, 540, 1_050, 918
 MERIDIAN_MAP_CASES, MERIDIAN_READ_CASES, MERIDIAN_WRITE_CASES = 60, 120, 128
+BEST_FOUND_CASES = 240
 KINDS = (cases.map_cases, cases.leg_cases, cases.read_cases, cases.write_cases, cases.leg_cases_across, cases.read_cases_across, cases.write_cases_across,
-         cases.meridian_map_cases, cases.meridian_read_cases, cases.meridian_write_cases)
+         cases.meridian_map_cases, cases.meridian_read_cases, cases.meridian_write_cases, cases.best_found_cases)
 
 
 def refusal_in_label(label):
@@ -41,6 +44,11 @@ def labelled(made, recipe):
 def without_bans(given):
     """The same call on the same map without its bans."""
     return replace(given, map_bytes=map_to_bytes(replace(read_map(given.map_bytes), bans=())))
+
+
+def all_tests(given):
+    """The same writing with tests for all legs."""
+    return replace(given, tests=ALL_TESTS)
 
 
 class Determinism(unittest.TestCase):
@@ -108,7 +116,7 @@ class Coverage(CaseTests):
 
     def test_some_are_accepted(self):
         self.assertGreater(sum(isinstance(case.expected, StretchRead) for case in self.read_cases), 150)
-        self.assertGreater(sum(isinstance(case.expected, ReferenceWritten) for case in self.write_cases), 120)
+        self.assertGreater(sum(isinstance(case.expected, StretchWritten) for case in self.write_cases), 120)
 
     def test_line_fields_are_wrong_in_the_first_and_in_the_last_line(self):
         labels = {case.label for case in self.map_cases}
@@ -217,21 +225,21 @@ class Coverage(CaseTests):
                        if isinstance(case.expected, StretchRead)}
         self.assertIn(0, spare_lines)
         spare_bytes = {case.given.byte_room - len(case.expected.reference) for case in self.write_cases
-                       if isinstance(case.expected, ReferenceWritten)}
+                       if isinstance(case.expected, StretchWritten)}
         self.assertIn(0, spare_bytes)
 
     def test_edges_of_reference_lengths(self):
         read_lengths = {len(case.given.reference) for case in self.read_cases
                         if isinstance(case.expected, StretchRead)}
         written_lengths = {len(case.expected.reference) for case in self.write_cases
-                           if isinstance(case.expected, ReferenceWritten)}
+                           if isinstance(case.expected, StretchWritten)}
         for lengths in (read_lengths, written_lengths):
             self.assertLessEqual({16, 17, 18, 459}, lengths)
 
     def test_edges_of_differences(self):
         differences = set()
         for case in self.write_cases:
-            if isinstance(case.expected, ReferenceWritten):
+            if isinstance(case.expected, StretchWritten):
                 for point in take_apart(case.expected.reference).points[1:]:
                     differences |= {point.longitude, point.latitude}
         self.assertLessEqual({-32_768, 32_767, 0}, differences)
@@ -336,12 +344,12 @@ class Coverage(CaseTests):
             depot_map, given = read_map(case.given.map_bytes), case.given
             remaining, _, _ = skip_lines(depot_map, given.lines, given.pos, given.neg)
             self.assertFalse(has_banned_pair(depot_map, remaining))
-            self.assertIsInstance(write_outcome(without_bans(given)), ReferenceWritten)
+            self.assertIsInstance(write_outcome(all_tests(without_bans(given))), StretchWritten)
             places.add((detail.split()[0], given.pos > 0))
         self.assertEqual(places, {("1", False), ("1", True), ("2", False), ("2", True)})
 
     def test_21_stands_between_8_and_9(self):
-        free = {write_outcome(without_bans(case.given)) for _, case in self.write_details("refusal 21")}
+        free = {write_outcome(all_tests(without_bans(case.given))) for _, case in self.write_details("refusal 21")}
         self.assertIn(Refused(9), free)
         self.assertIn(Refused(11), free)
         for _, case in self.write_details("refusal 8, and a banned pair"):
@@ -359,7 +367,7 @@ class Coverage(CaseTests):
 
     def test_10_by_a_ban(self):
         for _, case in self.write_details("refusal 10, by a ban"):
-            self.assertIsInstance(write_outcome(replace(without_bans(case.given), byte_room=459)), ReferenceWritten)
+            self.assertIsInstance(write_outcome(replace(without_bans(case.given), byte_room=459)), StretchWritten)
 
     def test_edges_of_leg_lengths(self):
         lengths = {list_length(case.depot_map, case.expected.lines) for case in self.leg_cases
@@ -371,7 +379,7 @@ class Coverage(CaseTests):
         to_itself = [case for case in self.leg_cases if case.leg.start_node == case.leg.end_node]
         self.assertIn("one", {case.expected.how_many for case in to_itself})
         twice = [case for case in self.write_cases if len(set(case.given.lines)) < len(case.given.lines)
-                 and isinstance(case.expected, ReferenceWritten)]
+                 and isinstance(case.expected, StretchWritten)]
         self.assertGreater(len(twice), 5)
 
     def test_sizes_of_maps(self):
@@ -399,7 +407,7 @@ class Across(CaseTests):
             for case, shifted_case in zip(plain(1, count), across(1, count)):
                 self.assertTrue(shifted_case.label.startswith(case.label.split(":")[0] + ", across the meridian: "))
                 expected, shifted_expected = case.expected, shifted_case.expected
-                if isinstance(expected, ReferenceWritten):
+                if isinstance(expected, StretchWritten):
                     expected, shifted_expected = (outcome.reference[4:] for outcome in (expected, shifted_expected))
                 self.assertEqual(shifted_expected, expected, case.label)
 
@@ -501,7 +509,7 @@ class Meridian(CaseTests):
             depot_map, given = read_map(case.given.map_bytes), case.given
             remaining, _, _ = skip_lines(depot_map, given.lines, given.pos, given.neg)
             self.assertEqual((len(remaining), len(take_apart(case.expected.reference).points)), (1, 2))
-            self.assertEqual(write_outcome(replace(given, pos=0, neg=0)), Refused(10))
+            self.assertEqual(write_outcome(all_tests(replace(given, pos=0, neg=0))), Refused(10))
             crossings |= {(move.crosses(), move.difference) for move in stretch_moves(depot_map, remaining)}
         self.assertEqual(crossings, {(False, 400), (False, -400), (True, 400), (True, -400)})
 
@@ -509,6 +517,135 @@ class Meridian(CaseTests):
         plain = {move.end.longitude - move.start.longitude for _, case in labelled(self.write_cases, "refusal 10, half a circle")
                  for move in stretch_moves(read_map(case.given.map_bytes), case.given.lines)}
         self.assertLessEqual({17_999_999, 18_000_000, 18_000_001, -17_999_999, -18_000_000, -18_000_001}, plain)
+
+
+def legs_of_case(case):
+    """How many legs a case's stretch has after its offsets."""
+    return leg_count(len(lines_left(case.given)[1]))
+
+
+class NumbersOfTests(CaseTests):
+    """Numbers of tests, and the cases whose answers depend on them."""
+
+    @classmethod
+    def setUpClass(cls):
+        cls.best_found = cases.best_found_cases(1, BEST_FOUND_CASES)
+        cls.ordinary = [case for case in cases.write_cases(1, 340, left_out="full size") if lines_left(case.given) is not None]
+        cls.others = list(cases.with_other_tests("other tests", 1, cls.ordinary))
+
+    def found(self, recipe):
+        """The cases of a recipe, each with its outcome and the one that it has with tests for all legs and an ample buffer."""
+        made = [case for _, case in labelled(self.best_found, recipe)]
+        self.assertGreater(len(made), 10, recipe)
+        return [(case.given, case.expected, write_outcome(replace(all_tests(case.given), byte_room=459))) for case in made]
+
+    def test_every_label_occurs_and_every_promise_is_kept(self):
+        self.check_labels(self.best_found, cases.BEST_FOUND_RECIPES)
+        self.check_promises(self.best_found)
+
+    def test_ordinary_cases_have_tests_for_all_legs(self):
+        spare = [case.given.tests - legs_of_case(case) for case in self.ordinary]
+        self.assertEqual(min(spare), 0)
+        self.assertGreater(spare.count(0), len(spare) // 4)
+        self.assertIn(4_294_967_295, {case.given.tests for case in self.ordinary})
+        for case in self.ordinary:
+            self.assertEqual(case.expected, write_outcome(all_tests(case.given)), case.label)
+            self.assertNotEqual(case.expected, Refused(26))
+            self.assertEqual(getattr(case.expected, "excess", 0), 0)
+
+    def test_cases_refused_before_have_any_number(self):
+        refused = [case.given.tests for case in cases.write_cases(1, 340) if lines_left(case.given) is None]
+        self.assertLessEqual({0, 1, 4_294_967_295}, set(refused))
+
+    def test_the_same_calls_with_other_numbers(self):
+        self.assertEqual(len(self.others), len(self.ordinary))
+        kinds = Counter()
+        for case, other in zip(self.ordinary, self.others):
+            self.assertEqual(other.given, replace(case.given, tests=other.given.tests))
+            first = first_decided(*lines_left(case.given))
+            kinds["26"] += other.expected == Refused(26)
+            kinds["first without 26"] += other.given.tests == first
+            kinds["last with 26"] += other.given.tests == first - 1
+            kinds["no tests"] += other.given.tests == 0
+            kinds["accepted before all"] += isinstance(other.expected, StretchWritten) and other.given.tests < legs_of_case(case)
+            self.assertEqual(other.expected == Refused(26), other.given.tests < first, other.label)
+        self.assertEqual(len(kinds), 5)
+        self.assertGreater(min(kinds.values()), 10, kinds)
+
+    def test_numbers_up_to_the_widest(self):
+        rng = cases.random_source("any tests", 1, 0)
+        for lines in (1, 2, 5, 64):
+            numbers = {any_tests(rng, lines) for _ in range(2_000)}
+            count = leg_count(lines)
+            self.assertLessEqual({0, 1, lines - 1, lines, lines + 1, 2 * lines - 1, count - 1, count, count + 1, *WIDE_NUMBERS}, numbers)
+
+    def test_a_point_too_many(self):
+        for given, outcome, ordinary in self.found("a point too many"):
+            self.assertGreater(len(outcome.reference), len(ordinary.reference))
+            self.assertEqual((outcome.tests, ordinary.excess), (given.tests, 0))
+            self.assertGreaterEqual(7 * outcome.excess, len(outcome.reference) - len(ordinary.reference))
+
+    def test_excess_above_the_true_one(self):
+        for _, outcome, ordinary in self.found("an excess above the true one"):
+            self.assertGreater(7 * outcome.excess, len(outcome.reference) - len(ordinary.reference))
+
+    def test_excess_of_several_points(self):
+        # At most: 63 legs, where the leg of all lines is tested, and bad, and two would do.
+        seen = {(len(given.lines), legs_of_case(case) - given.tests, getattr(outcome, "excess", "refused"))
+                for (given, outcome, _), (_, case) in zip(self.found("an excess of several points"), labelled(self.best_found, "an excess of several points"))}
+        self.assertEqual(seen, {(lines, untested, excess) for lines in (4, 5, 9, 64) for untested, excess in ((0, 0), (1, lines - 3), (2, "refused"))})
+
+    def test_other_points_as_many(self):
+        for _, outcome, ordinary in self.found("other points, as many"):
+            self.assertEqual(len(outcome.reference), len(ordinary.reference))
+            self.assertNotEqual(outcome.reference, ordinary.reference)
+
+    def test_excess_with_skipped_lines(self):
+        for given, outcome, _ in self.found("an excess with skipped lines"):
+            self.assertGreater(outcome.excess, 0)
+            self.assertLess(len(lines_left(given)[1]), len(given.lines))
+
+    def test_ends_of_rows(self):
+        ends = {}
+        for given, outcome, _ in self.found("ends of rows of legs"):
+            count = len(given.lines)
+            rows = {row: sum(range(count, count - row, -1)) for row in range(1, count + 1)}
+            ends.setdefault(isinstance(outcome, StretchWritten), set()).update(given.tests - end for end in rows.values() if abs(given.tests - end) <= 1)
+        self.assertEqual(ends, {True: {-1, 0, 1}, False: {-1, 0, 1}})
+
+    def test_26_stands_above_11(self):
+        for recipe in ("refusal 26", "refusal 26, no tests", "refusal 26, where all tests give 10"):
+            self.assertEqual({given.byte_room for given, *_ in self.found(recipe)}, {0, 459})
+
+    def test_26_where_all_tests_give_10(self):
+        for recipe in ("refusal 26, where all tests give 10", "refusal 26, an untested leg too long"):
+            self.assertEqual({ordinary for *_, ordinary in self.found(recipe)}, {Refused(10)})
+
+    def test_10_before_all_tests(self):
+        for given, _, ordinary in self.found("refusal 10, before all tests"):
+            self.assertLess(given.tests, leg_count(len(given.lines)))
+            self.assertEqual(ordinary, Refused(10))
+
+    def test_11_where_all_tests_would_do(self):
+        for given, _, ordinary in self.found("refusal 11, with these tests"):
+            self.assertLessEqual(len(ordinary.reference), given.byte_room)
+            self.assertIsInstance(write_outcome(all_tests(given)), StretchWritten)
+
+    def test_bytes_exactly_enough(self):
+        for given, outcome, ordinary in self.found("byte buffer exactly long enough for these tests"):
+            self.assertEqual(len(outcome.reference), given.byte_room)
+            self.assertGreater(given.byte_room, len(ordinary.reference))
+            self.assertEqual(write_outcome(replace(given, byte_room=given.byte_room - 1)), Refused(11))
+
+    def test_calls_from_c(self):
+        # The number of tests stands behind the offsets.
+        rows = [(row.split(), answer.split()) for row, answer in write_calls(1, 300)]
+        self.assertEqual({len(words) for words, _ in rows}, {7})
+        self.assertLessEqual({"0", "1", "2080", "4294967295"}, {words[5] for words, _ in rows})
+        self.assertIn(["refused", "26"], [answer for _, answer in rows])
+        accepted = [answer for _, answer in rows if answer[0] == "bytes"]
+        self.assertEqual({(answer[2], answer[4], len(answer)) for answer in accepted}, {("tests", "excess", 7)})
+        self.assertGreater(sum(answer[5] != "0" for answer in accepted), 5)
 
 
 if __name__ == "__main__":

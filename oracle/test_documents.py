@@ -45,8 +45,9 @@ class LanguageForms(unittest.TestCase):
         section = page[page.index("## Language forms"):page.index("## Definitions")]
         rows = [row.split(" | ") for row in section.splitlines() if row.startswith('| "')]
         self.assertEqual(len(rows), 9)
-        self.assertEqual([row[2] for row in rows].count("later (02) |"), 2)
-        for _, _, places in rows[:7]:
+        later = [row for row in rows if row[2] == "later (02) |"]
+        self.assertEqual(len(later), 1)
+        for _, _, places in (row for row in rows if row not in later):
             for place in places.split("; "):
                 file_name, *names = re.findall(r"`([^`]+)`", place)
                 for name in names:

@@ -3,11 +3,12 @@
 import unittest
 from pathlib import Path
 
+from best_found import PENTAGON_FOUR_POINTS, PENTAGON_THREE_POINTS, pentagon
 from depot_map import map_to_bytes, read_map
 from drawn_steps import all_steps
 from fields import sector
-from format_page import format_page
-from outcome import Refused
+from format_page import Page, format_page
+from outcome import PointWritten, Refused, StretchWritten
 from sample_maps import ridge_map
 from test_points import HYDRANT
 from test_scope_paper import RIDGE, THREE_POINTS, THREE_POINTS_OFFSET_500, TWO_POINTS
@@ -25,13 +26,27 @@ class FormatPage(unittest.TestCase):
 
     def test_every_refusal_has_an_example(self):
         refused = {call.answer.number for call in PAGE.calls if isinstance(call.answer, Refused)}
-        self.assertEqual(refused, set(range(1, 26)))
+        self.assertEqual(refused, set(range(1, 27)))
 
     def test_every_refusal_of_points_has_an_example(self):
         for kind, expected in (("read point", {*range(12, 21)}), ("write point", {7, 9, 25, 10, 11})):
             refused = {call.answer.number for call in PAGE.calls if call.kind == kind and isinstance(call.answer, Refused)}
             self.assertEqual(refused & {*range(7, 23), 25}, expected)
             self.assertTrue(any(call.kind == kind and not isinstance(call.answer, Refused) for call in PAGE.calls))
+
+    def test_numbers_of_tests(self):
+        # The pentagon with too few tests, with a point too many, with all tests; and 11 with tests with which the reference is too long for a buffer.
+        self.assertEqual(PAGE.names["pentagon"], pentagon().map_bytes())
+        answers = {(call.numbers[2], call.answer) for call in PAGE.calls if call.map_bytes == pentagon().map_bytes()}
+        self.assertLessEqual({(0, Refused(26)), (8, Refused(26)), (9, StretchWritten(PENTAGON_FOUR_POINTS, 9, 1)), (9, Refused(11)),
+                              (10, StretchWritten(PENTAGON_THREE_POINTS, 10, 0))}, answers)
+
+    def test_26_turns_into_10(self):
+        refused = {}
+        for call in PAGE.calls:
+            if call.kind == "write" and isinstance(call.answer, Refused):
+                refused.setdefault((call.map_bytes, call.given), set()).add(call.answer.number)
+        self.assertTrue(any({10, 26} <= numbers for numbers in refused.values()))
 
     def test_point_on_the_ridge(self):
         self.assertEqual(PAGE.names["hydrant"], HYDRANT)
@@ -76,6 +91,39 @@ class FormatPage(unittest.TestCase):
     def test_commands_are_found(self):
         self.assertEqual(PAGE.commands[0].text, "mkdir -p target/by_hand")
         self.assertTrue(any(command.printed.startswith("reference 0B") for command in PAGE.commands))
+
+
+class FormOfTests(unittest.TestCase):
+    """How a page writes the number of tests, and what is answered of it."""
+
+    def calls(self, *rows):
+        names = f"    pentagon = {pentagon().map_bytes().hex().upper()}\n    long = {PENTAGON_FOUR_POINTS.hex().upper()}\n"
+        return Page(names + "".join(f"    {row}\n" for row in rows)).calls
+
+    def test_number_behind_the_offsets(self):
+        call, = self.calls("write pentagon lines 0 1 2 3 pos 5 tests 9 room 31 -> writes long tests 9 excess 1")
+        self.assertEqual((call.numbers, call.room, call.answer), ((5, 0, 9), 31, StretchWritten(PENTAGON_FOUR_POINTS, 9, 1)))
+        self.assertEqual(call.row().split()[3:], ["5", "0", "9", "31"])
+
+    def test_all_tests_where_none_are_given(self):
+        call, = self.calls("write pentagon lines 0 1 2 3 -> writes long")
+        self.assertEqual((call.numbers, call.answer), ((0, 0, 2_080), StretchWritten(PENTAGON_FOUR_POINTS, 10, 0)))
+        self.assertEqual(call.outcome(), StretchWritten(PENTAGON_THREE_POINTS, 10, 0))
+
+    def test_legs_of_what_remains(self):
+        call, = self.calls("write pentagon lines 0 1 2 3 pos 1000 neg 1000 tests 3 -> writes long")
+        self.assertEqual(call.answer, StretchWritten(PENTAGON_FOUR_POINTS, 3, 0))
+
+    def test_tests_and_excess_are_not_left_out_before_all_tests(self):
+        with self.assertRaises(ValueError):
+            self.calls("write pentagon lines 0 1 2 3 tests 9 -> writes long")
+
+    def test_points_have_no_tests(self):
+        call, = self.calls("write point pentagon line 0 -> writes long")
+        self.assertEqual(call.answer, PointWritten(PENTAGON_FOUR_POINTS))
+        for row in ("write point pentagon line 0 tests 1 -> writes long", "write point pentagon line 0 -> writes long tests 1 excess 0"):
+            with self.assertRaises(ValueError):
+                self.calls(row)
 
 
 if __name__ == "__main__":

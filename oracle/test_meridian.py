@@ -9,13 +9,13 @@ from depot_map import DepotMap, Line, Node, map_to_bytes, read_map
 from drawn_steps import EASTWARD, NORTHWARD, WESTWARD
 from fields import brought_round, code_pair, differences, differences_fit
 from meridian_recipes import reference_across
-from outcome import Refused, RefusedCall, ReferenceWritten, StretchRead
+from outcome import Refused, RefusedCall, StretchRead, StretchWritten
 from read_recipes import composed_from
 from reader import read
 from reference import take_apart
 from sample_maps import (FIRST_BEHIND, LAST_BEFORE, SMALL_SAMPLES, MapBuilder, Sample, across_meridian, full_sample, lies_across, random_walk, ridge_map,
                          sample_across, shifted, with_bans)
-from test_scope_paper import THREE_POINTS, THREE_POINTS_OFFSET_500, TWO_POINTS, WORK
+from test_scope_paper import THREE_POINTS, THREE_POINTS_OFFSET_500, TWO_POINTS, WORK, all_tested
 from write_recipes import edge_offsets
 from writer import skip_lines, write
 
@@ -118,12 +118,12 @@ class RidgeAcross(unittest.TestCase):
     def test_only_the_first_points_code_is_another(self):
         written = bytes.fromhex("0B 7FFE2E 000000 1B 68 01 03E8 0000 1B 68 01 03E8 0000 1B 18")
         self.assertEqual(written, from_the_ridge_across(THREE_POINTS))
-        self.assertEqual(write(RIDGE_ACROSS, [0, 1], 0, 0, WORK, 23), ReferenceWritten(written))
+        self.assertEqual(write(RIDGE_ACROSS, [0, 1], 0, 0, WORK, 23), all_tested(written, 2))
         self.assertEqual(read(RIDGE_ACROSS, written, WORK, 2), StretchRead((0, 1), *NO_OFFSETS))
 
     def test_offset(self):
         written = from_the_ridge_across(THREE_POINTS_OFFSET_500)
-        self.assertEqual(write(RIDGE_ACROSS, [0, 1], 500, 0, WORK, 24), ReferenceWritten(written))
+        self.assertEqual(write(RIDGE_ACROSS, [0, 1], 500, 0, WORK, 24), all_tested(written, 2))
         self.assertEqual(read(RIDGE_ACROSS, written, WORK, 2), StretchRead((0, 1), (499, 501), (0, 0)))
 
     def test_tie(self):
@@ -131,7 +131,7 @@ class RidgeAcross(unittest.TestCase):
 
     def test_turn_banned(self):
         map_bytes = map_to_bytes(shifted(ridge_map((0, 2)), 17_999_000))
-        self.assertEqual(write(map_bytes, [0, 1], 0, 0, WORK, 16), ReferenceWritten(from_the_ridge_across(TWO_POINTS)))
+        self.assertEqual(write(map_bytes, [0, 1], 0, 0, WORK, 16), all_tested(from_the_ridge_across(TWO_POINTS), 2))
         self.assertEqual(write(map_bytes, [0, 2, 3], 0, 0, WORK, 459), Refused(21))
 
     def test_it_could_not_be_written_or_read(self):
@@ -151,7 +151,7 @@ class Writer(unittest.TestCase):
         there = bytes.fromhex("0B 7FFFFF 000000 1B 68 01 0002 0000 1B 18")
         back = bytes.fromhex("0B 800000 000000 1B 78 01 FFFE 0000 1B 08")
         for line, written in ((0, there), (1, back)):
-            self.assertEqual(self.write_line(depot_map, line), ReferenceWritten(written))
+            self.assertEqual(self.write_line(depot_map, line), all_tested(written, 1))
             self.assertEqual(read(map_to_bytes(depot_map), written, WORK, 1), StretchRead((line,), *NO_OFFSETS))
             with plain_differences():
                 self.assertEqual(self.write_line(depot_map, line), Refused(10))
@@ -179,7 +179,7 @@ class Writer(unittest.TestCase):
         # Far apart in plain longitude, and the same bytes as before: one leg from a node to itself.
         map_bytes = map_to_bytes(road((-18_000_000, 0), (0, 0)))
         written = write(map_bytes, [0, 1], 0, 0, WORK, 16)
-        self.assertEqual(written, ReferenceWritten(bytes.fromhex("0B 800000 000000 1B 68 03 0000 0000 1B 08")))
+        self.assertEqual(written, all_tested(bytes.fromhex("0B 800000 000000 1B 68 03 0000 0000 1B 08"), 2))
         with plain_differences():
             self.assertEqual(write(map_bytes, [0, 1], 0, 0, WORK, 16), written)
 
@@ -334,7 +334,7 @@ class WhatStays(unittest.TestCase):
         for _ in range(400):
             sample = any_sample_anywhere(rng)
             written = write(map_to_bytes(sample.depot_map), sample.stretch, 0, 0, WORK, 459)
-            if isinstance(written, ReferenceWritten):
+            if isinstance(written, StretchWritten):
                 outcome = read(map_to_bytes(sample.depot_map), written.reference, WORK, 64)
                 self.assertEqual(outcome, StretchRead(sample.stretch, *NO_OFFSETS))
                 across += plainly_apart(sample.depot_map, sample.stretch) >= HALF_CIRCLE
@@ -376,7 +376,7 @@ class ShiftedMaps(unittest.TestCase):
             depot_map, moved = sample.depot_map, across_meridian(sample.depot_map)
             pos, neg = edge_offsets(rng, depot_map, sample.stretch)
             outcome = write(map_to_bytes(depot_map), sample.stretch, pos, neg, WORK, 459)
-            if isinstance(outcome, ReferenceWritten):
+            if isinstance(outcome, StretchWritten):
                 accepted += 1
                 read_there = read(map_to_bytes(moved), reference_across(depot_map, moved, outcome.reference), WORK, 64)
                 self.assertEqual(read_there, read(map_to_bytes(depot_map), outcome.reference, WORK, 64))

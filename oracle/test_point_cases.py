@@ -17,7 +17,7 @@ from crossings import stretch_moves
 from depot_map import DepotMap, map_to_bytes, read_map
 from fields import differences
 from legs import LegSearch, list_length
-from outcome import PointRead, Refused, ReferenceWritten
+from outcome import PointRead, PointWritten, Refused
 from point_along_line import read_point, write_point
 from point_read_recipes import FIELD_POSITIONS, R_POSITION, point_read_outcome
 from point_write_recipes import point_write_outcome
@@ -61,7 +61,7 @@ class Generator(CaseTests):
         for plain, across in ((cases.point_read_cases, cases.point_read_cases_across), (cases.point_write_cases, cases.point_write_cases_across)):
             for case, shifted_case in zip(plain(1, 100), across(1, 100)):
                 expected, shifted_expected = case.expected, shifted_case.expected
-                if isinstance(expected, ReferenceWritten):
+                if isinstance(expected, PointWritten):
                     expected, shifted_expected = (outcome.reference[4:] for outcome in (expected, shifted_expected))
                 self.assertEqual(shifted_expected, expected, case.label)
 
@@ -252,7 +252,7 @@ class StoredPoints(unittest.TestCase):
             if call.depot_map.bans and call.refusal() in outcomes and len(call.depot_map.lines) < 100:
                 outcomes[call.refusal()].append(write_point(self.without_bans(call), call.line, call.offset, 0, 0, LEAST_WORK_LENGTH, 17))
         self.assertGreater(outcomes[None].count(Refused(10)), 4)
-        self.assertGreater(sum(isinstance(outcome, ReferenceWritten) for outcome in outcomes[10]), 4)
+        self.assertGreater(sum(isinstance(outcome, PointWritten) for outcome in outcomes[10]), 4)
 
     def test_parallel_lines(self):
         # By the fields in which two lines differ that join the same nodes. D is 1 for 1,000 and 1,171.

@@ -14,7 +14,7 @@ from depot_map import DepotMap, Line, Node, map_to_bytes, read_map
 from drawn_steps import EASTWARD, NORTHWARD, WESTWARD
 from fields import coordinate_code, distance_byte, offset_byte, sector
 from legs import describe_leg, readings_by_enumeration
-from outcome import PointRead, Refused, ReferenceWritten, outcome_text
+from outcome import PointRead, PointWritten, Refused, outcome_text
 from point_along_line import bytes_of_point, read_point, write_point
 from point_read_recipes import point_read_outcome, point_that_is_read
 from point_write_recipes import point_on
@@ -42,7 +42,7 @@ class HydrantOnTheRidge(unittest.TestCase):
         # P: orientation 0, FRC 3 and FOW 3 are 8 x 3 + 3, 1B. Q: lowest class 3 and sector 0 are 32 x 3, 60. D: 500 / 586 is 0.
         # Differences 0 and 1000: 0000 03E8. P: side 1, 64 + 1B, 5B. R: positive flag 40 and sector 16 of (0, -200), 10, together 50.
         # 256 x 120 / 500 is 61.44; 61 is 3D.
-        self.assertEqual(write_point(RIDGE, LINE_2, 120, 0, 1, WORK, 17), ReferenceWritten(HYDRANT))
+        self.assertEqual(write_point(RIDGE, LINE_2, 120, 0, 1, WORK, 17), PointWritten(HYDRANT))
 
     def test_read_back(self):
         # Byte 61: 60.5 x 500 / 256 is 118.2 and 61.5 x 500 / 256 is 120.1.
@@ -53,7 +53,7 @@ class HydrantOnTheRidge(unittest.TestCase):
     def test_at_the_start_of_the_line(self):
         # No flag and no byte: R is the sector alone.
         start = HYDRANT[:R] + b"\x10"
-        self.assertEqual(write_point(RIDGE, LINE_2, 0, 0, 1, WORK, 16), ReferenceWritten(start))
+        self.assertEqual(write_point(RIDGE, LINE_2, 0, 0, 1, WORK, 16), PointWritten(start))
         self.assertEqual(read_point(RIDGE, start, WORK, 1), PointRead((LINE_2,), (0, 0), 0, 1))
 
     def test_point_along_two_lines(self):
@@ -78,7 +78,7 @@ class HydrantOnTheRidge(unittest.TestCase):
         for line, text in ((LINE_0, "2B 000000 000000 9B 68 01 03E8 0000 DB 58 1F"), (LINE_1, "2B 0001D2 000000 9B 68 01 03E8 0000 DB 58 1F"),
                            (LINE_3, "2B 0001D2 0001D2 9B 6C 00 03E8 FC18 DB 58 3D")):
             for map_bytes in (RIDGE, banned):
-                self.assertEqual(write_point(map_bytes, line, 120, 2, 3, WORK, 17), ReferenceWritten(bytes.fromhex(text)))
+                self.assertEqual(write_point(map_bytes, line, 120, 2, 3, WORK, 17), PointWritten(bytes.fromhex(text)))
 
     def test_texts(self):
         written = write_point(RIDGE, LINE_2, 120, 0, 1, WORK, 17)
@@ -148,7 +148,7 @@ class WhitePaper(unittest.TestCase):
         map_bytes = map_to_bytes(DepotMap(EXAMPLE_NODES, (line,)))
         of_the_equation = changed(EXAMPLE, 3, 0x9F)
         expected = changed(of_the_equation, OFFSET, 0x4E)
-        self.assertEqual(write_point(map_bytes, 0, EXAMPLE_OFFSET, 0, 2, WORK, 17), ReferenceWritten(expected))
+        self.assertEqual(write_point(map_bytes, 0, EXAMPLE_OFFSET, 0, 2, WORK, 17), PointWritten(expected))
         # 77.5 x 920 / 256 is 278.5 and 78.5 x 920 / 256 is 282.1: the white paper's 280 is among them.
         self.assertEqual(read_point(map_bytes, expected, WORK, 1), PointRead((0,), (279, 282), 0, 2))
         # Its own byte, 77: 76.5 x 920 / 256 is 274.9, up to the same 278.5. Among them is what 13.2.3 reads, "27.8 meter", and no longer the 28 m that it
@@ -172,10 +172,10 @@ class Sentences(unittest.TestCase):
 
     def test_orientation_and_side_in_bits_7_and_6(self):
         # Byte 64 on 1000: 63.5 x 1000 / 256 is 248.05 and 64.5 x 1000 / 256 is 251.95.
-        self.assertEqual(write_point(ROW_BYTES, 0, 250, 1, 2, WORK, 17), ReferenceWritten(ROW_POINT))
+        self.assertEqual(write_point(ROW_BYTES, 0, 250, 1, 2, WORK, 17), PointWritten(ROW_POINT))
         for orientation, side in itertools.product(range(4), repeat=2):
             expected = changed(changed(ROW_POINT, FIRST_P, 64 * orientation + 0x1B), LAST_P, 64 * side + 0x1B)
-            self.assertEqual(write_point(ROW_BYTES, 0, 250, orientation, side, WORK, 17), ReferenceWritten(expected))
+            self.assertEqual(write_point(ROW_BYTES, 0, 250, orientation, side, WORK, 17), PointWritten(expected))
             self.assertEqual(read_point(ROW_BYTES, expected, WORK, 1), PointRead((0,), (249, 251), orientation, side))
 
     def test_negative_flag_must_be_0(self):
@@ -193,7 +193,7 @@ class Sentences(unittest.TestCase):
         nodes = (Node(17_999_998, 0), Node(-18_000_000, 0))
         map_bytes = map_to_bytes(DepotMap(nodes, (Line(0, 1, 20, 3, 3, EASTWARD, WESTWARD),)))
         written = write_point(map_bytes, 0, 5, 0, 3, WORK, 17)
-        self.assertEqual(written, ReferenceWritten(bytes.fromhex("2B 7FFFFF 000000 1B 68 00 0002 0000 DB 58 40")))
+        self.assertEqual(written, PointWritten(bytes.fromhex("2B 7FFFFF 000000 1B 68 00 0002 0000 DB 58 40")))
         self.assertEqual(read_point(map_bytes, written.reference, WORK, 1), PointRead((0,), (5, 5), 0, 3))
 
     def test_10_where_the_line_is_not_the_only_reading(self):
@@ -211,9 +211,9 @@ class Sentences(unittest.TestCase):
         # Least is among lists with the same first and last line: the line alone is one, 1 and 2 another, as long and with the same marks at both ends.
         way = ((0, 2, 1000), (0, 1, 400), (1, 2, 600))
         self.assertEqual(write_point(map_to_bytes(row_map(*way)), 0, 0, 0, 0, WORK, 17), Refused(10))
-        self.assertIsInstance(write_point(map_to_bytes(row_map(*way, bans=((1, 2),))), 0, 0, 0, 0, WORK, 17), ReferenceWritten)
+        self.assertIsInstance(write_point(map_to_bytes(row_map(*way, bans=((1, 2),))), 0, 0, 0, 0, WORK, 17), PointWritten)
         # And a shorter way does not matter where D tells it apart, since it has another first line.
-        self.assertIsInstance(write_point(map_to_bytes(row_map((0, 2, 1000), (0, 1, 200), (1, 2, 300))), 0, 0, 0, 0, WORK, 17), ReferenceWritten)
+        self.assertIsInstance(write_point(map_to_bytes(row_map((0, 2, 1000), (0, 1, 200), (1, 2, 300))), 0, 0, 0, 0, WORK, 17), PointWritten)
 
     def test_reading_hands_back_several_lines(self):
         count = 40
@@ -331,18 +331,18 @@ class OrderOfRefusals(unittest.TestCase):
             self.assertEqual(write_point(ROW_BYTES, 0, 1_000, *marks, WORK, 17), Refused(9))
             self.assertEqual(write_point(ROW_BYTES, 2, 0, *marks, WORK, 17), Refused(7))
             self.assertEqual(write_point(ROW_BYTES, 0, 0, *marks, WORK, 0), Refused(25))
-        self.assertIsInstance(write_point(ROW_BYTES, 0, 999, 3, 3, WORK, 17), ReferenceWritten)
+        self.assertIsInstance(write_point(ROW_BYTES, 0, 999, 3, 3, WORK, 17), PointWritten)
 
     def test_11_by_the_length_that_the_offset_asks_for(self):
         for offset, length in ((0, 16), (1, 17)):
             self.assertEqual(write_point(ROW_BYTES, 0, offset, 0, 0, WORK, length - 1), Refused(11))
-            self.assertIsInstance(write_point(ROW_BYTES, 0, offset, 0, 0, WORK, length), ReferenceWritten)
+            self.assertIsInstance(write_point(ROW_BYTES, 0, offset, 0, 0, WORK, length), PointWritten)
 
 
 def written_and_read(given):
     """What is written, and what reading it with room for one line gives; None where the writer refuses."""
     written = write_point(given.map_bytes, given.line, given.offset, given.orientation, given.side, WORK, 17)
-    return written, read_point(given.map_bytes, written.reference, WORK, 1) if isinstance(written, ReferenceWritten) else None
+    return written, read_point(given.map_bytes, written.reference, WORK, 1) if isinstance(written, PointWritten) else None
 
 
 class ReadBack(unittest.TestCase):
@@ -416,7 +416,7 @@ class ByTheDefinition(unittest.TestCase):
             line = rng.randrange(len(depot_map.lines))
             readings = readings_by_enumeration(depot_map, describe_leg(depot_map, (line,), True))
             outcome = write_point(map_bytes, line, 0, 0, 0, WORK, 17)
-            self.assertEqual(isinstance(outcome, ReferenceWritten), readings == [(line,)])
+            self.assertEqual(isinstance(outcome, PointWritten), readings == [(line,)])
             found["written" if readings == [(line,)] else outcome.number] += 1
             self.check_reading(rng, depot_map, map_bytes, found)
         self.assertGreater(min(found.values()), 50, found)

@@ -7,12 +7,12 @@ from depot_map import DepotMap, Line, Node, map_to_bytes
 from drawn_steps import EASTWARD, WESTWARD
 from fields import offset_span_by_trying
 from legs import list_length, readings_by_enumeration
-from outcome import ReferenceWritten, StretchRead
+from outcome import StretchRead, StretchWritten
 from reader import legs_of, point_nodes, read
 from reference import take_apart
 from sample_maps import SMALL_SAMPLES, dense_sample, full_sample, random_walk
 from test_legs import random_tiny_map
-from test_scope_paper import WORK, row_map
+from test_scope_paper import WORK, all_tested, row_map
 from write_recipes import WriteInput, edge_offsets, write_outcome
 from writer import choose_points, skip_lines, write
 
@@ -26,7 +26,7 @@ class RoundTrips(unittest.TestCase):
         """True if the writer accepts; then what is read must be what is left."""
         given = WriteInput(map_to_bytes(depot_map), lines, pos, neg)
         written = write_outcome(given)
-        if not isinstance(written, ReferenceWritten):
+        if not isinstance(written, StretchWritten):
             return False
         remaining, pos_left, neg_left = skip_lines(depot_map, lines, pos, neg)
         outcome = read(given.map_bytes, written.reference, WORK, len(remaining))
@@ -71,7 +71,7 @@ class RoundTrips(unittest.TestCase):
             depot_map = random_tiny_map(rng, 4, 7)
             lines = random_walk(rng, depot_map, rng.randrange(1, 6))
             written = write(map_to_bytes(depot_map), lines, 0, 0, WORK, 459)
-            if isinstance(written, ReferenceWritten):
+            if isinstance(written, StretchWritten):
                 reference = take_apart(written.reference)
                 legs = legs_of(reference, point_nodes(depot_map, reference))
                 lists = [readings_by_enumeration(depot_map, leg) for leg in legs]
@@ -126,7 +126,7 @@ class OffsetsOfOneSpan(unittest.TestCase):
         good = bytes.fromhex("0B 000000 000000 1B 68 01 03E8 0000 1B")
         for pos, neg, end in ((1, 0, "58 00"), (0, 1, "38 00"), (1, 1, "78 00 00"), (0, 0, "18")):
             written = write(map_bytes, [0], pos, neg, WORK, 18)
-            self.assertEqual(written, ReferenceWritten(good + bytes.fromhex(end)))
+            self.assertEqual(written, all_tested(good + bytes.fromhex(end), 1))
             self.assertEqual(read(map_bytes, written.reference, WORK, 1), StretchRead((0,), (pos, pos), (neg, neg)))
 
     def test_sums_of_offsets_next_to_the_total(self):

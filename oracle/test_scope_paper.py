@@ -10,7 +10,7 @@ from depot_map import DepotMap, Line, Node, Steps, map_to_bytes, read_map
 from drawn_steps import EASTWARD, NORTHWARD, SOUTHWARD, WESTWARD
 from fields import sector
 from legs import LegSearch, Marks, Leg
-from outcome import Refused, ReferenceWritten, StretchRead, outcome_text
+from outcome import Refused, StretchRead, StretchWritten, outcome_text
 from reader import read
 from reference import put_together
 from writer import reference_of_legs, write
@@ -32,12 +32,17 @@ def row_map(*lines, bans=()):
     return DepotMap(nodes, tuple(Line(start, end, length, 3, 3, EASTWARD, WESTWARD) for start, end, length in lines), tuple(bans))
 
 
+def all_tested(reference, line_count):
+    """What the writer answers where it may make all tests: one for each leg of the lines that remain, and an excess of 0."""
+    return StretchWritten(reference, line_count * (line_count + 1) // 2, 0)
+
+
 class TieAtTheRidge(unittest.TestCase):
     def test_stretch_takes_three_points(self):
-        self.assertEqual(write(RIDGE, [0, 1], 0, 0, WORK, 23), ReferenceWritten(THREE_POINTS))
+        self.assertEqual(write(RIDGE, [0, 1], 0, 0, WORK, 23), all_tested(THREE_POINTS, 2))
 
     def test_positive_offset_500(self):
-        self.assertEqual(write(RIDGE, [0, 1], 500, 0, WORK, 24), ReferenceWritten(THREE_POINTS_OFFSET_500))
+        self.assertEqual(write(RIDGE, [0, 1], 500, 0, WORK, 24), all_tested(THREE_POINTS_OFFSET_500, 2))
 
     def test_program_prints_the_reading(self):
         # Byte 128 on 1000: 127.5 x 1000 / 256 is 498.05 and 128.5 x 1000 / 256 is 501.95.
@@ -58,14 +63,14 @@ class TieAtTheRidge(unittest.TestCase):
         self.assertEqual(outcome_text(read(b"", THREE_POINTS, WORK, 1024)), "refused 2")
         written = write(RIDGE, [0, 1], 0, 0, WORK, 23)
         self.assertEqual(outcome_text(written),
-                         "bytes 23\n0B0000000000001B680103E800001B680103E800001B18")
+                         "bytes 23 tests 3 excess 0\n0B0000000000001B680103E800001B680103E800001B18")
 
     def test_way_over_the_ridge_takes_three_points_too(self):
         # With two points both ways fit here too. The first leg with most lines is 0, 2, and then comes 3.
         # Q of the first point: lowest class 3, sector 8. D of 1500 is 2. The last leg is 500 long, D is 0;
         # line 3 leaves to the south-east, sector 12, and arrives from just north of west, sector 24.
         expected = bytes.fromhex("0B 000000 000000 1B 68 02 03E8 03E8 1B 6C 00 03E8 FC18 1B 18")
-        self.assertEqual(write(RIDGE, [0, 2, 3], 0, 0, WORK, 100), ReferenceWritten(expected))
+        self.assertEqual(write(RIDGE, [0, 2, 3], 0, 0, WORK, 100), all_tested(expected, 3))
 
 
 class AtTheEdges(unittest.TestCase):
@@ -82,7 +87,7 @@ class AtTheEdges(unittest.TestCase):
         # 256 x 1 / 512 is exactly a half. Byte 1 on 512 then goes up to 2, since 256 x 3 / 512 is 1.5, which gives 2.
         depot_map = map_to_bytes(row_map((0, 1, 512)))
         reference = bytes.fromhex("0B 000000 000000 1B 68 00 03E8 0000 1B 58 01")
-        self.assertEqual(write(depot_map, [0], 1, 0, WORK, 17), ReferenceWritten(reference))
+        self.assertEqual(write(depot_map, [0], 1, 0, WORK, 17), all_tested(reference, 1))
         self.assertEqual(read(depot_map, reference, WORK, 1), StretchRead((0,), (1, 2), (0, 0)))
 
     def test_byte_1_on_a_leg_of_100(self):
@@ -119,7 +124,7 @@ class WaysToGoWrong(unittest.TestCase):
         depot_map = row_map((0, 1, 100), (1, 2, 100), (1, 2, 500), (2, 3, 50))
         map_bytes = map_to_bytes(depot_map)
         two_points = bytes.fromhex("0B 000000 000000 1B 68 00 0BB8 0000 1B 18")
-        self.assertEqual(write(map_bytes, [0, 1, 3], 0, 0, WORK, 16), ReferenceWritten(two_points))
+        self.assertEqual(write(map_bytes, [0, 1, 3], 0, 0, WORK, 16), all_tested(two_points, 3))
         self.assertEqual(read(map_bytes, two_points, WORK, 3), StretchRead((0, 1, 3), (0, 0), (0, 0)))
         a_point_each = put_together(reference_of_legs(depot_map, [(0,), (1,), (3,)], 0, 0))
         self.assertEqual(read(map_bytes, a_point_each, WORK, 3), Refused(18, 1))
@@ -129,7 +134,7 @@ class WaysToGoWrong(unittest.TestCase):
         depot_map = DepotMap((Node(-2, -100_000), Node(1000, -100_000)), (Line(0, 1, 1000, 3, 3, EASTWARD, WESTWARD),))
         # -2 has the code -1 and -100,000 has the code -46,603, FF49F5 in 24 bits.
         expected = bytes.fromhex("0B FFFFFF FF49F5 1B 68 01 03EA 0000 1B 18")
-        self.assertEqual(write(map_to_bytes(depot_map), [0], 0, 0, WORK, 16), ReferenceWritten(expected))
+        self.assertEqual(write(map_to_bytes(depot_map), [0], 0, 0, WORK, 16), all_tested(expected, 1))
         self.assertEqual(read(map_to_bytes(depot_map), expected, WORK, 1), StretchRead((0,), (0, 0), (0, 0)))
 
     def test_negative_offset_is_measured_against_the_last_leg(self):
@@ -138,10 +143,10 @@ class WaysToGoWrong(unittest.TestCase):
         written = write(map_bytes, [0, 1], 0, 15_000, WORK, 24)
         # D: 100,000 / 586 is 170, AA; 60,000 / 586 is 102, 66.
         expected = bytes.fromhex("0B 000000 000000 1B 68 AA 03E8 0000 1B 68 66 03E8 0000 1B 38 40")
-        self.assertEqual(written, ReferenceWritten(expected))
+        self.assertEqual(written, all_tested(expected, 2))
         # A positive offset of 15,000 comes first: 256 x 15,000 / 100,000 is 38.4; 38 is 26 in hexadecimal.
         both = write(map_bytes, [0, 1], 15_000, 15_000, WORK, 25)
-        self.assertEqual(both, ReferenceWritten(expected[:-2] + bytes.fromhex("78 26 40")))
+        self.assertEqual(both, all_tested(expected[:-2] + bytes.fromhex("78 26 40"), 2))
         # 63.5 x 60,000 / 256 is 14,882.8 and 64.5 x 60,000 / 256 is 15,117.2.
         self.assertEqual(read(map_bytes, expected, WORK, 2), StretchRead((0, 1), (0, 0), (14_883, 15_117)))
 

@@ -5,11 +5,10 @@ import unittest
 from pathlib import Path
 
 from depot_map import map_to_bytes
-from outcome import ReferenceWritten
 from sample_maps import ridge_map
 from show import shown
 from test_points import HYDRANT
-from test_scope_paper import RIDGE, THREE_POINTS_OFFSET_500, TWO_POINTS, WORK
+from test_scope_paper import RIDGE, THREE_POINTS_OFFSET_500, TWO_POINTS, WORK, all_tested
 from writer import write
 
 ROOT = Path(__file__).parent.parent
@@ -52,7 +51,7 @@ class RidgeExampleWithABan(unittest.TestCase):
 class IslandsExample(unittest.TestCase):
     def test_reference_is_the_writers(self):
         reference = (ISLANDS_FOLDER / "ref.bin").read_bytes()
-        self.assertEqual(write((ISLANDS_FOLDER / "map.bin").read_bytes(), (0, 1, 2), 0, 0, WORK, 16), ReferenceWritten(reference))
+        self.assertEqual(write((ISLANDS_FOLDER / "map.bin").read_bytes(), (0, 1, 2), 0, 0, WORK, 16), all_tested(reference, 3))
 
     def test_printed(self):
         self.assertEqual(shown(ISLANDS_FOLDER), "lines 3 pos 0 0 neg 0 0\n0\n1\n2")

@@ -8,12 +8,12 @@ from depot_map import DepotMap, Line, Node, Steps, map_to_bytes, read_map
 from drawn_steps import EASTWARD, WESTWARD, all_steps, redrawn, steps_at_edges, turned
 from fields import edge_tangents, sector
 from legs import Marks, marks_arriving, marks_leaving
-from outcome import Refused, ReferenceWritten, StretchRead, outcome_text
+from outcome import Refused, StretchRead, StretchWritten, outcome_text
 from reader import read
 from recipes import any_sample
 from sample_maps import SMALL_SAMPLES
 from test_depot_map import NO_BANS, TWO_NODES, refusal_of_hex
-from test_scope_paper import THREE_POINTS, WORK
+from test_scope_paper import THREE_POINTS, WORK, all_tested
 from writer import write
 
 LENGTHS = range(1, 251)
@@ -226,7 +226,7 @@ class Comparison(unittest.TestCase):
         """Each line is written as its reference, and read back."""
         for line, text in enumerate(references):
             reference = bytes.fromhex(text)
-            self.assertEqual(write(map_bytes, [line], 0, 0, WORK, 16), ReferenceWritten(reference))
+            self.assertEqual(write(map_bytes, [line], 0, 0, WORK, 16), all_tested(reference, 1))
             self.assertEqual(read(map_bytes, reference, WORK, 1), StretchRead((line,), (0, 0), (0, 0)))
 
     def test_steps_out_of_neighbouring_sectors(self):
@@ -255,7 +255,7 @@ class Comparison(unittest.TestCase):
             self.assertNotEqual(other, sample.depot_map)
             written, written_on_other = (write(map_to_bytes(depot_map), sample.stretch, 1, 1, WORK, 459) for depot_map in (sample.depot_map, other))
             self.assertEqual(written, written_on_other)
-            if isinstance(written, ReferenceWritten):
+            if isinstance(written, StretchWritten):
                 accepted += 1
                 self.assertIsInstance(read(map_to_bytes(other), written.reference, WORK, 64), StretchRead)
         self.assertGreater(accepted, 80)

@@ -1,5 +1,5 @@
-"""The stored cases of the test programs: every answer occurs, full-size maps with bans of each kind, the edges of the 180th meridian, those of sectors and
-those of offset bytes.
+"""The stored cases of the test programs: every answer occurs, full-size maps with bans of each kind, the edges of the 180th meridian, those of sectors, those
+of offset bytes and those of the number of tests.
 
 That pack.py makes them is asked by its --check. What else is asked of points along a line is in test_point_cases.py.
 """
@@ -16,22 +16,26 @@ from cases import map_outcome
 from check_plain import cases_on_maps, in_groups, numbers_in, parts_of
 from crossings import reading_moves, stretch_moves
 from damages import LINE_NUMBERS, STEP_FIELDS, STEP_PAIRS
-from depot_map import read_map, read_number
+from depot_map import LARGEST_NUMBER, DepotMap, read_number
 from drawn_steps import ENDS_OF_RANGE, steps_at_edges
 from fields import LONGEST_LEG, offset_byte, offset_span, sector
 from legs import list_length
-from outcome import Refused, RefusedCall
-from pack import CRATES, MOST_CASE_BYTES, PROGRAMS
+from numbers_of_tests import leg_count, lines_left
+from outcome import Refused, RefusedCall, StretchWritten
+from pack import CRATES, MOST_CASE_BYTES, PROGRAMS, number_sum
 from reader import leg_lists, legs_of, point_nodes
 from reference import take_apart
 from roundings import EVERY_ROUNDING, roundings
 from sample_maps import FIRST_BEHIND, LAST_BEFORE, lies_across
-from writer import choose_points, skip_lines
+from write_recipes import AMPLE_BYTES, WriteInput, write_outcome
+from writer import ALL_TESTS, choose_points, skip_lines
 
 STEPS = ("steps_out", "steps_back")
 NORTH_STEPS = {north for _, north in STEP_PAIRS.values()}
 MAP_REFUSALS = {2, 3, 4, 5, 6, 23, 24}
 FEW_LINES = 8
+# Maps on which writings are made again with tests for all legs.
+MOST_LINES_TESTED_AGAIN = 16
 PARTS_OF_A_CASE = {"test_maps": 1, "test_legs": 2, "test_reads": 3, "test_writes": 3, "test_points": 3}
 
 
@@ -69,7 +73,7 @@ class StoredCases(unittest.TestCase):
         self.check_answers("test_maps", MAP_REFUSALS, {"nodes"})
         self.check_answers("test_legs", set(), {"none", "one", "several"})
         self.check_answers("test_reads", {1, *MAP_REFUSALS, *range(12, 21), 22}, {"lines"})
-        self.check_answers("test_writes", {1, *MAP_REFUSALS, *range(7, 12), 21}, {"bytes"})
+        self.check_answers("test_writes", {1, *MAP_REFUSALS, *range(7, 12), 21, 26}, {"bytes"})
         self.check_answers("test_points", {1, *MAP_REFUSALS, 7, *range(9, 21), 25}, {"lines", "bytes"})
 
     def test_every_program_is_asked_and_held_to_plain_rust(self):
@@ -117,6 +121,31 @@ def calls_on_good_maps(name):
             yield depot_map, subject, row
 
 
+class StoredWriting(NamedTuple):
+    """A stored call of the writer on a map that is not refused, and its row."""
+    depot_map: DepotMap
+    given: WriteInput
+    row: str
+
+    def is_accepted(self):
+        return self.row.startswith("bytes")
+
+    def refusal(self):
+        return None if self.is_accepted() else int(self.row.split()[1])
+
+    def tests_and_excess(self):
+        """What an accepted row says of them."""
+        return tuple(int(number) for number in re.match(r"bytes \d+ tests (\d+) excess (\d+) sum", self.row).groups())
+
+
+def stored_writings():
+    for (map_bytes, stretch, numbers), row in zip(cases_on_maps(parts_of(case_bytes("test_writes"))), rows("test_writes")):
+        depot_map = map_outcome(map_bytes)
+        if not isinstance(depot_map, Refused):
+            pos, neg, tests, work_length, byte_room = numbers
+            yield StoredWriting(depot_map, WriteInput(map_bytes, tuple(numbers_in(stretch)), pos, neg, work_length, byte_room, tests), row)
+
+
 class AcrossTheMeridian(unittest.TestCase):
     @classmethod
     def setUpClass(cls):
@@ -129,7 +158,7 @@ class AcrossTheMeridian(unittest.TestCase):
             except RefusedCall:
                 continue
         cls.crossings = [move for move in cls.moves if move.crosses()]
-        cls.writes = [(depot_map, numbers_in(stretch), row) for depot_map, stretch, row in calls_on_good_maps("test_writes")]
+        cls.writes = [(writing.depot_map, writing.given.lines, writing.row) for writing in stored_writings()]
 
     def answers_on_maps_across(self, calls):
         """Refusals, and the first word of other rows."""
@@ -138,7 +167,7 @@ class AcrossTheMeridian(unittest.TestCase):
 
     def test_answers_on_maps_across(self):
         self.assertLessEqual({1, *range(12, 21), 22, "lines"}, self.answers_on_maps_across(self.reads))
-        self.assertLessEqual({1, *range(7, 12), 21, "bytes"}, self.answers_on_maps_across(self.writes))
+        self.assertLessEqual({1, *range(7, 12), 21, 26, "bytes"}, self.answers_on_maps_across(self.writes))
 
     def test_nodes_found_across_at_the_ends_of_16_bits(self):
         found = {move.difference for move in self.crossings if move.found}
@@ -167,7 +196,7 @@ class AcrossTheMeridian(unittest.TestCase):
         self.assertLessEqual({9_000_001, -9_000_001}, latitudes)
 
     def test_lines_across_at_the_ends_of_16_bits(self):
-        # Stretches of one line, so that 10 is for its difference.
+        # Stretches of one line, so that 10 is for its difference. Without tests it is 26.
         answers = {}
         for depot_map, lines, row in self.writes:
             if len(lines) == 1 and lines[0] < len(depot_map.lines):
@@ -175,9 +204,9 @@ class AcrossTheMeridian(unittest.TestCase):
                 if move.crosses():
                     answers.setdefault(move.difference, set()).add(row.split(" work")[0].split(" sum")[0])
         for difference in (2, -2, 32_766, 32_767, -32_767, -32_768):
-            self.assertIn("bytes 16", answers.get(difference, ()), difference)
+            self.assertIn("bytes 16 tests 1 excess 0", answers.get(difference, ()), difference)
         for difference in (32_768, -32_769, 17_999_999, -17_999_999, -18_000_000):
-            self.assertEqual(answers.get(difference), {"refused 10"}, difference)
+            self.assertEqual(answers.get(difference, set()) - {"refused 26"}, {"refused 10"}, difference)
 
     def test_nodes_35_999_998_apart(self):
         plain = {move.end.longitude - move.start.longitude for move in self.crossings if move.found}
@@ -283,12 +312,11 @@ def spans_in(row):
 
 def written_offsets():
     """Those on maps of few lines, where finding the legs takes little time."""
-    for (map_bytes, stretch, (pos, neg, *_)), row in zip(cases_on_maps(parts_of(case_bytes("test_writes"))), rows("test_writes")):
-        depot_map = read_map(map_bytes) if row.startswith("bytes") else None
-        if depot_map is None or len(depot_map.lines) > FEW_LINES:
+    for depot_map, given, row in stored_writings():
+        if not row.startswith("bytes") or len(depot_map.lines) > FEW_LINES:
             continue
-        remaining, *offsets = skip_lines(depot_map, numbers_in(stretch), pos, neg)
-        legs = choose_points(depot_map, remaining)
+        remaining, *offsets = skip_lines(depot_map, given.lines, given.pos, given.neg)
+        legs = choose_points(depot_map, remaining, given.tests)
         for is_positive, offset, leg, span in zip((True, False), offsets, (legs[0], legs[-1]), spans_in(row)):
             if offset != 0:
                 yield WrittenOffset(is_positive, offset, list_length(depot_map, leg), span)
@@ -357,6 +385,101 @@ class OffsetsOfStretches(unittest.TestCase):
             starts = [found for found in accepted if 512 * found.span[0] == (2 * found.byte - 1) * found.leg_length]
             ends = [found for found in accepted if 512 * (found.span[1] + 1) == (2 * found.byte + 1) * found.leg_length]
             self.assertGreater(min(len(starts), len(ends)), 3, (len(starts), len(ends)))
+
+
+class NumbersOfTests(unittest.TestCase):
+    """Paper 02, "Best found so far"."""
+
+    @classmethod
+    def setUpClass(cls):
+        """The writings whose legs come to be tested, each with the count of its legs; and of those on small maps the outcome with all tests too."""
+        cls.refused_before, cls.tested = [], []
+        for writing in stored_writings():
+            left = lines_left(writing.given)
+            if left is None:
+                cls.refused_before.append(writing)
+            else:
+                cls.tested.append((writing, leg_count(len(left[1]))))
+        cls.on_small_maps = [(writing, count, write_outcome(replace(writing.given, tests=ALL_TESTS, byte_room=AMPLE_BYTES)))
+                             for writing, count in cls.tested if len(writing.depot_map.lines) <= MOST_LINES_TESTED_AGAIN]
+
+    def test_numbers_given(self):
+        numbers = {writing.given.tests for writing, _ in self.tested}
+        self.assertLessEqual({*range(11), 256, 65_536, 2 ** 31, LARGEST_NUMBER, ALL_TESTS - 1, ALL_TESTS, ALL_TESTS + 1}, numbers)
+        beside = Counter(writing.given.tests - count for writing, count in self.tested)
+        self.assertGreater(min(beside[-1], beside[1]), 50, beside)
+        self.assertGreater(beside[0], 300)
+
+    def test_tests_made(self):
+        below = equal = 0
+        for writing, count in self.tested:
+            if writing.is_accepted():
+                made, excess = writing.tests_and_excess()
+                self.assertEqual(made, min(writing.given.tests, count))
+                below += made < count
+                equal += made == count
+                self.assertTrue(made < count or excess == 0)
+        self.assertGreater(below, 300)
+        self.assertGreater(equal, 1_000)
+
+    def test_no_tests(self):
+        without = [writing for writing, _ in self.tested if writing.given.tests == 0]
+        self.assertGreater(len(without), 50)
+        self.assertEqual({writing.refusal() for writing in without}, {26})
+
+    def test_no_tests_and_refused_before(self):
+        self.assertLessEqual({1, 7, 8, 9, 21}, {writing.refusal() for writing in self.refused_before if writing.given.tests == 0})
+
+    def test_10_with_all_tests_and_before(self):
+        self.assertGreater(sum(writing.refusal() == 10 and writing.given.tests < count for writing, count in self.tested), 30)
+        self.assertGreater(sum(writing.refusal() == 10 and writing.given.tests >= count for writing, count in self.tested), 100)
+
+    def test_26(self):
+        refused = [(writing, count) for writing, count in self.tested if writing.refusal() == 26]
+        self.assertGreater(len(refused), 300)
+        self.assertTrue(all(writing.given.tests < count for writing, count in refused))
+        # One test before the last, of many lines and of few, and with a buffer that would be too short.
+        self.assertLessEqual({1, 2, 5, 64}, {len(writing.given.lines) for writing, count in refused if writing.given.tests == count - 1})
+        self.assertIn(0, {writing.given.byte_room for writing, _ in refused})
+
+    def test_26_where_all_tests_are_accepted_and_where_they_give_10(self):
+        with_all = Counter(isinstance(ordinary, StretchWritten) for writing, _, ordinary in self.on_small_maps if writing.refusal() == 26)
+        self.assertGreater(min(with_all[True], with_all[False]), 50, with_all)
+
+    def test_excess(self):
+        excesses = Counter(writing.tests_and_excess()[1] for writing, _ in self.tested if writing.is_accepted())
+        self.assertLessEqual({0, 1, 2, 3, 6, 61}, set(excesses))
+        self.assertGreater(sum(excesses.values()) - excesses[0], 100)
+
+    def accepted_before_all(self):
+        """Accepted with fewer tests than legs on small maps: the row's count of bytes, sum and excess, and the ordinary outcome."""
+        for writing, count, ordinary in self.on_small_maps:
+            if writing.is_accepted() and writing.given.tests < count:
+                length, excess, total = re.match(r"bytes (\d+) tests \d+ excess (\d+) sum (\d+)", writing.row).groups()
+                yield int(length), int(total), int(excess), ordinary
+
+    def test_references_other_than_the_ordinary(self):
+        kinds = Counter()
+        for length, total, excess, ordinary in self.accepted_before_all():
+            points_more, rest = divmod(length - len(ordinary.reference), 7)
+            self.assertEqual(rest, 0)
+            self.assertTrue(0 <= points_more <= excess)
+            kinds["more points"] += points_more > 0
+            kinds["as many points"] += points_more == 0 and total != number_sum(ordinary.reference)
+            kinds["the ordinary one"] += total == number_sum(ordinary.reference)
+            kinds["an excess above the true one"] += excess > points_more
+        self.assertEqual(len(kinds), 4)
+        self.assertGreater(min(kinds.values()), 20, kinds)
+
+    def test_11_where_all_tests_would_do(self):
+        short = [writing for writing, _, ordinary in self.on_small_maps if writing.refusal() == 11 and len(ordinary.reference) <= writing.given.byte_room]
+        self.assertGreater(len(short), 10)
+
+    def test_full_size_maps(self):
+        on_full_maps = [(writing, count) for writing, count in self.tested if len(writing.depot_map.lines) == 1_024]
+        before_all = {writing.refusal() for writing, count in on_full_maps if writing.given.tests < count}
+        self.assertLessEqual({None, 26}, before_all)
+        self.assertGreater(sum(writing.given.tests >= count for writing, count in on_full_maps), 100)
 
 
 if __name__ == "__main__":

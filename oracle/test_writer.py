@@ -8,12 +8,12 @@ from depot_map import DepotMap, Line, Node, Steps, map_to_bytes
 from drawn_steps import EASTWARD, NORTHWARD, SOUTHWARD, WESTWARD
 from fields import LONGEST_LEG, differences_fit
 from legs import describe_leg, list_length, readings_by_enumeration
-from outcome import ReferenceWritten, Refused
+from outcome import Refused, StretchWritten
 from reader import read
 from sample_maps import (MapBuilder, parallel_sample, random_walk, ring_sample, short_first_leg_sample,
                          tie_sample)
 from test_legs import random_tiny_map
-from test_scope_paper import RIDGE, THREE_POINTS, WORK, row_map
+from test_scope_paper import RIDGE, THREE_POINTS, WORK, all_tested, row_map
 from writer import choose_points, skip_lines, write
 
 ROW = map_to_bytes(row_map((0, 1, 1000), (1, 2, 500), (2, 3, 700)))
@@ -39,7 +39,7 @@ class EachRefusal(unittest.TestCase):
         ring = row_map((0, 1, 1000), (1, 0, 1000))
         self.check([0, 1] * 32 + [0], 7, map_bytes=map_to_bytes(ring))
         outcome = write(map_to_bytes(ring), [0, 1] * 32, 0, 0, WORK, 459)
-        self.assertIsInstance(outcome, ReferenceWritten)
+        self.assertIsInstance(outcome, StretchWritten)
 
     def test_8(self):
         self.check([0, 2], 8)
@@ -52,7 +52,7 @@ class EachRefusal(unittest.TestCase):
                          (LARGEST, LARGEST), (2 ** 31, 2 ** 31)):
             self.check([0, 1, 2], 9, pos, neg)
         for pos, neg in ((2_199, 0), (0, 2_199), (1_000, 1_199)):
-            self.assertIsInstance(write(ROW, [0, 1, 2], pos, neg, WORK, 459), ReferenceWritten)
+            self.assertIsInstance(write(ROW, [0, 1, 2], pos, neg, WORK, 459), StretchWritten)
 
     def test_10_for_equal_lines(self):
         self.check([0], 10, map_bytes=TWINS)
@@ -63,7 +63,7 @@ class EachRefusal(unittest.TestCase):
             for far in (Node(reach, 0), Node(0, reach)):
                 depot_map = DepotMap((Node(0, 0), far), (Line(0, 1, 1000, 3, 3, EASTWARD, WESTWARD),))
                 outcome = write(map_to_bytes(depot_map), [0], 0, 0, WORK, 459)
-                self.assertEqual(isinstance(outcome, ReferenceWritten), fits)
+                self.assertEqual(isinstance(outcome, StretchWritten), fits)
                 if not fits:
                     self.assertEqual(outcome, Refused(10))
 
@@ -72,11 +72,11 @@ class EachRefusal(unittest.TestCase):
         depot_map = DepotMap((Node(0, 0), Node(32_768, 0), Node(100, 0)),
                              (Line(0, 1, 1000, 3, 3, EASTWARD, WESTWARD), Line(1, 2, 1000, 3, 3, EASTWARD, WESTWARD)))
         written = bytes.fromhex("0B 000000 000000 1B 68 03 0064 0000 1B 18")
-        self.assertEqual(write(map_to_bytes(depot_map), [0, 1], 0, 0, WORK, 16), ReferenceWritten(written))
+        self.assertEqual(write(map_to_bytes(depot_map), [0, 1], 0, 0, WORK, 16), all_tested(written, 2))
 
     def test_11(self):
         self.check([0, 1], 11, map_bytes=RIDGE, byte_room=22)
-        self.assertEqual(write(RIDGE, [0, 1], 0, 0, WORK, 23), ReferenceWritten(THREE_POINTS))
+        self.assertEqual(write(RIDGE, [0, 1], 0, 0, WORK, 23), all_tested(THREE_POINTS, 2))
         self.check([0, 1], 11, pos=1, neg=1, map_bytes=RIDGE, byte_room=24)
         self.check([0, 1], 11, map_bytes=RIDGE, byte_room=0)
 
@@ -128,7 +128,7 @@ class SkippedLines(unittest.TestCase):
         self.assertEqual(write(map_bytes, [0, 2], 999, 0, WORK, 459), Refused(10))
         # 500 is less than 586: D is 0. The node at longitude 1000 has the code 466.
         written = bytes.fromhex("0B 0001D2 000000 1B 68 00 03E8 0000 1B 18")
-        self.assertEqual(write(map_bytes, [0, 2], 1000, 0, WORK, 16), ReferenceWritten(written))
+        self.assertEqual(write(map_bytes, [0, 2], 1000, 0, WORK, 16), all_tested(written, 1))
 
     def test_flag_is_set_by_what_is_left_of_an_offset(self):
         written = write(ROW, [0, 1, 2], 1000, 700, WORK, 16)
@@ -168,7 +168,7 @@ class BytesByHand(unittest.TestCase):
         # The difference 3000 is 0BB8. Last P: FRC 3 and FOW 6 are 1E. R: sector 31, just west of north, is 1F.
         expected = bytes.fromhex("0B 000000 000000 11 A4 05 0BB8 0000 1E 1F")
         outcome = write(map_to_bytes(DepotMap(nodes, lines)), [0, 1, 2], 0, 0, WORK, 16)
-        self.assertEqual(outcome, ReferenceWritten(expected))
+        self.assertEqual(outcome, all_tested(expected, 3))
 
     def test_lowest_class_is_each_legs_own(self):
         nodes = tuple(Node(1000 * number, 0) for number in range(3))
@@ -176,7 +176,7 @@ class BytesByHand(unittest.TestCase):
         # FRC 2 gives P 13 and Q 48; FRC 0 gives P 03 and Q 08. 100,000 / 586 is 170, AA.
         expected = bytes.fromhex("0B 000000 000000 13 48 AA 03E8 0000 03 08 AA 03E8 0000 03 18")
         outcome = write(map_to_bytes(DepotMap(nodes, lines)), [0, 1], 0, 0, WORK, 23)
-        self.assertEqual(outcome, ReferenceWritten(expected))
+        self.assertEqual(outcome, all_tested(expected, 2))
 
 
 class ChoiceOfPoints(unittest.TestCase):

@@ -7,12 +7,13 @@ from damages import map_damage
 from depot_map import LARGEST_NUMBER, joins, map_to_bytes, read_map
 from fields import LONGEST_LEG
 from legs import list_length
-from outcome import ReferenceWritten
+from numbers_of_tests import all_with_all_tests
+from outcome import StretchWritten
 from reader import LEAST_WORK_LENGTH
 from recipes import any_sample, sample_with_free_stretch, until_found, work_area_exactly_enough, work_area_too_short
 from sample_maps import (NODE_STEP, SMALL_SAMPLES, MapBuilder, chain_of_blocks, edge_sample, far_sample, full_size_sample, other_first_line_sample,
                          pairs_of, random_walk, ring_sample)
-from writer import MOST_STRETCH_LINES, write
+from writer import ALL_TESTS, MOST_STRETCH_LINES, write
 
 AMPLE_BYTES = 459
 RING_TURN = SMALL_SAMPLES.index(ring_sample)
@@ -26,12 +27,13 @@ class WriteInput:
     neg: int = 0
     work_length: int = LEAST_WORK_LENGTH
     byte_room: int = AMPLE_BYTES
+    tests: int = ALL_TESTS
 
 
 @lru_cache(maxsize=16)
 def write_outcome(given):
     """Recipes ask again for what they were told before, so that the last outcomes are kept."""
-    return write(given.map_bytes, given.lines, given.pos, given.neg, given.work_length, given.byte_room)
+    return write(given.map_bytes, given.lines, given.pos, given.neg, given.work_length, given.byte_room, given.tests)
 
 
 def edge_offsets(rng, depot_map, stretch):
@@ -57,7 +59,7 @@ def accepted_input(rng, turn):
         map_bytes = map_to_bytes(sample.depot_map)
         for pos, neg in (edge_offsets(rng, sample.depot_map, sample.stretch), (0, 0)):
             given = WriteInput(map_bytes, sample.stretch, pos, neg)
-            if isinstance(write_outcome(given), ReferenceWritten):
+            if isinstance(write_outcome(given), StretchWritten):
                 return sample.label, given
         return None
     return until_found(attempt)
@@ -381,7 +383,7 @@ def fewest_points(rng, turn):
     return f"{lead} lines before", WriteInput(map_to_bytes(builder.build()), lines, pos, neg)
 
 
-WRITE_RECIPES = {
+WRITE_RECIPES = all_with_all_tests({
     "stretch": plain_stretch,
     "offsets at line ends": offsets_at_edges,
     "skipped lines": skipped_lines,
@@ -416,4 +418,4 @@ WRITE_RECIPES = {
     "refusal 10": no_usable_choice,
     "refusal 10, by a ban": no_usable_choice_by_a_ban,
     "refusal 11": bytes_too_few,
-}
+})

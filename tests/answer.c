@@ -1,11 +1,12 @@
 /* Answers calls of the C functions, one a row of standard input, for oracle/check_host.py:
 
-     read MAP REFERENCE ROOM          ROOM is the line buffer's count of bytes
-     write MAP STRETCH POS NEG ROOM   STRETCH is the line numbers' bytes, ROOM the byte buffer's count of bytes
+     read MAP REFERENCE ROOM                ROOM is the line buffer's count of bytes
+     write MAP STRETCH POS NEG TESTS ROOM   STRETCH is the line numbers' bytes, ROOM the byte buffer's count of bytes
      read_point MAP REFERENCE ROOM
      write_point MAP LINE OFFSET ORIENTATION SIDE ROOM
 
-   Bytes are hexadecimal, and - where there are none. A call that changes the buffer where it must not is answered by "buffer". */
+   Bytes are hexadecimal, and - where there are none. A call that changes the buffer where it must not is answered by "buffer", and a writer's refusal with a
+   number that must be 0 and is not by "refused" and all of its numbers. Neither is ever expected. */
 #include "openlr.h"
 
 #include <stdio.h>
@@ -67,14 +68,34 @@ static void print_point(struct openlr_point a, const uint8_t *line_buffer, size_
     }
 }
 
-static void print_written(uint32_t refusal, uint32_t byte_count, const uint8_t *byte_buffer, size_t room) {
-    if (!kept(byte_buffer, byte_count, room)) {
+static void print_bytes(const uint8_t *bytes, size_t count) {
+    printf(" ");
+    for (size_t i = 0; i < count; i++) printf("%02X", bytes[i]);
+}
+
+static void print_written(struct openlr_written a, const uint8_t *byte_buffer, size_t room) {
+    if (a.refusal != 0 && (a.byte_count != 0 || a.tests != 0 || a.excess != 0)) {
+        printf("refused %u with bytes %u tests %u excess %u", (unsigned)a.refusal, (unsigned)a.byte_count, (unsigned)a.tests, (unsigned)a.excess);
+    } else if (!kept(byte_buffer, a.byte_count, room)) {
         printf("buffer");
-    } else if (refusal != 0) {
-        print_refusal(refusal, 0);
+    } else if (a.refusal != 0) {
+        print_refusal(a.refusal, 0);
     } else {
-        printf("bytes %u ", (unsigned)byte_count);
-        for (uint32_t i = 0; i < byte_count; i++) printf("%02X", byte_buffer[i]);
+        printf("bytes %u tests %u excess %u", (unsigned)a.byte_count, (unsigned)a.tests, (unsigned)a.excess);
+        print_bytes(byte_buffer, a.byte_count);
+    }
+}
+
+static void print_point_written(struct openlr_point_written a, const uint8_t *byte_buffer, size_t room) {
+    if (a.refusal != 0 && a.bytes != 0) {
+        printf("refused %u with bytes %u", (unsigned)a.refusal, (unsigned)a.bytes);
+    } else if (!kept(byte_buffer, a.bytes, room)) {
+        printf("buffer");
+    } else if (a.refusal != 0) {
+        print_refusal(a.refusal, 0);
+    } else {
+        printf("bytes %u", (unsigned)a.bytes);
+        print_bytes(byte_buffer, a.bytes);
     }
 }
 
@@ -110,13 +131,11 @@ static void answer(const char *kind) {
     } else if (is_point) {
         uint32_t line = number(), offset = number(), orientation = number(), side = number();
         size_t room = room_of();
-        struct openlr_point_written a = openlr_write_point(map, map_len, line, offset, orientation, side, buffer, room);
-        print_written(a.refusal, a.bytes, buffer, room);
+        print_point_written(openlr_write_point(map, map_len, line, offset, orientation, side, buffer, room), buffer, room);
     } else if (strcmp(kind, "write") == 0) {
-        uint32_t pos = number(), neg = number();
+        uint32_t pos = number(), neg = number(), tests = number();
         size_t room = room_of();
-        struct openlr_written a = openlr_write(map, map_len, given, given_len, pos, neg, buffer, room);
-        print_written(a.refusal, a.byte_count, buffer, room);
+        print_written(openlr_write(map, map_len, given, given_len, pos, neg, tests, buffer, room), buffer, room);
     } else {
         exit(2);
     }

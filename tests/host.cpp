@@ -12,9 +12,11 @@ int main() {
     const std::vector<char> read{std::istreambuf_iterator<char>(file), {}};
     const std::vector<std::uint8_t> map(read.begin(), read.end()), stretch{0, 0, 0, 0, 1, 0, 0, 0};
     std::vector<std::uint8_t> bytes(OPENLR_LONGEST_REFERENCE), lines(4 * OPENLR_MOST_LINES);
-    const openlr_written written = openlr_write(map.data(), map.size(), stretch.data(), stretch.size(), 500, 0, bytes.data(), bytes.size());
+    const openlr_written written =
+        openlr_write(map.data(), map.size(), stretch.data(), stretch.size(), 500, 0, OPENLR_MOST_TESTS, bytes.data(), bytes.size());
     const openlr_reading reading = openlr_read(map.data(), map.size(), bytes.data(), written.byte_count, lines.data(), lines.size());
-    const bool good = written.refusal == 0 && reading.refusal == 0 && reading.line_count == 2 && reading.pos_least == 499 && reading.pos_greatest == 501;
+    const bool good = written.refusal == 0 && written.tests == 3 && written.excess == 0 && reading.refusal == 0 && reading.line_count == 2
+                      && reading.pos_least == 499 && reading.pos_greatest == 501;
     const openlr_point_written marked =
         openlr_write_point(map.data(), map.size(), 2, 120, OPENLR_ORIENTATION_BOTH, OPENLR_SIDE_LEFT, bytes.data(), OPENLR_LONGEST_POINT);
     const openlr_point point = openlr_read_point(map.data(), map.size(), bytes.data(), marked.bytes, lines.data(), 4);

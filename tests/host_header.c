@@ -15,11 +15,13 @@ _Static_assert(OPENLR_LONGEST_MAP == MAP_BYTES && MAP_BYTES == 23558, "every num
 _Static_assert(OPENLR_LONGEST_REFERENCE == 1 + 9 + 63 * 7 + 6 + 2 && OPENLR_LONGEST_REFERENCE == 459, "64 legs and both offsets");
 _Static_assert(OPENLR_LONGEST_POINT == 1 + 9 + 6 + 1 && OPENLR_LONGEST_POINT == 17, "one leg and an offset");
 _Static_assert(OPENLR_MOST_LINES == 1024, "the scope paper's, for a host");
-_Static_assert(OPENLR_VERSION == 6 && OPENLR_UNITS_PER_METRE == 10, "offset bytes to the nearest, decimetres");
+_Static_assert(OPENLR_MOST_TESTS == 64 * (64 + 1) / 2 && OPENLR_MOST_TESTS == 2080, "a test for each leg of 64 lines");
+_Static_assert(OPENLR_VERSION == 7 && OPENLR_UNITS_PER_METRE == 10, "a number of leg tests, decimetres");
 _Static_assert(OPENLR_LEAST_STACK == 104 * 1024, "in whole pages");
 _Static_assert(OPENLR_WORK_AREA_SHORT == 1 && OPENLR_MAP_NUMBER == 2 && OPENLR_EQUAL_CODES == 6, "the table's numbers for maps");
 _Static_assert(OPENLR_MAP_BAN == 23 && OPENLR_MAP_STEP == 24, "and the later ones");
-_Static_assert(OPENLR_STRETCH_LINES == 7 && OPENLR_BYTES_SHORT == 11 && OPENLR_STRETCH_BAN == 21, "for the writer");
+_Static_assert(OPENLR_STRETCH_LINES == 7 && OPENLR_NO_CHOICE == 10 && OPENLR_BYTES_SHORT == 11 && OPENLR_STRETCH_BAN == 21, "for the writer");
+_Static_assert(OPENLR_UNFINISHED == 26, "for its tests");
 _Static_assert(OPENLR_POINT_MARKS == 25, "for that of points");
 _Static_assert(OPENLR_REFERENCE_LENGTH == 12 && OPENLR_NO_NODE == 16 && OPENLR_LINES_SHORT == 20 && OPENLR_JOINED_BAN == 22, "for the reader");
 _Static_assert(OPENLR_ORIENTATION_NONE == 0 && OPENLR_ORIENTATION_FIRST_TO_SECOND == 1, "the white paper's Table 20");
@@ -27,10 +29,10 @@ _Static_assert(OPENLR_ORIENTATION_SECOND_TO_FIRST == 2 && OPENLR_ORIENTATION_BOT
 _Static_assert(OPENLR_SIDE_ON_ROAD == 0 && OPENLR_SIDE_RIGHT == 1 && OPENLR_SIDE_LEFT == 2 && OPENLR_SIDE_BOTH == 3, "and Table 21");
 
 int main(void) {
-    const char *unknown = openlr_refusal_sentence(26);
+    const char *unknown = openlr_refusal_sentence(27);
     EXPECT(strcmp(openlr_refusal_sentence(0), "") == 0 && strcmp(unknown, "unknown refusal") == 0);
     EXPECT(strcmp(openlr_refusal_sentence(UINT32_MAX), unknown) == 0);
-    for (uint32_t i = 1; i <= 25; i++) {
+    for (uint32_t i = 1; i <= 26; i++) {
         const char *sentence = openlr_refusal_sentence(i);
         EXPECT(strlen(sentence) > 20 && strcmp(sentence, unknown) != 0);
         for (uint32_t j = 1; j < i; j++) EXPECT(strcmp(sentence, openlr_refusal_sentence(j)) != 0);

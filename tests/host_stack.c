@@ -11,7 +11,7 @@ enum { NODES = 512, LINES = 1024, BANS = 512, GUARD = 65536, UNUSED = 0xA5 };
 
 static uint8_t map[OPENLR_LONGEST_MAP], given[OPENLR_LONGEST_REFERENCE], line_buffer[4 * OPENLR_MOST_LINES], byte_buffer[OPENLR_LONGEST_REFERENCE];
 static size_t map_len, given_len;
-static uint32_t pos, neg, point_line, point_offset;
+static uint32_t pos, neg, tests = OPENLR_MOST_TESTS, point_line, point_offset;
 static struct openlr_reading reading;
 static struct openlr_written written;
 static struct openlr_point point;
@@ -65,7 +65,7 @@ static void *read_once(void *unused) {
 }
 
 static void *write_once(void *unused) {
-    written = openlr_write(map, map_len, given, given_len, pos, neg, byte_buffer, sizeof byte_buffer);
+    written = openlr_write(map, map_len, given, given_len, pos, neg, tests, byte_buffer, sizeof byte_buffer);
     return unused;
 }
 
@@ -158,6 +158,7 @@ static void write_most_legs(void) {
     pos = neg = 38000;
     run("openlr_write, 64 legs", write_once);
     EXPECT(written.refusal == 0 && written.byte_count == OPENLR_LONGEST_REFERENCE && byte_buffer[457] == 0x80 && byte_buffer[458] == 0x80);
+    EXPECT(written.tests == OPENLR_MOST_TESTS && written.excess == 0);
     memcpy(given, byte_buffer, sizeof given);
     given_len = sizeof given;
     run("openlr_read, 64 legs, 64 lines", read_once);
@@ -165,12 +166,20 @@ static void write_most_legs(void) {
     for (uint32_t i = 0; i < 64; i++) EXPECT(line_buffer[4 * i] == i);
 }
 
-/* A chain of short lines: every part of it is the only way, so that all 2,080 legs are tested. Two points are enough. */
+/* A chain of short lines: every part of it is the only way, so that all 2,080 legs are good. Two points are enough. The 64th leg is the first that ends where
+   the chain does: with 63 tests nothing is found, and with 64 the two points are. */
 static void write_most_tests(void) {
     put_chain(1000);
     pos = neg = 0;
     run("openlr_write, one leg of 64 lines", write_once);
-    EXPECT(written.refusal == 0 && written.byte_count == 16 && byte_buffer[9] == 64000 / 586);
+    EXPECT(written.refusal == 0 && written.byte_count == 16 && byte_buffer[9] == 64000 / 586 && written.tests == 2080 && written.excess == 0);
+    tests = 64;
+    run("openlr_write, 64 tests", write_once);
+    EXPECT(written.refusal == 0 && written.byte_count == 16 && byte_buffer[9] == 64000 / 586 && written.tests == 64 && written.excess == 0);
+    tests = 63;
+    run("openlr_write, 63 tests", write_once);
+    EXPECT(written.refusal == OPENLR_UNFINISHED && written.byte_count == 0 && written.tests == 0 && written.excess == 0);
+    tests = OPENLR_MOST_TESTS;
 }
 
 /* A map with every number as long as it can be. Up to three lines join the same two nodes; D tells them apart. Half of 150,000 is byte 80, which is 74,708
@@ -197,7 +206,7 @@ static void longest_map(void) {
     given[0] = 1;
     pos = neg = 0;
     run("openlr_write, longest map", write_once);
-    EXPECT(written.refusal == 0 && written.byte_count == 16);
+    EXPECT(written.refusal == 0 && written.byte_count == 16 && written.tests == 1 && written.excess == 0);
     memcpy(given, byte_buffer, 16);
     given_len = 16;
     run("openlr_read, longest map", read_once);

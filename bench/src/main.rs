@@ -4,9 +4,9 @@
 mod offset_rows;
 mod point_rows;
 mod proved;
+mod test_rows;
 mod worst;
 
-use std::borrow::Borrow;
 use std::hint::black_box;
 use std::time::{Duration, Instant};
 
@@ -15,10 +15,12 @@ use plain::maps::{
     chain, grid, hub, random_graph, random_roads, random_walk, reference_with_legs, steep, Bans,
     Lengths, MapPlan, Turns, Xorshift,
 };
-use plain::outcome::{Outcome, WORK_AREA};
+use plain::outcome::{Outcome, Written, WORK_AREA};
 use plain::reader::read;
 use plain::search::{Bounds, Method, Search};
-use plain::writer::{effort, write, write_on_map};
+use plain::writer::{effort, write, write_on_map, ALL_TESTS};
+
+use proved::TestedStretch;
 
 /// The best of many short rounds: a round that something else disturbs does not count.
 const ROUNDS: usize = 400;
@@ -50,10 +52,20 @@ struct Row<'a> {
 }
 
 impl Row<'_> {
-    fn print(mut self) {
-        let [ours, plain] = time_in_turn([&mut *self.ours, &mut *self.plain], self.inputs);
+    fn print(self) {
+        self.print_times();
+    }
+
+    /// Gives the times of ours and of the plain Rust.
+    fn print_times(mut self) -> [f64; 2] {
+        let [ours, plain] = self.times();
         let ratio = ours / plain;
         println!("{} | {ours:.2} | {plain:.2} | {ratio:.2}", self.what);
+        [ours, plain]
+    }
+
+    fn times(&mut self) -> [f64; 2] {
+        time_in_turn([&mut *self.ours, &mut *self.plain], self.inputs)
     }
 }
 
@@ -172,6 +184,7 @@ fn main() {
         return worst::print_rows(&text.unwrap_or_default());
     }
     let wanted = |name: &str| kind.as_deref().is_none_or(|kind| kind == name);
+    let mut tenths = Vec::new();
     for sample in &samples() {
         if wanted("decode") {
             decode_row(sample).print();
@@ -184,6 +197,7 @@ fn main() {
         }
         if wanted("write") {
             writing_rows(sample);
+            tenths.extend(test_rows::print_rows(sample));
         }
         if wanted("point") {
             point_rows::print_rows(sample);
@@ -202,6 +216,7 @@ fn main() {
     if wanted("offsets") {
         offset_rows::print_rows();
     }
+    tenths.iter().for_each(test_rows::Tenth::print);
 }
 
 fn decode_row(sample: &Sample) -> Row<'_> {
@@ -388,16 +403,33 @@ fn writing_rows(sample: &Sample) {
         if stretches.is_empty() {
             continue;
         }
-        for stretch in &stretches {
-            let outcome = write_on_map(&sample.map, stretch, 0, 0, BYTE_ROOM);
-            check_proved_writing(sample, stretch.as_slice(), &outcome, proved::write);
-        }
         let what = format!("write, {}, lines {count}", sample.name);
         let effort = mean_effort(sample, &stretches);
-        let write = |map: &[u8], stretch: &[u32]| write(map, stretch, 0, 0, WORK_AREA, BYTE_ROOM);
-        writing_row(what.clone(), sample, stretches, proved::write, write).print();
+        stretch_row(what.clone(), sample, with_tests(&stretches, ALL_TESTS)).print();
         println!("{what}, plain Rust: {effort}");
     }
+}
+
+fn with_tests(stretches: &[Vec<u32>], tests: u32) -> Vec<TestedStretch> {
+    let with_tests = |lines: &Vec<u32>| TestedStretch {
+        lines: lines.clone(),
+        tests,
+    };
+    stretches.iter().map(with_tests).collect()
+}
+
+fn plain_write(map_bytes: &[u8], stretch: &TestedStretch) -> Outcome<Written> {
+    let TestedStretch { lines, tests } = stretch;
+    write(map_bytes, lines, 0, 0, *tests, WORK_AREA, BYTE_ROOM)
+}
+
+fn stretch_row(what: String, sample: &Sample, stretches: Vec<TestedStretch>) -> Row<'_> {
+    for stretch in &stretches {
+        let outcome = plain_write(&sample.bytes, stretch);
+        let outcome = outcome.map(|written| written.reference);
+        check_proved_writing(sample, stretch, &outcome, proved::write);
+    }
+    writing_row(what, sample, stretches, proved::write, plain_write)
 }
 
 /// A proved writer: of a map and a stretch or a point, with a work area and a byte buffer. The answer is
@@ -405,7 +437,7 @@ fn writing_rows(sample: &Sample) {
 type ProvedWrite<Given> = fn(&[u8], &Given, &mut [u32], &mut [u8]) -> usize;
 
 /// What is timed is a writing of the same bytes, or the same refusal.
-fn check_proved_writing<Given: ?Sized>(
+fn check_proved_writing<Given>(
     sample: &Sample,
     given: &Given,
     outcome: &Outcome<Vec<u8>>,
@@ -429,7 +461,7 @@ fn check_written(answer: usize, byte_buffer: &[u8], outcome: &Outcome<Vec<u8>>) 
 fn mean_effort(sample: &Sample, stretches: &[Vec<u32>]) -> String {
     let efforts = stretches
         .iter()
-        .map(|stretch| effort(&sample.map, stretch, 0, 0));
+        .map(|stretch| effort(&sample.map, stretch, 0, 0, ALL_TESTS));
     let efforts: Vec<_> = efforts
         .map(|effort| effort.expect("it is accepted"))
         .collect();
@@ -453,6 +485,7 @@ fn write_once() {
         sample.name,
         stretches.len()
     );
+    let stretches = with_tests(&stretches, ALL_TESTS);
     inputs.for_each(proved_writing(sample, stretches, proved::write));
 }
 
@@ -460,21 +493,22 @@ fn accepted_stretches(sample: &Sample, count: usize) -> Vec<Vec<u32>> {
     let mut rng = Xorshift::new(8);
     let walks =
         (0..10_000).filter_map(|_| random_walk(&mut rng, &sample.map, count, Turns::Allowed));
-    let accepted = |walk: &Vec<u32>| write_on_map(&sample.map, walk, 0, 0, BYTE_ROOM).is_ok();
+    let accepted =
+        |walk: &Vec<u32>| write_on_map(&sample.map, walk, 0, 0, ALL_TESTS, BYTE_ROOM).is_ok();
     walks.filter(accepted).take(INPUTS).collect()
 }
 
-fn writing_row<'a, Owned: Borrow<Given> + Clone + 'a, Given: ?Sized + 'a>(
+fn writing_row<'a, Given: Clone + 'a, Answer>(
     what: String,
     sample: &'a Sample,
-    given: Vec<Owned>,
+    given: Vec<Given>,
     ours: ProvedWrite<Given>,
-    plain: impl Fn(&[u8], &Given) -> Outcome<Vec<u8>> + 'a,
+    plain: impl Fn(&[u8], &Given) -> Outcome<Answer> + 'a,
 ) -> Row<'a> {
     let inputs = given.len();
     let ours = proved_writing(sample, given.clone(), ours);
     let plain = move |input: usize| {
-        let (map_bytes, given) = black_box((&sample.bytes, given[input].borrow()));
+        let (map_bytes, given) = black_box((&sample.bytes, &given[input]));
         let _ = black_box(plain(map_bytes, given));
     };
     Row {
@@ -485,15 +519,15 @@ fn writing_row<'a, Owned: Borrow<Given> + Clone + 'a, Given: ?Sized + 'a>(
     }
 }
 
-fn proved_writing<'a, Owned: Borrow<Given> + 'a, Given: ?Sized + 'a>(
+fn proved_writing<'a, Given: 'a>(
     sample: &'a Sample,
-    given: Vec<Owned>,
+    given: Vec<Given>,
     ours: ProvedWrite<Given>,
 ) -> Call<'a> {
     let mut work_area = vec![0; WORK_AREA];
     let mut byte_buffer = vec![0; BYTE_ROOM];
     Box::new(move |input| {
-        let (map_bytes, given) = black_box((&sample.bytes, given[input].borrow()));
+        let (map_bytes, given) = black_box((&sample.bytes, &given[input]));
         let written = ours(map_bytes, given, &mut work_area, &mut byte_buffer);
         black_box(written);
     })

@@ -30,6 +30,7 @@ pub enum Refusal {
     NoSuchTurn,
     Step,
     OrientationOrSide,
+    TooFewTests,
 }
 
 pub type Outcome<T> = Result<T, Refusal>;
@@ -57,6 +58,15 @@ pub struct PointReading {
     pub offset: Span,
     pub orientation: u32,
     pub side: u32,
+}
+
+/// What the writer hands back when it accepts: the reference, the leg tests made, and by how many points
+/// at most it exceeds the fewest.
+#[derive(Clone, Debug, PartialEq, Eq)]
+pub struct Written {
+    pub reference: Vec<u8>,
+    pub tests: u32,
+    pub excess: u32,
 }
 
 /// "Every call": the least work area, in numbers of 32 bits.
@@ -97,6 +107,7 @@ impl Refusal {
             Refusal::NoSuchTurn => 23,
             Refusal::Step => 24,
             Refusal::OrientationOrSide => 25,
+            Refusal::TooFewTests => 26,
         }
     }
 

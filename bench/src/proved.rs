@@ -33,6 +33,7 @@ extern "C" {
         stretch_len: usize,
         pos: u32,
         neg: u32,
+        tests: u32,
         work: *mut u32,
         work_len: usize,
         bytes: *mut u8,
@@ -122,11 +123,18 @@ pub fn read(
     }
 }
 
-/// Writes a stretch with no offsets into the byte buffer. The answer is the count of bytes, or the
-/// number of the refusal.
+/// A stretch with no offsets, and how many leg tests may be made for it.
+#[derive(Clone)]
+pub struct TestedStretch {
+    pub lines: Vec<u32>,
+    pub tests: u32,
+}
+
+/// Writes a stretch into the byte buffer. The answer is the count of bytes, or the number of the
+/// refusal.
 pub fn write(
     map_bytes: &[u8],
-    stretch: &[u32],
+    stretch: &TestedStretch,
     work_area: &mut [u32],
     byte_buffer: &mut [u8],
 ) -> usize {
@@ -134,10 +142,11 @@ pub fn write(
         measured_write(
             map_bytes.as_ptr(),
             map_bytes.len(),
-            stretch.as_ptr(),
-            stretch.len(),
+            stretch.lines.as_ptr(),
+            stretch.lines.len(),
             0,
             0,
+            stretch.tests,
             work_area.as_mut_ptr(),
             work_area.len(),
             byte_buffer.as_mut_ptr(),

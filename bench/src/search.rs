@@ -7,6 +7,8 @@
 //!
 //! A search back from a last line gives the same for each line that such a way starts with, and the
 //! line behind it. It may also go back from a node, whatever line the ways arrive there by.
+//!
+//! A search onward may go step by step, up to one length after another, and be left unfinished.
 
 use std::cmp::Reverse;
 use std::collections::{BinaryHeap, VecDeque};
@@ -103,6 +105,17 @@ pub struct Bounds {
     pub limit: u32,
 }
 
+/// Where that arrives which has this key in the heap.
+#[inline(always)]
+fn node_of(view: View, key: u64) -> u32 {
+    let number = key as u32;
+    if number >= FIRST_NODE {
+        number - FIRST_NODE
+    } else {
+        view.far_node(number)
+    }
+}
+
 impl Search {
     pub fn new(map: &DepotMap, method: Method) -> Search {
         let count = map.lines.len();
@@ -140,6 +153,43 @@ impl Search {
         self.run_from_line(map.view(direction), bounds);
     }
 
+    /// Begins a search onward, as "heap of nodes and lines".
+    pub fn begin(&mut self, map: &DepotMap, bounds: Bounds) {
+        self.turn(Direction::Onward);
+        self.lower_base(bounds.limit, 1);
+        let first = map.view(Direction::Onward).line(bounds.first);
+        if first.frc() <= bounds.class && first.length() <= bounds.limit {
+            let length = self.reach_first(first);
+            self.arrive(first, length);
+        }
+    }
+
+    /// Goes on with the search that was begun. Afterwards what it says of lines is right where their
+    /// least ways are of this length at most. It stops sooner, and says so, when a shorter way arrives
+    /// at a node that is watched.
+    #[inline]
+    pub fn advance(
+        &mut self,
+        map: &DepotMap,
+        bounds: Bounds,
+        length: u32,
+        watched: Option<u32>,
+    ) -> bool {
+        let view = map.view(Direction::Onward);
+        let end = self.base + length;
+        while let Some(&Reverse(key)) = self.heap.peek() {
+            if (key >> 32) as u32 >= end {
+                break;
+            }
+            if watched == Some(node_of(view, key)) {
+                return true;
+            }
+            self.heap.pop();
+            self.leave(view, bounds, key);
+        }
+        false
+    }
+
     /// Searches back from all lines that arrive at the node, as "heap of nodes and lines".
     pub fn run_back_from_node(
         &mut self,
@@ -174,9 +224,7 @@ impl Search {
         if first.frc() > bounds.class || first.length() > bounds.limit {
             return;
         }
-        let length = self.base + first.length();
-        self.least[bounds.first as usize] = length;
-        self.before[bounds.first as usize] = FIRST;
+        let length = self.reach_first(first);
         match self.method {
             Method::LineQueue => self.run_line_queue(view, bounds),
             Method::LineHeap => self.run_line_heap(view, bounds),
@@ -185,6 +233,14 @@ impl Search {
                 self.run_heap(view, bounds);
             }
         }
+    }
+
+    /// Gives the length to its end, with the base added.
+    fn reach_first(&mut self, first: LineAtNode) -> u32 {
+        let length = self.base + first.length();
+        self.least[first.line() as usize] = length;
+        self.before[first.line() as usize] = FIRST;
+        length
     }
 
     /// What is banned after a line stays so from search to search, but not in the other direction.
@@ -204,6 +260,7 @@ impl Search {
             self.closed_at.fill(NOT_REACHED);
             self.opened_at.fill(NOT_REACHED);
         }
+        self.heap.clear();
         self.base -= limit + 1;
         self.top = self.base + limit;
         self.last_left = self.base + limit.saturating_sub(shortest);
@@ -223,6 +280,28 @@ impl Search {
             FIRST => Before::First,
             SEVERAL => Before::Several,
             before => Before::Line(before),
+        }
+    }
+
+    /// Whether some way of this length at most ends with this line.
+    #[inline]
+    pub fn is_within(&self, line: u32, length: u32) -> bool {
+        self.least[line as usize] <= self.base + length
+    }
+
+    /// After a search onward: a line before this one on a least way to it. Asked of a reached line
+    /// only; the first has none.
+    pub fn some_before(&self, map: &DepotMap, line: u32) -> Option<u32> {
+        match self.before[line as usize] {
+            FIRST => None,
+            SEVERAL => {
+                let length = self.least[line as usize] - map.line(line).length;
+                let mut arriving = map.lines_to(map.line(line).start);
+                arriving.find(|&before| {
+                    self.least[before as usize] == length && !map.is_banned(before, line)
+                })
+            }
+            before => Some(before),
         }
     }
 
@@ -397,14 +476,20 @@ impl Search {
     /// arrive with that length are known, and so are the ties of each.
     fn run_heap(&mut self, view: View, bounds: Bounds) {
         while let Some(Reverse(key)) = self.heap.pop() {
-            let (length, number) = ((key >> 32) as u32, key as u32);
-            if number >= FIRST_NODE {
-                if length == self.closed_at[(number - FIRST_NODE) as usize] {
-                    self.leave_node(view, bounds, number - FIRST_NODE, length);
-                }
-            } else if length <= self.closed_at[view.far_node(number) as usize] {
-                self.leave_by_line(view, bounds, number, length);
+            self.leave(view, bounds, key);
+        }
+    }
+
+    /// The nearest in the heap goes on.
+    #[inline(always)]
+    fn leave(&mut self, view: View, bounds: Bounds, key: u64) {
+        let (length, number) = ((key >> 32) as u32, key as u32);
+        if number >= FIRST_NODE {
+            if length == self.closed_at[(number - FIRST_NODE) as usize] {
+                self.leave_node(view, bounds, number - FIRST_NODE, length);
             }
+        } else if length <= self.closed_at[view.far_node(number) as usize] {
+            self.leave_by_line(view, bounds, number, length);
         }
     }
 

@@ -11,10 +11,12 @@ use plain::point::{point_bytes, read_point, write_point, Point};
 use plain::reader::read;
 use plain::search::{Bounds, Method, Search};
 use plain::worst_maps::{worst_cases, WorstCase};
-use plain::writer::{reference_bytes, write, Stretch};
+use plain::writer::{reference_bytes, Stretch, ALL_TESTS};
 
+use crate::proved::{self, TestedStretch};
 use crate::{
-    check_written, proved, time_in_turn, ProvedRead, ProvedWrite, BYTE_ROOM, LINE_ROOM, SEARCHES,
+    check_written, plain_write, time_in_turn, ProvedRead, ProvedWrite, BYTE_ROOM, LINE_ROOM,
+    SEARCHES,
 };
 
 /// A call that takes longer is timed once.
@@ -280,7 +282,7 @@ fn reference_of_last_legs(sample: &Sample, count: usize) -> Vec<u8> {
 }
 
 /// A call of a proved writer.
-struct ProvedWriting<'a, Given: ?Sized> {
+struct ProvedWriting<'a, Given> {
     sample: &'a Sample,
     given: &'a Given,
     write: ProvedWrite<Given>,
@@ -289,7 +291,7 @@ struct ProvedWriting<'a, Given: ?Sized> {
     answer: usize,
 }
 
-impl<'a, Given: ?Sized> ProvedWriting<'a, Given> {
+impl<'a, Given> ProvedWriting<'a, Given> {
     fn new(sample: &'a Sample, given: &'a Given, write: ProvedWrite<Given>) -> Self {
         ProvedWriting {
             sample,
@@ -331,16 +333,22 @@ impl<'a, Given: ?Sized> ProvedWriting<'a, Given> {
 fn print_writing_row(sample: &Sample) -> Printed {
     let lines = &sample.case.stretch;
     let all = lines.len();
-    let mut part = ProvedWriting::new(sample, &lines[all - PART..], proved::write);
+    let last_lines = |count: usize| TestedStretch {
+        lines: lines[all - count..].to_vec(),
+        tests: ALL_TESTS,
+    };
+    let part = last_lines(PART);
+    let mut part = ProvedWriting::new(sample, &part, proved::write);
     let count = count_in_time(all, time_once(&mut || part.run()));
-    let stretch = &lines[all - count..];
+    let stretch = last_lines(count);
     let what = |outcome: &Outcome<Vec<u8>>| {
         let legs = outcome.as_ref().map_or(0, |bytes| (bytes.len() - 9) / 7);
         format!("write, {}, lines {count}, legs {legs}", sample.case.name)
     };
-    let mut ours = ProvedWriting::new(sample, stretch, proved::write);
+    let mut ours = ProvedWriting::new(sample, &stretch, proved::write);
     let (what, ours) = ours.print_row(what, || {
-        black_box(write(&sample.bytes, stretch, 0, 0, WORK_AREA, BYTE_ROOM))
+        let written = black_box(plain_write(&sample.bytes, &stretch));
+        written.map(|written| written.reference)
     });
     Printed {
         what,

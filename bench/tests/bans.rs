@@ -6,7 +6,7 @@ use plain::hexadecimal::bytes;
 use plain::maps::{push_number, MapPlan};
 use plain::outcome::{Outcome, Refusal, WORK_AREA};
 use plain::reader::read;
-use plain::writer::write;
+use plain::writer::{write, ALL_TESTS};
 
 use ridge::{refusal_of, ridge};
 
@@ -14,7 +14,9 @@ const TWO_POINTS: &str = "0B0000000000001B680307D000001B18";
 const THREE_POINTS: &str = "0B0000000000001B680103E800001B680103E800001B18";
 
 fn write_on(plan: &MapPlan, stretch: &[u32], pos: u32, neg: u32) -> Outcome<Vec<u8>> {
-    write(&plan.encode(), stretch, pos, neg, WORK_AREA, 459)
+    let map = plan.encode();
+    let written = write(&map, stretch, pos, neg, ALL_TESTS, WORK_AREA, 459);
+    written.map(|written| written.reference)
 }
 
 fn read_on(plan: &MapPlan, reference: &str) -> Outcome<Vec<u32>> {

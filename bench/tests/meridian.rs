@@ -5,9 +5,9 @@ use plain::depot_map::{DepotMap, Node};
 use plain::fields::brought_round;
 use plain::hexadecimal::{bytes, digits};
 use plain::maps::{random_walk, small_map, steps_at, MapPlan, PlannedLine, Turns, Xorshift};
-use plain::outcome::{Outcome, Refusal, WORK_AREA};
+use plain::outcome::{Outcome, Refusal, Written, WORK_AREA};
 use plain::reader::{read, read_on_map};
-use plain::writer::{write, write_on_map};
+use plain::writer::{write, write_on_map, ALL_TESTS};
 
 const EASTERNMOST: i32 = 17_999_998;
 const WESTERNMOST: i32 = -18_000_000;
@@ -45,8 +45,9 @@ fn at_equator(longitudes: &[i32]) -> MapPlan {
 /// All lines of the map as a stretch.
 fn written(plan: &MapPlan) -> Outcome<String> {
     let stretch: Vec<u32> = (0..plan.lines.len() as u32).collect();
-    let reference = write(&plan.encode(), &stretch, 0, 0, WORK_AREA, 459);
-    reference.map(|reference| digits(&reference))
+    let map = plan.encode();
+    let written = write(&map, &stretch, 0, 0, ALL_TESTS, WORK_AREA, 459);
+    written.map(|written| digits(&written.reference))
 }
 
 fn lines_read(plan: &MapPlan, reference: &str) -> Outcome<Vec<u32>> {
@@ -245,16 +246,18 @@ fn the_meridian_is_no_other_place() {
         let Some(stretch) = random_walk(rng, &map, count, Turns::Allowed) else {
             continue;
         };
-        let near = write_on_map(&map, &stretch, 0, 0, 459);
-        let far = write_on_map(&other, &stretch, 0, 0, 459);
-        let without_code = |mut reference: Vec<u8>| {
-            reference[LONGITUDE_CODE].fill(0);
-            reference
+        let some_tests = rng.below(56);
+        let tests = *rng.pick(&[some_tests, ALL_TESTS]);
+        let near = write_on_map(&map, &stretch, 0, 0, tests, 459);
+        let far = write_on_map(&other, &stretch, 0, 0, tests, 459);
+        let without_code = |mut written: Written| {
+            written.reference[LONGITUDE_CODE].fill(0);
+            written
         };
         assert_eq!(far.clone().map(without_code), near.map(without_code));
-        if let Ok(reference) = far {
+        if let Ok(written) = far {
             accepted_across += u32::from(has_nodes_on_both_sides(&other, &stretch));
-            let read = read_on_map(&other, &reference, 64);
+            let read = read_on_map(&other, &written.reference, 64);
             assert_eq!(read.map(|reading| reading.lines), Ok(stretch));
         }
         compared += 1;

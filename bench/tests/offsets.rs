@@ -9,13 +9,14 @@ use plain::hexadecimal::bytes;
 use plain::maps::MapPlan;
 use plain::outcome::{Outcome, Reading, Refusal, Span, WORK_AREA};
 use plain::reader::read;
-use plain::writer::write;
+use plain::writer::{write, ALL_TESTS};
 
 use ridge::{refusal_of, ridge};
 
 fn write_on(plan: &MapPlan, stretch: &[u32], pos: u32, neg: u32) -> Vec<u8> {
-    let written = write(&plan.encode(), stretch, pos, neg, WORK_AREA, 459);
-    written.expect("it is written")
+    let map = plan.encode();
+    let written = write(&map, stretch, pos, neg, ALL_TESTS, WORK_AREA, 459);
+    written.expect("it is written").reference
 }
 
 fn read_on(plan: &MapPlan, reference: &[u8]) -> Outcome<Reading> {

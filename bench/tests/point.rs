@@ -11,7 +11,7 @@ use plain::maps::{small_map, steps_at, MapPlan, PlannedLine, Xorshift};
 use plain::outcome::{Outcome, PointReading, Refusal, Span, WORK_AREA};
 use plain::point::{read_point, read_point_on_map, write_point, write_point_on_map, Point};
 use plain::reader::read;
-use plain::writer::write_on_map;
+use plain::writer::{write_on_map, ALL_TESTS};
 
 use ridge::{refusal_of, ridge};
 
@@ -586,7 +586,8 @@ fn some_bans(rng: &mut Xorshift, plan: &mut MapPlan) {
 
 /// What the writer of lines gives for the line alone, with the hydrant's status, orientation and side.
 fn as_stretch(map: &DepotMap, line: u32, offset: u32) -> Outcome<Vec<u8>> {
-    let mut bytes = write_on_map(map, &[line], offset, 0, 459)?;
+    let written = write_on_map(map, &[line], offset, 0, ALL_TESTS, 459)?;
+    let mut bytes = written.reference;
     for (place, bits) in [(0, 0x20), (7, 0x40), (14, 0x80)] {
         bytes[place] |= bits;
     }

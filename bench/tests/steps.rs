@@ -9,7 +9,7 @@ use plain::hexadecimal::{bytes, digits};
 use plain::maps::{number_parts, push_number, MapPlan, PlannedLine, LINE_NUMBERS};
 use plain::outcome::{Outcome, Refusal, WORK_AREA};
 use plain::reader::read;
-use plain::writer::write;
+use plain::writer::{write, ALL_TESTS};
 
 use ridge::{refusal_of, ridge};
 
@@ -96,7 +96,10 @@ fn the_bytes_of_the_ridge() {
 #[test]
 fn the_tie_at_the_ridge() {
     let map = ridge(&[]).encode();
-    let written = |pos| write(&map, &[0, 1], pos, 0, WORK_AREA, 459);
+    let written = |pos| {
+        let written = write(&map, &[0, 1], pos, 0, ALL_TESTS, WORK_AREA, 459);
+        written.map(|written| written.reference)
+    };
     assert_eq!(written(0), Ok(bytes(THREE_POINTS).unwrap()));
     let with_offset = "0B0000000000001B680103E800001B680103E800001B5880";
     assert_eq!(written(500), Ok(bytes(with_offset).unwrap()));
@@ -252,7 +255,7 @@ fn both_functions_refuse_the_map() {
         (WORK_AREA - 1, Refusal::WorkArea),
         (WORK_AREA, Refusal::Step),
     ] {
-        assert_eq!(write(&map, &[], 0, 0, work_length, 0), Err(refusal));
+        assert_eq!(write(&map, &[], 0, 0, 0, work_length, 0), Err(refusal));
         assert_eq!(read(&map, &[], work_length, 0), Err(refusal));
     }
 }

@@ -3,7 +3,7 @@
 //! - `map MAP`
 //! - `leg MAP START END FRC FOW SECTOR CLASS D`, on a last leg with the last line's `FRC FOW SECTOR`
 //! - `read MAP REFERENCE WORK_LENGTH LINE_ROOM`
-//! - `write MAP POS NEG WORK_LENGTH BYTE_ROOM LINE...`
+//! - `write MAP POS NEG TESTS WORK_LENGTH BYTE_ROOM LINE...`
 //! - `read_point MAP REFERENCE WORK_LENGTH LINE_ROOM`
 //! - `write_point MAP LINE OFFSET ORIENTATION SIDE WORK_LENGTH BYTE_ROOM`
 //!
@@ -17,7 +17,7 @@ use plain::fields::Marks;
 use plain::hexadecimal::{bytes, digits};
 use plain::legs::{verdict, Leg, LegEnd, Verdict};
 use plain::maps::{MapPlan, PlannedLine};
-use plain::outcome::Outcome;
+use plain::outcome::{Outcome, Written};
 use plain::point::{read_point, write_point, Point};
 use plain::reader::read;
 use plain::search::{Method, Search};
@@ -67,12 +67,12 @@ fn read_answer<'a, Read: Display>(
 }
 
 fn write_answer(map_bytes: &[u8], numbers: &[u32]) -> Option<String> {
-    let [pos, neg, work_length, byte_room, ref stretch @ ..] = *numbers else {
+    let [pos, neg, tests, work_length, byte_room, ref stretch @ ..] = *numbers else {
         return None;
     };
     let (work_length, byte_room) = (work_length as usize, byte_room as usize);
-    let written = write(map_bytes, stretch, pos, neg, work_length, byte_room);
-    Some(text(written.map(|reference| reference_text(&reference))))
+    let written = write(map_bytes, stretch, pos, neg, tests, work_length, byte_room);
+    Some(text(written.map(|written| written_text(&written))))
 }
 
 fn write_point_answer(map_bytes: &[u8], numbers: &[u32]) -> Option<String> {
@@ -121,6 +121,19 @@ fn map_text(map: &DepotMap, map_bytes: &[u8]) -> String {
 
 fn reference_text(reference: &[u8]) -> String {
     format!("bytes {} {}", reference.len(), digits(reference))
+}
+
+fn written_text(written: &Written) -> String {
+    let Written {
+        reference,
+        tests,
+        excess,
+    } = written;
+    format!(
+        "bytes {} tests {tests} excess {excess} {}",
+        reference.len(),
+        digits(reference)
+    )
 }
 
 fn leg_answer(map: &DepotMap, numbers: &[u32]) -> Option<String> {

@@ -3,13 +3,14 @@ use Prim.Native.Nat.{ℕ, zero, suc, _-_, _≤_, _<_}
 use mathlib.Core.Path.{_≡_, refl, sym, ap, ap₂, subst, _∙_}
 use mathlib.Core.Bool.{Bool, true, false, cond, _&&_, _||_, or-true, or-false, or-assoc, or-comm}
 use mathlib.Core.List.{List, [], _∷_, _++_}
-use mathlib.Core.Logic.{_≢_}
+use mathlib.Core.Logic.{_≢_, ⊎-elim}
+use native.Mathlib.Nat.{eq-or-lt-of-le}
 use native.Mathlib.Decide.{decLt, ℕ-discrete}
 use native.Mathlib.Omega.{arith}
 use lib.ListN.{length, getD, length-append, List·getD-append}
 use lib.Seq.{getD-at}
 use lib.Dec.{eqb}
-use borrow.Author.Tests.{eqb-true, eq-eqb, ne-eqb}
+use borrow.Author.Tests.{eqb-true, eqb-false, eq-eqb, ne-eqb}
 use Rattle.model.specs.Map.{Turn, greatestBanCount, greatestLineCount}
 use Rattle.model.specs.Lines.{turnAmong}
 use Rattle.buffers.specs.Kept.{Filled}
@@ -88,6 +89,37 @@ bans-none few none =
 
 -- ---- the walk along the chain of line `l`, in search of line `k`
 
+-- 1 + the last turn from line `l` before turn `i`, or 0: it is one of those, and none of them is behind it.
+module _ (bans : List Turn) (l : ℕ) where
+  pub latest-small : (i : ℕ) → latestBan bans l i ≤ i
+  latest-small zero = omega arith
+  latest-small (suc i) = go (eqb (banAt bans i .first) l) (latest-small i)
+    where
+      go : (b : Bool) → latestBan bans l i ≤ i → cond b (suc i) (latestBan bans l i) ≤ suc i
+      go true h = omega arith
+      go false h = omega arith
+
+  pub latest-from : (i j : ℕ) → latestBan bans l i ≡ suc j → banAt bans j .first ≡ l
+  latest-from zero j e = absurd (omega arith)
+  latest-from (suc i) j e = go (eqb (banAt bans i .first) l) refl e (latest-from i j)
+    where
+      go : (b : Bool) → eqb (banAt bans i .first) l ≡ b → cond b (suc i) (latestBan bans l i) ≡ suc j → (latestBan bans l i ≡ suc j → banAt bans j .first ≡ l) →
+          banAt bans j .first ≡ l
+      go true t e rest = let same : i ≡ j = omega arith in subst (λ (x : ℕ). banAt bans x .first ≡ l) same (eqb-true _ _ t)
+      go false t e rest = rest e
+
+  pub latest-all : (i j : ℕ) → j < i → banAt bans j .first ≡ l → j < latestBan bans l i
+  latest-all zero j j< e = absurd (omega arith)
+  latest-all (suc i) j j< e = go (eqb (banAt bans i .first) l) refl (λ below. latest-all i j below e)
+    where
+      go : (b : Bool) → eqb (banAt bans i .first) l ≡ b → (j < i → j < latestBan bans l i) → j < cond b (suc i) (latestBan bans l i)
+      go true t rest = omega arith
+      go false t rest =
+          ⊎-elim
+          (λ same. absurd (eqb-false _ _ t (subst (λ (x : ℕ). banAt bans x .first ≡ l) same e)))
+          rest
+          (eq-or-lt-of-le {n = j} {m = i} (omega arith))
+
 module _ (bans : List Turn) (l k : ℕ) where
   abbrev is : Turn → Bool
   is t = eqb (t .first) l && eqb (t .second) k
@@ -96,23 +128,6 @@ module _ (bans : List Turn) (l k : ℕ) where
   abbrev before : ℕ → Bool
   before zero = false
   before (suc i) = is (banAt bans i) || before i
-
-  latest-small : (i : ℕ) → latestBan bans l i ≤ i
-  latest-small zero = omega arith
-  latest-small (suc i) = go (eqb (banAt bans i .first) l) (latest-small i)
-    where
-      go : (b : Bool) → latestBan bans l i ≤ i → cond b (suc i) (latestBan bans l i) ≤ suc i
-      go true h = omega arith
-      go false h = omega arith
-
-  latest-from : (i j : ℕ) → latestBan bans l i ≡ suc j → banAt bans j .first ≡ l
-  latest-from zero j e = absurd (omega arith)
-  latest-from (suc i) j e = go (eqb (banAt bans i .first) l) refl e (latest-from i j)
-    where
-      go : (b : Bool) → eqb (banAt bans i .first) l ≡ b → cond b (suc i) (latestBan bans l i) ≡ suc j → (latestBan bans l i ≡ suc j → banAt bans j .first ≡ l) →
-          banAt bans j .first ≡ l
-      go true t e rest = let same : i ≡ j = omega arith in subst (λ (x : ℕ). banAt bans x .first ≡ l) same (eqb-true _ _ t)
-      go false t e rest = rest e
 
   latest-before : (i : ℕ) → before i ≡ before (latestBan bans l i)
   latest-before zero = refl
@@ -149,8 +164,8 @@ module _ {w : List ℕ} {lines : ℕ} {bans : List Turn} (held : BansHeld w line
   to-latest : (i : ℕ) → i ≤ length bans → turnAmong bans l k ≡ before bans l k i → WalkAt bans l k (latestBan bans l i)
   to-latest i h e =
       record {
-        within = omega (arith, latest-small bans l k i);
-        from = λ j. latest-from bans l k i j;
+        within = omega (arith, latest-small bans l i);
+        from = λ j. latest-from bans l i j;
         left = e ∙ latest-before bans l k i;
       }
 
@@ -177,7 +192,7 @@ module _ {w : List ℕ} {lines : ℕ} {bans : List Turn} (held : BansHeld w line
     walk-on d = rw next (to-latest (x - 1) (omega (arith, at .within)) (step ∙ rw (ne-eqb _ _ d)))
 
     pub walk-less : getD w (banEarlier (x - 1)) 0 < x
-    walk-less = omega (arith, next, latest-small bans l k (x - 1))
+    walk-less = omega (arith, next, latest-small bans l (x - 1))
 
   pub walk-end : (x : ℕ) → x ≤ 0 → WalkAt bans l k x → turnAmong bans l k ≡ false
   walk-end x none at = let z : x ≡ 0 = omega arith in at .left ∙ ap (before bans l k) z

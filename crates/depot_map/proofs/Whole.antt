@@ -13,29 +13,18 @@ use Rattle.model.specs.declared.Refusal.{Refusal}
 use Rattle.model.specs.Lines.{nodeAt, lineAt}
 use Rattle.model.proofs.Decoded.{well-formed}
 use Rattle.work_area.specs.Mirror.{mirrorTurns}
-use Rattle.work_area.specs.Held.{heldNode, lineFrom, heldLine, heldNodes, heldLines}
+use Rattle.work_area.specs.Held.{heldNode, heldLine, heldNodes, heldLines}
 use Rattle.depot_map.specs.Stage.{Answered}
 use Rattle.depot_map.specs.Answer.{WholeMap, MapAnswers, MapIsRead}
 use Rattle.depot_map.specs.declared.MapRead.{MapRead}
 use Rattle.depot_map.specs.declared.MapRead.the-variants.{Whole, Refused}
-use Rattle.work_area.proofs.Held.{listed-length, listed-at}
+use Rattle.work_area.proofs.Held.{listed-length, listed-at, line-number}
 
 node-number : (w : List ℕ) (i k : ℕ) → k < nodeSize → getD w (nodePlace i + k) 0 ≡ getD (nodeNumbers (heldNode w i)) k 0
 unfolding heldNode
 node-number w i zero l = rw add-zero
 node-number w i (suc zero) l = refl
 node-number w i (suc (suc k)) l = absurd (omega arith)
-
-line-number : (w : List ℕ) (at k : ℕ) → k < lineSize → getD w (at + k) 0 ≡ getD (lineNumbers (lineFrom w at)) k 0
-unfolding lineFrom
-line-number w at zero l = rw add-zero
-line-number w at (suc zero) l = refl
-line-number w at (suc (suc zero)) l = refl
-line-number w at (suc (suc (suc zero))) l = refl
-line-number w at (suc (suc (suc (suc zero)))) l = refl
-line-number w at (suc (suc (suc (suc (suc zero))))) l = refl
-line-number w at (suc (suc (suc (suc (suc (suc zero)))))) l = refl
-line-number w at (suc (suc (suc (suc (suc (suc (suc k))))))) l = absurd (omega arith)
 
 module _ (w : List ℕ) (nodes lines : ℕ) (bans : List Turn) where
   abbrev held : Map

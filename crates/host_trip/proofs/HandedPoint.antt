@@ -11,22 +11,22 @@ use Rattle.model.specs.Host.{HostPoint, HostPointReadCall, HostPointWriteCall}
 use Rattle.model.specs.PointTrip.{PointsAlike}
 use Rattle.model.specs.HostPointTrip.{HostPointBack}
 use Rattle.model.proofs.HostPointTrip.{host-point-wrote, host-point-trip}
-use Rattle.openlr.specs.Host.{asWritten}
-use Rattle.openlr.specs.declared.Written.{Written}
+use Rattle.openlr.specs.Host.{asPointWritten}
+use Rattle.openlr.specs.declared.point.PointWritten.{PointWritten}
 use Rattle.host_trip.specs.PointTold.{HandedPoint, WrotePoint, NoPoint}
-use Rattle.host_trip.proofs.Answered.{nothing-written}
+use Rattle.host_trip.proofs.Answered.{no-point-written}
 
 -- ---- the writer's answer, by its refusal
 
-module _ {mb : List ℕ} {p : GivenPoint} {b b′ : List ℕ} (r : Written) (call : HostPointWriteCall mb p b (asWritten r) b′) where
+module _ {mb : List ℕ} {p : GivenPoint} {b b′ : List ℕ} (r : PointWritten) (call : HostPointWriteCall mb p b (asPointWritten r) b′) where
   pub wrote-point : r .refusal ≡ 0 → WrotePoint mb p b b′ (r .bytes)
-  unfolding asWritten
+  unfolding asPointWritten
   wrote-point zero = subst (λ (n : ℕ). HostPointWriteCall mb p b (record { refusal = n; bytes = r .bytes }) b′) zero call
 
   pub no-point : r .refusal ≢ 0 → NoPoint mb p b b′ (r .refusal)
-  unfolding asWritten
+  unfolding asPointWritten
   no-point some =
-      let k = nothing-written r some (call .answered .outcome) (call .answered .answers) (call .answered .buffer-after) in
+      let k = no-point-written r some (call .answered .outcome) (call .answered .answers) (call .answered .buffer-after) in
       (subst (λ (n : ℕ). HostPointWriteCall mb p b (record { refusal = r .refusal; bytes = n }) b′) (k .0) call, some, k .1)
 
 -- ---- what was written is read

@@ -7,29 +7,33 @@ ghost use Rattle.host_trip.specs.Trip.{TripTells, PairTells};
 
 pub mod point;
 
-// The writer's refusal; or the count of its bytes, and what the reader answers to exactly those.
+// The writer's refusal; or the count of its bytes, the leg tests made, the excess, and what the reader answers to exactly those bytes.
 pub enum Trip {
     Refused(u32),
-    Back(u32, Lines),
+    Back(u32, u32, u32, Lines),
 }
 
-// Writes a stretch and reads what was written. What the buffers hold before is arbitrary.
+// Writes a stretch, by `tests` leg tests at most, and reads what was written. What the buffers hold before is arbitrary.
 pub fn write_and_read(
     map: &[u8],
     stretch: &[u8],
     pos: u32,
     neg: u32,
+    tests: u32,
     bytes: &mut [u8],
     lines: &mut [u8],
 ) -> Trip
-    ensures { λ r. ⌜ TripTells (now (map .entry)) (now (stretch .entry)) pos neg (now (bytes .entry)) (now (bytes .exit)) (now (lines .entry)) (now (lines .exit)) r ⌝ }
+    ensures { λ r. ⌜ TripTells (now (map .entry)) (now (stretch .entry)) pos neg tests (now (bytes .entry)) (now (bytes .exit))
+        (now (lines .entry)) (now (lines .exit)) r ⌝ }
 {
-    let written = openlr_write(map, stretch, pos, neg, bytes);
+    let written = openlr_write(map, stretch, pos, neg, tests, bytes);
     if written.refusal != 0 {
         return Trip::Refused(written.refusal);
     }
     Trip::Back(
         written.bytes,
+        written.tests,
+        written.excess,
         openlr_read(map, &bytes[..written.bytes as usize], lines),
     )
 }
@@ -42,26 +46,29 @@ pub enum Pair {
     Same(u32, Lines),
 }
 
-// Writes two stretches on one map, and where their bytes are the same, reads them.
+// Writes two stretches on one map, each by its own number of leg tests, and where their bytes are the same, reads them.
 pub fn write_two_and_read(
     map: &[u8],
     first: &[u8],
     pos: u32,
     neg: u32,
+    tests: u32,
     second: &[u8],
     second_pos: u32,
     second_neg: u32,
+    second_tests: u32,
     bytes: &mut [u8],
     others: &mut [u8],
     lines: &mut [u8],
 ) -> Pair
-    ensures { λ r. ⌜ PairTells (now (map .entry)) (now (first .entry)) pos neg (now (second .entry)) «second_pos» «second_neg» (now (bytes .entry)) (now (bytes .exit)) (now (others .entry)) (now (others .exit)) (now (lines .entry)) (now (lines .exit)) r ⌝ }
+    ensures { λ r. ⌜ PairTells (now (map .entry)) (now (first .entry)) pos neg tests (now (second .entry)) «second_pos» «second_neg» «second_tests»
+        (now (bytes .entry)) (now (bytes .exit)) (now (others .entry)) (now (others .exit)) (now (lines .entry)) (now (lines .exit)) r ⌝ }
 {
-    let one = openlr_write(map, first, pos, neg, bytes);
+    let one = openlr_write(map, first, pos, neg, tests, bytes);
     if one.refusal != 0 {
         return Pair::FirstRefused(one.refusal);
     }
-    let other = openlr_write(map, second, second_pos, second_neg, others);
+    let other = openlr_write(map, second, second_pos, second_neg, second_tests, others);
     if other.refusal != 0 {
         return Pair::SecondRefused(other.refusal);
     }

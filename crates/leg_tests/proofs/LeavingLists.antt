@@ -17,9 +17,9 @@ use Rattle.search_cells.proofs.Keeping.{marked-same}
 use Rattle.work_area.specs.Mirror.{mirror}
 use Rattle.search_cells.proofs.Leaving.{latest-same, latest-other, OnList, list-start, list-none, list-next, list-passed}
 use Rattle.search_cells.proofs.Keeping.{chained-same}
-use Rattle.leg_tests.specs.LegTests.{Worked}
+use Rattle.sole_ways.specs.SoleWays.{Worked}
 use Rattle.leg_tests.specs.Leaving.{Listed}
-use Rattle.leg_tests.proofs.Sifting.{worked-then}
+use Rattle.sole_ways.proofs.Working.{worked-then}
 
 -- ---- the cells of the lists are free
 

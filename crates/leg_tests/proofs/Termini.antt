@@ -1,8 +1,9 @@
 -- The termini of the legs to a position: the node there, or, at the last position, the last lines that arrive as the stretch does.
 use Prim.Native.Nat.{ℕ, _-_, _≤_, _<_}
 use mathlib.Core.Path.{_≡_, refl, sym, _∙_, ap, subst}
-use mathlib.Core.Bool.{Bool, cond}
+use mathlib.Core.Bool.{Bool, true, false, cond}
 use mathlib.Core.List.{List}
+use native.Mathlib.Decide.{decLt}
 use native.Mathlib.Omega.{arith}
 use borrow.Author.Tests.{eq-eqb, ne-eqb}
 use lib.ListN.{length, getD}
@@ -12,11 +13,13 @@ use Rattle.model.specs.Lines.{lineAt, lastOf, arriving}
 use Rattle.model.specs.Reading.{any, matching}
 use Rattle.model.specs.Choice.{arrivalOf, legOf}
 use Rattle.work_area.specs.Area.{Held}
+use Rattle.way_lengths.specs.declared.Terminus.{Terminus}
 use Rattle.way_lengths.specs.Ways.{line, node}
 use Rattle.legs.specs.Verdict.{TerminusOf, at-node, at-line}
 use Rattle.stretches.specs.Stretch.{Known}
-use Rattle.leg_tests.specs.LegTests.{legFrom, Serves, Own}
-use Rattle.leg_tests.proofs.Slices.{last-of-slice, to-of-slice}
+use Rattle.leg_tests.specs.LegTests.{legFrom, Serves, Own, EndsThere}
+use Rattle.sole_ways.proofs.Slices.{last-of-slice}
+use Rattle.leg_tests.proofs.Slices.{to-of-slice}
 
 -- How a leg to position `j` ends.
 module _ (m : Map) (s : List ℕ) {i j : ℕ} (h : i < j) (l : j ≤ length s) where
@@ -49,6 +52,7 @@ module _ {m : Map} {lines : ℕ} {w : List ℕ} (held : Held w lines m) (s : Lis
               (at-node (arrives-any m s h (omega arith) before));
         };
         ends = refl;
+        is = ap (λ (last : Bool). cond last (line (getD s (j - 1) 0)) (node (lineAt m (getD s (j - 1) 0) .end))) (ne-eqb j (length s) (λ e. omega arith));
       }
 
   -- The lines that are last lines of the legs to the last position, and the own one.
@@ -62,4 +66,26 @@ module _ {m : Map} {lines : ℕ} {w : List ℕ} (held : Held w lines m) (s : Lis
         }
 
   pub own-line : 0 < length s → Own m lines s (length s) (line (getD s (length s - 1) 0))
-  own-line some = record { serves = serves-line (known (length s - 1) (omega arith)) refl refl; ends = refl }
+  own-line some =
+      let last = getD s (length s - 1) 0 in
+      record {
+        serves = serves-line (known (length s - 1) (omega arith)) refl refl;
+        ends = refl;
+        is = ap (λ (at-end : Bool). cond at-end (line last) (node (lineAt m last .end))) (eq-eqb (length s) (length s) refl);
+      }
+
+-- Every position has the own terminus of the legs to it.
+pub own-there : {m : Map} {lines : ℕ} {w : List ℕ} → Held w lines m → (s : List ℕ) → Known lines s → (j : ℕ) → 0 < j → j ≤ length s →
+    (to : Terminus) × Own m lines s j to
+own-there {m} {lines} held s known j some l = go (decLt j (length s))
+  where
+    go : Dec (j < length s) → (to : Terminus) × Own m lines s j to
+    go (yes before) = (node (lineAt m (getD s (j - 1) 0) .end), own-node held s known some before)
+    go (no last) =
+        let e : length s ≡ j = omega (arith, last) in
+        (line (getD s (length s - 1) 0), subst (λ (k : ℕ). Own m lines s k (line (getD s (length s - 1) 0))) e (own-line held s known (omega arith)))
+
+-- A terminus of the legs to a position, their own or another.
+pub serves-there : {m : Map} {lines : ℕ} {s : List ℕ} {j : ℕ} {to : Terminus} (own : Bool) → EndsThere m lines s j to own → Serves m lines s j to
+serves-there true o = o .serves
+serves-there false o = o .serves

@@ -5,7 +5,7 @@ use mathlib.Core.Bool.{Bool, true, false}
 use mathlib.Core.List.{List}
 use native.Mathlib.Omega.{arith}
 use lib.ListN.{length, getD, take, drop, take-append-drop}
-use lib.Seq.{slice, length-slice, length-take-le}
+use lib.Seq.{slice, length-slice, getD-drop, getD-take}
 use lib.Dec.{eqb}
 use Rattle.model.specs.Map.{Map}
 use Rattle.model.specs.Field.{distance}
@@ -28,16 +28,9 @@ use Rattle.fields.specs.declared.leg.Verdict.{Verdict}
 use Rattle.legs.specs.Verdict.{LimitFor, TerminusOf, Ready, ReadingTo, ReadingFrom, Says, Anywhere}
 use Rattle.legs.proofs.Joining.{says-same, says-then}
 use Rattle.stretches.specs.Stretch.{Known}
-use Rattle.leg_tests.specs.LegTests.{legFrom, Alone, Serves, Own, OwnLines, DoneFor, DoneUpTo, Trial, Measured, Prepared}
-use Rattle.leg_tests.proofs.Slices.{first-of-slice, last-of-slice, connected-front, connected-back, total-slice-back, lowest-slice-back}
+use Rattle.leg_tests.specs.LegTests.{legFrom, Alone, Serves, Own, OwnLines, DoneFor, DoneUpTo, OnLeg, Trial, Prepared}
+use Rattle.sole_ways.proofs.Slices.{first-of-slice, last-of-slice, slice-connected}
 use Rattle.model.specs.Reading as definitions
-
--- A part of connected lines.
-pub slice-connected : {m : Map} (s : List ℕ) (i j : ℕ) → i < j → j ≤ length s → Connected m s → Connected m (slice i j s)
-slice-connected {m} s i j h l c =
-    let size = length-take-le j s l in
-    let front : Connected m (take j s) = connected-front (take j s) (drop j s) (omega arith) (rw (take-append-drop j s) c) in
-    connected-back (take i (take j s)) (slice i j s) (omega (arith, length-slice i j s l)) (rw (take-append-drop i (take j s)) front)
 
 arrives-so : (m : Map) (last : Bool) (ls : List ℕ) → Arrives m (arrivalOf m last ls) ls
 unfolding arrivalOf
@@ -82,7 +75,7 @@ module _ {m : Map} {lines : ℕ} {s : List ℕ} {i j class len : ℕ} (t : Trial
         }
 
   -- Where the first line is alone, every reading starts with it.
-  only-first : {to : Terminus} → length (m .lines) ≡ lines → Alone m lines s i → (ls : List ℕ) → ReadingTo m (legFrom m s i j) to ls →
+  pub only-first : {to : Terminus} → length (m .lines) ≡ lines → Alone m lines s i → (ls : List ℕ) → ReadingTo m (legFrom m s i j) to ls →
       ReadingFrom m (legFrom m s i j) (getD s i 0) to ls
   unfolding legOf fromNode
   only-first all alone ls r =
@@ -143,18 +136,6 @@ module _ {m : Map} {lines class : ℕ} {to : Terminus} {len : ℕ} {w : List ℕ
         worked = record { set = record { held = held-kept (omega arith) (f .kept) (set .held); chained = f .chained }; kept = f .kept };
       }
 
--- One line more before the leg.
-pub measured-back : {m : Map} {s : List ℕ} {i j class len class′ len′ frc size : ℕ} → 0 < i → i ≤ j → j ≤ length s →
-    class ≡ lowest m (slice i j s) → len ≡ total m (slice i j s) → class′ ≡ max class frc → frc ≡ lineAt m (getD s (i - 1) 0) .frc →
-    len′ ≡ len + size → size ≡ lineAt m (getD s (i - 1) 0) .length → Measured m s (i - 1) j class′ len′
-measured-back {m} {s} {i} {j} some before inside classes sum c f l z =
-    record {
-      ordered = omega arith;
-      inside = inside;
-      classes = c ∙ ap₂ max classes f ∙ sym (lowest-slice-back s i j some before inside m);
-      sum = omega (arith, l, z, sum, total-slice-back s i j some before inside m);
-    }
-
 -- The lines of a connected list are the map's.
 pub connected-lines : {m : Map} {ls : List ℕ} → Connected m ls → Known (length (m .lines)) ls
 connected-lines (single h) zero l = h
@@ -166,5 +147,22 @@ module _ {m : Map} {lines : ℕ} {s w : List ℕ} (set : Set m lines w) (c : Con
   pub all-known : Known lines s
   all-known = subst (λ (n : ℕ). Known n s) (set .held .line-count) (connected-lines c)
 
-  pub trial-of : {i j class len : ℕ} → length s ≤ 64 → Measured m s i j class len → Trial m lines s i j class len
-  trial-of few x = record { known = all-known; connected = c; few = few; measured = x }
+  pub leg-of : {i j : ℕ} → length s ≤ 64 → i < j → j ≤ length s → OnLeg m lines s i j
+  leg-of few h l = record { known = all-known; connected = c; few = few; ordered = h; inside = l }
+
+-- A leg with its class and its length.
+pub trial-of : {m : Map} {lines : ℕ} {s : List ℕ} {i j class len : ℕ} → OnLeg m lines s i j → class ≡ lowest m (slice i j s) → len ≡ total m (slice i j s) →
+    Trial m lines s i j class len
+trial-of t c e =
+    record {
+      known = t .known;
+      connected = t .connected;
+      few = t .few;
+      measured = record { ordered = t .ordered; inside = t .inside; classes = c; sum = e };
+    }
+
+-- The lines of a part are lines of the stretch.
+pub part-known : {lines : ℕ} (s : List ℕ) (i j : ℕ) → j ≤ length s → Known lines s → Known lines (slice i j s)
+part-known {lines} s i j l known k h =
+    let size = length-slice i j s l in
+    subst (λ (x : ℕ). x < lines) (sym (getD-drop i (take j s) k 0 ∙ getD-take j s (i + k) 0 (omega arith))) (known (i + k) (omega arith))

@@ -7,7 +7,7 @@ use mathlib.Core.List.{List}
 use lib.ListN.{length, getD}
 use Rattle.model.specs.Lines.{lineAt}
 use Rattle.search_cells.specs.Area.{latest}
-use Rattle.leg_tests.specs.LegTests.{Worked}
+use Rattle.sole_ways.specs.SoleWays.{Worked}
 
 -- The lists of the lines below `i`: of each node 1 + its last line, from each line 1 + the one below it from the same node, and 0 where there is none.
 -- They stand in cells that nothing is promised of but while a search is under way.

@@ -13,7 +13,8 @@ ghost use lib.ListN.{length};
 ghost use Rattle.model.specs.Map.{Map};
 ghost use Rattle.work_area.specs.Area.{Held};
 ghost use Rattle.stretches.specs.Stretch.{Known};
-ghost use Rattle.leg_tests.specs.LegTests.{Marks, Alone};
+ghost use Rattle.sole_ways.specs.SoleWays.{Marks};
+ghost use Rattle.leg_tests.specs.LegTests.{Alone};
 ghost use Rattle.leg_tests.specs.Leaving.{Leaving};
 
 // The number of the line at position `i`: 1 where it is alone.

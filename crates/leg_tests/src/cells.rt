@@ -1,19 +1,17 @@
 // The test of one leg by one terminus: the leg's number in the table, and what the work area is searched for by then.
-use crate::leg::first_mark;
-use crate::leg_search::end_after;
+use crate::leg::leg_fits;
 use crate::leg_search::prepare;
-use crate::leg_search::test_other;
-use crate::leg_search::test_own;
+use crate::leg_search::test_leg;
+use stretches::lines::lowest_class;
+use stretches::lines::total_length;
 use way_lengths::Terminus;
 ghost use mathlib.Core.Path.{_≡_};
-ghost use Prim.Native.Nat.{_≤_};
-ghost use lib.ListN.{length};
+ghost use mathlib.Core.Bool.{true};
 ghost use Rattle.model.specs.Map.{Map};
-ghost use Rattle.model.specs.Reading.{greatestLegLength};
 ghost use Rattle.buffers.specs.Decides.{Decides};
-ghost use Rattle.way_lengths.specs.Ways.{line};
 ghost use Rattle.search_cells.specs.Area.{Set};
-ghost use Rattle.leg_tests.specs.LegTests.{Alone, Own, Other, DoneFor, Trial, CellTested, OwnTested};
+ghost use Rattle.sole_ways.specs.SoleWays.{SoleLeg};
+ghost use Rattle.leg_tests.specs.LegTests.{Alone, Own, EndsThere, DoneFor, OnLeg, CellSearched, CellTested};
 
 // A leg's number in the table, and what the work area is searched for: 1 + the class, or 0, and the limit.
 pub struct Cell {
@@ -22,53 +20,41 @@ pub struct Cell {
     pub limit: u32,
 }
 
-// The same after the test of a leg's own terminus, and the position that its column ends at: no leg from an earlier one can be used.
-pub struct OwnCell {
-    pub mark: u8,
-    pub searched: u32,
-    pub limit: u32,
-    pub end: usize,
-}
-
-// The number of the leg from position `i` to the last position after the test of another last line. Where it is not 1 there is nothing to test.
-pub fn test_cell(
+// The number of a leg that is no longer than a leg can be, by the readings to a terminus: after a search back from there, if the last one does not serve it.
+fn search_cell(
     work: &mut [u32],
     lines: usize,
     stretch: &[u32],
     i: usize,
-    last: usize,
-    class: u32,
-    len: u32,
+    j: usize,
+    to: Terminus,
+    own: bool,
     alone: bool,
-    reach: u32,
     before: Cell,
 ) -> Cell
-    requires { ⌜ ((m : Map) × Set m lines (now work) × Trial m lines (now stretch) i (length (now stretch)) class len
-        × Decides (Alone m lines (now stretch) i) alone × Other m lines (now stretch) last × (before .mark ≡ 1 → len ≤ greatestLegLength)
-        × DoneFor m lines (before .searched) (line last) (before .limit) (now work)) ⌝ }
-    ensures { λ r. ⌜ ((m : Map) → Set m lines (now (work .entry)) → Trial m lines (now (stretch .entry)) i (length (now (stretch .entry))) class len
-        → Decides (Alone m lines (now (stretch .entry)) i) alone → Other m lines (now (stretch .entry)) last
-        → (before .mark ≡ 1 → len ≤ greatestLegLength) → DoneFor m lines (before .searched) (line last) (before .limit) (now (work .entry))
-        → CellTested m lines (now (stretch .entry)) i last (before .mark) (now (work .entry)) (now (work .exit)) r) ⌝ }
+    requires { ⌜ ((m : Map) × Set m lines (now work) × OnLeg m lines (now stretch) i j × SoleLeg m (now stretch) i j
+        × Decides (Alone m lines (now stretch) i) alone × EndsThere m lines (now stretch) j to own
+        × DoneFor m lines (before .searched) to (before .limit) (now work)) ⌝ }
+    ensures { λ r. ⌜ ((m : Map) → Set m lines (now (work .entry)) → OnLeg m lines (now (stretch .entry)) i j → SoleLeg m (now (stretch .entry)) i j
+        → Decides (Alone m lines (now (stretch .entry)) i) alone → EndsThere m lines (now (stretch .entry)) j to own
+        → DoneFor m lines (before .searched) to (before .limit) (now (work .entry))
+        → CellSearched m lines (now (stretch .entry)) i j to (now (work .entry)) (now (work .exit)) r) ⌝ }
 {
-    let mark = before.mark;
-    if mark != 1 {
-        return before;
-    }
+    let class = lowest_class(work, lines, &stretch[i..j]);
+    let len = total_length(work, lines, &stretch[i..j]) as u32;
     let limit = prepare(
         work,
         lines,
         stretch,
         i,
-        Terminus::Line(last),
+        to,
         class,
         len,
-        reach,
         before.searched,
         before.limit,
     );
     let searched = class + 1;
-    if test_other(work, lines, stretch, i, last, class, len, alone, limit) {
+    if test_leg(work, lines, stretch, i, j, class, len, alone, own, limit) {
         return Cell {
             mark: 1,
             searched,
@@ -82,64 +68,65 @@ pub fn test_cell(
     }
 }
 
-// The number of the leg from position `i` to position `j` after the test of its own terminus, and the end of the column.
-pub fn test_own_cell(
+// The number of a leg that is a sole way after the test of its own terminus. Where its first line is alone it is the only reading there.
+fn own_cell(
     work: &mut [u32],
     lines: usize,
     stretch: &[u32],
     i: usize,
     j: usize,
     to: Terminus,
-    class: u32,
-    len: u32,
     alone: bool,
-    reach: u32,
-    before: OwnCell,
-) -> OwnCell
-    requires { ⌜ before .end ≤ i ⌝ }
-    requires { ⌜ ((m : Map) × Set m lines (now work) × Trial m lines (now stretch) i j class len × Decides (Alone m lines (now stretch) i) alone
-        × Own m lines (now stretch) j to × DoneFor m lines (before .searched) to (before .limit) (now work)) ⌝ }
-    ensures { λ r. ⌜ (before .end ≤ r .end) × (r .end ≤ i) ⌝ }
-    ensures { λ r. ⌜ ((m : Map) → Set m lines (now (work .entry)) → Trial m lines (now (stretch .entry)) i j class len
-        → Decides (Alone m lines (now (stretch .entry)) i) alone → Own m lines (now (stretch .entry)) j to
+    before: Cell,
+) -> Cell
+    requires { ⌜ ((m : Map) × Set m lines (now work) × OnLeg m lines (now stretch) i j × SoleLeg m (now stretch) i j
+        × Decides (Alone m lines (now stretch) i) alone × Own m lines (now stretch) j to
+        × DoneFor m lines (before .searched) to (before .limit) (now work)) ⌝ }
+    ensures { λ r. ⌜ (before .mark ≡ 1 → (m : Map) → Set m lines (now (work .entry)) → OnLeg m lines (now (stretch .entry)) i j
+        → SoleLeg m (now (stretch .entry)) i j → Decides (Alone m lines (now (stretch .entry)) i) alone → Own m lines (now (stretch .entry)) j to
         → DoneFor m lines (before .searched) to (before .limit) (now (work .entry))
-        → OwnTested m lines (now (stretch .entry)) i j to (before .end) (now (work .entry)) (now (work .exit)) r) ⌝ }
+        → CellTested m lines (now (stretch .entry)) i j to true (before .mark) (now (work .entry)) (now (work .exit)) r) ⌝ }
 {
-    let end = before.end;
-    if first_mark(work, lines, stretch, i, j, len) != 1 {
-        return OwnCell {
+    if !leg_fits(work, lines, stretch, i, j) {
+        return Cell {
             mark: 0,
             searched: before.searched,
             limit: before.limit,
-            end,
         };
     }
-    let limit = prepare(
-        work,
-        lines,
-        stretch,
-        i,
-        to,
-        class,
-        len,
-        reach,
-        before.searched,
-        before.limit,
-    );
-    let searched = class + 1;
-    if test_own(work, lines, stretch, i, j, class, len, alone, limit) {
-        return OwnCell {
-            mark: 1,
-            searched,
-            limit,
-            end,
-        };
+    if alone {
+        return before;
     }
-    let end = end_after(work, lines, stretch, i, j, class, len, limit, end);
-    OwnCell {
-        mark: 0,
-        searched,
-        limit,
-        end,
+    search_cell(work, lines, stretch, i, j, to, true, alone, before)
+}
+
+// The number of the leg from position `i` to position `j` after the test of a terminus. Where it is not 1 there is nothing to test.
+pub fn test_cell(
+    work: &mut [u32],
+    lines: usize,
+    stretch: &[u32],
+    i: usize,
+    j: usize,
+    to: Terminus,
+    own: bool,
+    alone: bool,
+    before: Cell,
+) -> Cell
+    requires { ⌜ ((m : Map) × Set m lines (now work) × OnLeg m lines (now stretch) i j × (before .mark ≡ 1 → SoleLeg m (now stretch) i j)
+        × Decides (Alone m lines (now stretch) i) alone × EndsThere m lines (now stretch) j to own
+        × DoneFor m lines (before .searched) to (before .limit) (now work)) ⌝ }
+    ensures { λ r. ⌜ ((m : Map) → Set m lines (now (work .entry)) → OnLeg m lines (now (stretch .entry)) i j
+        → (before .mark ≡ 1 → SoleLeg m (now (stretch .entry)) i j)
+        → Decides (Alone m lines (now (stretch .entry)) i) alone → EndsThere m lines (now (stretch .entry)) j to own
+        → DoneFor m lines (before .searched) to (before .limit) (now (work .entry))
+        → CellTested m lines (now (stretch .entry)) i j to own (before .mark) (now (work .entry)) (now (work .exit)) r) ⌝ }
+{
+    let mark = before.mark;
+    if mark != 1 {
+        return before;
     }
+    if own {
+        return own_cell(work, lines, stretch, i, j, to, alone, before);
+    }
+    search_cell(work, lines, stretch, i, j, to, own, alone, before)
 }

@@ -1,4 +1,4 @@
-// A leg of a stretch before any search: whether its length and its differences are a leg's, and the leg as its bytes will say.
+// A leg of a stretch before any search: whether its differences fit, and the leg as its bytes will say.
 use fields::coordinate::Difference16;
 use fields::coordinate::LONGITUDE_ADDED;
 use fields::coordinate::difference;
@@ -6,7 +6,6 @@ use fields::coordinate::longitude_difference;
 use fields::leg::Arrival;
 use fields::leg::Leg;
 use fields::leg::distance;
-use model::limits::GREATEST_LEG_LENGTH;
 use stretches::lines::attributes_of;
 use stretches::lines::coordinate;
 use stretches::lines::node_of;
@@ -22,14 +21,14 @@ ghost use lib.Seq.{slice};
 ghost use lib.Dec.{eqb};
 ghost use Rattle.model.specs.Map.{Map};
 ghost use Rattle.model.specs.Field.{distance};
-ghost use Rattle.model.specs.Lines.{nodeAt, total, arriving};
+ghost use Rattle.model.specs.Lines.{nodeAt, arriving};
 ghost use Rattle.model.specs.Difference.{Near, DifferencesFit};
 ghost use Rattle.model.specs.Reading.{any, matching};
 ghost use Rattle.work_area.specs.Area.{Held};
 ghost use Rattle.buffers.specs.Decides.{Decides};
 ghost use Rattle.fields.specs.Leg.{arrivalIn, legIn};
 ghost use Rattle.stretches.specs.Stretch.{Known};
-ghost use Rattle.leg_tests.specs.LegTests.{legFrom, Usual, Marks, Measured};
+ghost use Rattle.leg_tests.specs.LegTests.{legFrom, Fits, Measured};
 
 // Whether a difference fits 16 bits.
 fn near(from: u32, to: u32) -> bool
@@ -60,19 +59,15 @@ fn fits(work: &[u32], lines: usize, from: usize, to: usize) -> bool
     )
 }
 
-// The number that a leg has before any first line is tested: 1 where its length is a leg's and its differences fit.
-pub fn first_mark(work: &[u32], lines: usize, stretch: &[u32], i: usize, j: usize, len: u32) -> u32
+// Whether the differences of the leg from position `i` to position `j` fit.
+pub fn leg_fits(work: &[u32], lines: usize, stretch: &[u32], i: usize, j: usize) -> bool
     requires { ⌜ Known lines (now stretch) × (i < j) × (j ≤ length (now stretch)) ⌝ }
     requires { ⌜ ((m : Map) × Held (now work) lines m) ⌝ }
-    ensures { λ r. ⌜ ((m : Map) → Held (now (work .entry)) lines m → len ≡ total m (slice i j (now (stretch .entry)))
-        → Marks (Usual m (slice i j (now (stretch .entry)))) r) ⌝ }
+    ensures { λ r. ⌜ ((m : Map) → Held (now (work .entry)) lines m → Decides (Fits m (slice i j (now (stretch .entry)))) r) ⌝ }
 {
-    if GREATEST_LEG_LENGTH < len {
-        return 0;
-    }
     let from = node_of(work, lines, stretch, i, START);
     let to = node_of(work, lines, stretch, j - 1, END);
-    if fits(work, lines, from, to) { 1 } else { 0 }
+    fits(work, lines, from, to)
 }
 
 // How the leg to position `j` ends: with any line, or, on the last leg, as its last line does.

@@ -1,4 +1,4 @@
-// The search for a leg back from a terminus, and what it says of the leg's own lines: whether they are the only reading, or the only way.
+// The search for a leg back from a terminus, and what it says of the leg's own lines: whether they are the only reading there.
 use crate::leg::leg_of;
 use buffers::wide;
 use fields::leg::Verdict;
@@ -8,16 +8,13 @@ use legs::first_lines::from_line;
 use legs::first_lines::from_lines;
 use model::limits::GREATEST_LEG_LENGTH;
 use search::search;
+use sole_ways::ahead::goal_for;
 use stretches::lines::field_of;
-use stretches::lines::greater;
 use way_lengths::Terminus;
-use ways::Ways;
-use ways::ways_from;
 use work_area::FRC;
 use work_area::LENGTH;
 ghost use mathlib.Core.List.{List};
-ghost use Prim.Native.Nat.{ℕ, _+_, _/_, _≤_, min, max};
-ghost use mathlib.Core.Path.{_≡_};
+ghost use Prim.Native.Nat.{ℕ, _≤_};
 ghost use lib.ListN.{length};
 ghost use lib.Seq.{slice};
 ghost use Rattle.model.specs.Map.{Map};
@@ -27,13 +24,13 @@ ghost use Rattle.model.specs.Reading.{greatestLegLength};
 ghost use Rattle.work_area.specs.Area.{Held};
 ghost use Rattle.work_area.specs.Mirror.{mirror};
 ghost use Rattle.way_lengths.specs.declared.Terminus.{Terminus};
-ghost use Rattle.way_lengths.specs.Ways.{line, Ends};
+ghost use Rattle.way_lengths.specs.Ways.{Ends};
 ghost use Rattle.search_cells.specs.Area.{Set};
 ghost use Rattle.way_lengths.specs.Ways.{Stands};
 ghost use Rattle.buffers.specs.Decides.{Decides};
 ghost use Rattle.legs.specs.Verdict.{LimitFor, Says, Anywhere, ReadingTo};
 ghost use Rattle.stretches.specs.Stretch.{Known};
-ghost use Rattle.leg_tests.specs.LegTests.{legFrom, Alone, Serves, Own, Other, Sole, SoleWay, OwnLines, DoneFor, DoneUpTo, Trial, Prepared, NoneBefore};
+ghost use Rattle.leg_tests.specs.LegTests.{legFrom, Alone, Serves, EndsThere, Sole, OwnLines, DoneFor, DoneUpTo, Trial, Prepared};
 ghost use Rattle.model.specs.Reading as definitions;
 
 // A length for a search to look ahead to from the leg from position `i`, so that it serves longer legs too: `goal`, or how long the legs of
@@ -66,35 +63,13 @@ fn look_ahead(
     far
 }
 
-// The length to look ahead to from a leg: half as much again or `reach`, the greater of them, and no more than a leg can have.
-fn goal_for(len: u32, reach: u32) -> u32
-    requires { ⌜ len ≤ greatestLegLength ⌝ }
-    ensures { λ r. ⌜ r ≡ min (max (len + len / 2) reach) greatestLegLength ⌝ }
-{
-    let goal = greater(len + len / 2, reach);
-    if GREATEST_LEG_LENGTH < goal {
-        GREATEST_LEG_LENGTH
-    } else {
-        goal
-    }
-}
-
-// The limit of a search for the leg from position `i`, of this lowest class and length, and for longer ones. `reach` is a guess of how long
-// they get.
-fn limit_for(
-    work: &[u32],
-    lines: usize,
-    stretch: &[u32],
-    i: usize,
-    class: u32,
-    len: u32,
-    reach: u32,
-) -> u32
+// The limit of a search for the leg from position `i`, of this lowest class and length, and for longer ones.
+fn limit_for(work: &[u32], lines: usize, stretch: &[u32], i: usize, class: u32, len: u32) -> u32
     requires { ⌜ Known lines (now stretch) × (i ≤ length (now stretch)) × (len ≤ greatestLegLength) ⌝ }
     requires { ⌜ ((m : Map) × Held (now work) lines m) ⌝ }
     ensures { λ r. ⌜ LimitFor (distance len) r ⌝ }
 {
-    let goal = goal_for(len, reach);
+    let goal = goal_for(len + len / 2, 0);
     let far = look_ahead(work, lines, stretch, i, class, len, goal);
     if GREATEST_LEG_LENGTH <= far {
         return GREATEST_LEG_LENGTH;
@@ -112,7 +87,6 @@ pub fn prepare(
     to: Terminus,
     class: u32,
     len: u32,
-    reach: u32,
     searched: u32,
     done: u32,
 ) -> u32
@@ -126,7 +100,7 @@ pub fn prepare(
             return done;
         }
     }
-    let limit = limit_for(work, lines, stretch, i, class, len, reach);
+    let limit = limit_for(work, lines, stretch, i, class, len);
     search(work, lines, to, class, limit);
     limit
 }
@@ -190,8 +164,8 @@ fn is_unread(found: Verdict) -> bool
     }
 }
 
-// Whether the leg from position `i` to position `j` passes the test of its own terminus.
-pub fn test_own(
+// Whether the leg from position `i` to position `j` passes the test of a terminus, after a search back from it: of its own, or of another.
+pub fn test_leg(
     work: &[u32],
     lines: usize,
     stretch: &[u32],
@@ -200,106 +174,20 @@ pub fn test_own(
     class: u32,
     len: u32,
     alone: bool,
+    own: bool,
     limit: u32,
 ) -> bool
     requires { ⌜ ((m : Map) × (to : Terminus) × Set m lines (now work) × Trial m lines (now stretch) i j class len
-        × Decides (Alone m lines (now stretch) i) alone × Own m lines (now stretch) j to × (len ≤ greatestLegLength)
+        × Decides (Alone m lines (now stretch) i) alone × EndsThere m lines (now stretch) j to own × (len ≤ greatestLegLength)
         × DoneUpTo m lines class to len limit (now work)) ⌝ }
     ensures { λ r. ⌜ ((m : Map) → (to : Terminus) → Set m lines (now (work .entry)) → Trial m lines (now (stretch .entry)) i j class len
-        → Decides (Alone m lines (now (stretch .entry)) i) alone → Own m lines (now (stretch .entry)) j to → len ≤ greatestLegLength
+        → Decides (Alone m lines (now (stretch .entry)) i) alone → EndsThere m lines (now (stretch .entry)) j to own → len ≤ greatestLegLength
         → DoneUpTo m lines class to len limit (now (work .entry))
         → Decides (Sole m (legFrom m (now (stretch .entry)) i j) (slice i j (now (stretch .entry))) to) r) ⌝ }
 {
     let found = verdict_on(work, lines, stretch, i, j, class, len, alone, limit);
-    is_sole(found, wide(stretch[i]), len)
-}
-
-// Whether the leg from position `i` to the last position passes the test of another last line.
-pub fn test_other(
-    work: &[u32],
-    lines: usize,
-    stretch: &[u32],
-    i: usize,
-    last: usize,
-    class: u32,
-    len: u32,
-    alone: bool,
-    limit: u32,
-) -> bool
-    requires { ⌜ ((m : Map) × Set m lines (now work) × Trial m lines (now stretch) i (length (now stretch)) class len
-        × Decides (Alone m lines (now stretch) i) alone × Other m lines (now stretch) last
-        × DoneUpTo m lines class (line last) len limit (now work)) ⌝ }
-    ensures { λ r. ⌜ ((m : Map) → Set m lines (now (work .entry)) → Trial m lines (now (stretch .entry)) i (length (now (stretch .entry))) class len
-        → Decides (Alone m lines (now (stretch .entry)) i) alone → Other m lines (now (stretch .entry)) last
-        → DoneUpTo m lines class (line last) len limit (now (work .entry))
-        → Decides (Sole m (legFrom m (now (stretch .entry)) i (length (now (stretch .entry))))
-        (slice i (length (now (stretch .entry))) (now (stretch .entry))) (line last)) r) ⌝ }
-{
-    is_unread(verdict_on(
-        work,
-        lines,
-        stretch,
-        i,
-        stretch.len(),
-        class,
-        len,
-        alone,
-        limit,
-    ))
-}
-
-// Whether the lines from position `i` to position `j` are the only way from the first of them to their terminus that is no longer than they are.
-fn is_sole_way(
-    work: &[u32],
-    lines: usize,
-    stretch: &[u32],
-    i: usize,
-    j: usize,
-    class: u32,
-    len: u32,
-    limit: u32,
-) -> bool
-    requires { ⌜ ((m : Map) × (to : Terminus) × Trial m lines (now stretch) i j class len × Own m lines (now stretch) j to
-        × (len ≤ greatestLegLength) × DoneUpTo m lines class to len limit (now work)) ⌝ }
-    ensures { λ r. ⌜ ((m : Map) → (to : Terminus) → Trial m lines (now (stretch .entry)) i j class len → Own m lines (now (stretch .entry)) j to
-        → len ≤ greatestLegLength → DoneUpTo m lines class to len limit (now (work .entry))
-        → Decides (SoleWay m (slice i j (now (stretch .entry))) to) r) ⌝ }
-{
-    match ways_from(work, lines, wide(stretch[i]), limit) {
-        Ways::Nothing => false,
-        Ways::Several(_) => false,
-        Ways::One(_, length, _) => {
-            if length != len {
-                return false;
-            }
-            true
-        }
+    if own {
+        return is_sole(found, wide(stretch[i]), len);
     }
-}
-
-// The end of the column once the leg from position `i` fails the test of its own terminus. Where its lines are not the only way, those of a
-// longer leg are not either.
-pub fn end_after(
-    work: &[u32],
-    lines: usize,
-    stretch: &[u32],
-    i: usize,
-    j: usize,
-    class: u32,
-    len: u32,
-    limit: u32,
-    end: usize,
-) -> usize
-    requires { ⌜ end ≤ i ⌝ }
-    requires { ⌜ ((m : Map) × (to : Terminus) × Trial m lines (now stretch) i j class len × Own m lines (now stretch) j to
-        × (len ≤ greatestLegLength) × DoneUpTo m lines class to len limit (now work)) ⌝ }
-    ensures { λ r. ⌜ (end ≤ r) × (r ≤ i) ⌝ }
-    ensures { λ r. ⌜ ((m : Map) → (to : Terminus) → Trial m lines (now (stretch .entry)) i j class len → Own m lines (now (stretch .entry)) j to
-        → len ≤ greatestLegLength → DoneUpTo m lines class to len limit (now (work .entry))
-        → NoneBefore m (now (stretch .entry)) j to end r) ⌝ }
-{
-    if is_sole_way(work, lines, stretch, i, j, class, len, limit) {
-        return end;
-    }
-    i
+    is_unread(found)
 }

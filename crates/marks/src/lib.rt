@@ -3,6 +3,7 @@ use answer_text::put;
 use answer_text::put_number;
 use buffers::lesser;
 use cases::sum_of_bytes;
+use model::PointWriteAnswer;
 use model::WriteAnswer;
 use model::limits::WORK_LENGTH;
 use model::number_of;
@@ -11,7 +12,7 @@ ghost use lib.ListN.{length};
 ghost use Rattle.buffers.specs.Decides.{Decides};
 ghost use Rattle.answer_text.specs.Put.{Put};
 ghost use Rattle.marks.specs.Marks.{markOf, byteMarkOf, Marked, Cleared};
-ghost use Rattle.marks.specs.Shown.{Shown, WorkText, restText, writtenText};
+ghost use Rattle.marks.specs.Shown.{Shown, WorkText, restText, sumText, writtenText, pointWrittenText};
 
 // What stands at place `i` of a buffer before a call. It is no line's number and not 0, and numbers next to each other differ.
 fn mark(i: usize) -> u32
@@ -115,16 +116,38 @@ pub fn put_rest(kept: bool, buffer: &mut [u8], at: usize) -> usize
     put(b" rest changed", buffer, at)
 }
 
-// Puts a writer's answer and, where it hands back bytes, a sum over them; a count beyond the buffer shows by itself.
+// Puts a sum over the bytes that were handed back; a count beyond the buffer shows by itself.
+fn put_sum(count: usize, bytes: &[u8], row: &mut [u8], at: usize) -> usize
+    ensures { λ r. ⌜ Put at (sumText count (now (bytes .entry))) (now (row .entry)) (now (row .exit)) r ⌝ }
+{
+    let handed_back = lesser(count, bytes.len());
+    put_number(b" sum ", sum_of_bytes(bytes, handed_back), row, at)
+}
+
+// Puts a writer's answer, the leg tests made and the excess with it, and where it hands back bytes, a sum over them.
 pub fn put_written(answer: WriteAnswer, bytes: &[u8], row: &mut [u8]) -> usize
     ensures { λ r. ⌜ Put 0 (writtenText answer (now (bytes .entry))) (now (row .entry)) (now (row .exit)) r ⌝ }
 {
     match answer {
-        WriteAnswer::Written(count) => {
-            let end = put_number(b"bytes ", count as u64, row, 0);
-            let handed_back = lesser(count, bytes.len());
-            put_number(b" sum ", sum_of_bytes(bytes, handed_back), row, end)
+        WriteAnswer::Written(count, made, excess) => {
+            let counted = put_number(b"bytes ", count as u64, row, 0);
+            let tested = put_number(b" tests ", made as u64, row, counted);
+            let end = put_number(b" excess ", excess as u64, row, tested);
+            put_sum(count, bytes, row, end)
         }
         WriteAnswer::Refused(why) => put_number(b"refused ", number_of(why) as u64, row, 0),
+    }
+}
+
+// The same for the writer of points.
+pub fn put_point_written(answer: PointWriteAnswer, bytes: &[u8], row: &mut [u8]) -> usize
+    ensures { λ r. ⌜ Put 0 (pointWrittenText answer (now (bytes .entry))) (now (row .entry)) (now (row .exit)) r ⌝ }
+{
+    match answer {
+        PointWriteAnswer::Written(count) => {
+            let end = put_number(b"bytes ", count as u64, row, 0);
+            put_sum(count, bytes, row, end)
+        }
+        PointWriteAnswer::Refused(why) => put_number(b"refused ", number_of(why) as u64, row, 0),
     }
 }

@@ -11,12 +11,14 @@ use Rattle.model.specs.Stretch.{Stretch}
 use Rattle.model.specs.Call.{ReadCall, WriteCall}
 use Rattle.model.specs.PointAlong.{GivenPoint, PointReadCall, PointWriteCall}
 use Rattle.model.specs.declared.PointReadAnswer.{PointReadAnswer}
+use Rattle.model.specs.declared.PointWriteAnswer.{PointWriteAnswer}
 use Rattle.model.specs.declared.ReadAnswer.{ReadAnswer}
 use Rattle.model.specs.declared.ReadAnswer.the-variants.{Read, Refused}
 use Rattle.model.specs.declared.WriteAnswer.{WriteAnswer}
 use Rattle.model.specs.declared.WriteAnswer.the-variants.{Written}
 use Rattle.model.specs.declared.WriteAnswer.the-variants as writer
 use Rattle.model.specs.declared.PointReadAnswer.the-variants as point
+use Rattle.model.specs.declared.PointWriteAnswer.the-variants as point-writer
 
 unfoldable pub refusedBy : MapAnswer → ℕ
 refusedBy (whole m) = 0
@@ -36,13 +38,13 @@ pub record ReadNumber (mb ref work lines : List ℕ) (n : ℕ) (work′ lines′
   pub same : n ≡ answerNumber answer
 
 unfoldable pub writtenNumber : WriteAnswer → ℕ
-writtenNumber (Written n) = n
+writtenNumber (Written n made excess) = n
 writtenNumber (writer.Refused why) = numberOf (refusalOf why)
 
 -- A call of the writer whose answer has this number.
-pub record WriteNumber (mb : List ℕ) (s : Stretch) (work bytes : List ℕ) (n : ℕ) (work′ bytes′ : List ℕ) : Type 0 where
+pub record WriteNumber (mb : List ℕ) (s : Stretch) (tests : ℕ) (work bytes : List ℕ) (n : ℕ) (work′ bytes′ : List ℕ) : Type 0 where
   pub answer : WriteAnswer
-  pub call : WriteCall mb s work bytes answer work′ bytes′
+  pub call : WriteCall mb s tests work bytes answer work′ bytes′
   pub same : n ≡ writtenNumber answer
 
 -- The same of the calls with points.
@@ -55,7 +57,11 @@ pub record PointReadNumber (mb ref work lines : List ℕ) (n : ℕ) (work′ lin
   pub call : PointReadCall mb ref work lines answer work′ lines′
   pub same : n ≡ pointNumber answer
 
+unfoldable pub pointWrittenNumber : PointWriteAnswer → ℕ
+pointWrittenNumber (point-writer.Written n) = n
+pointWrittenNumber (point-writer.Refused why) = numberOf (refusalOf why)
+
 pub record PointWriteNumber (mb : List ℕ) (p : GivenPoint) (work bytes : List ℕ) (n : ℕ) (work′ bytes′ : List ℕ) : Type 0 where
-  pub answer : WriteAnswer
+  pub answer : PointWriteAnswer
   pub call : PointWriteCall mb p work bytes answer work′ bytes′
-  pub same : n ≡ writtenNumber answer
+  pub same : n ≡ pointWrittenNumber answer

@@ -6,6 +6,7 @@ use fields::offset::Offsets;
 use fields::offset::offset_byte;
 use fields::offset::span_of;
 use model::PointReadAnswer;
+use model::PointWriteAnswer;
 use model::ReadAnswer;
 use model::WriteAnswer;
 use model::limits::GREATEST_LEG_LENGTH;
@@ -100,21 +101,22 @@ pub extern "C" fn measured_read(
     }
 }
 
-// Writes a stretch: the count of bytes, or the number of the refusal. The two are not told apart: 21 and 23 may be either.
+// Writes a stretch: the count of bytes, or the number of the refusal. The two are not told apart: 23 and 24 may be either.
 #[no_mangle]
 pub extern "C" fn measured_write(
     map: &[u8],
     stretch: &[u32],
     pos: u32,
     neg: u32,
+    tests: u32,
     work: &mut [u32],
     bytes: &mut [u8],
 ) -> usize
-    ensures { λ r. ⌜ WriteNumber (now (map .entry)) (stretchOf (now (stretch .entry)) pos neg) (now (work .entry)) (now (bytes .entry)) r
+    ensures { λ r. ⌜ WriteNumber (now (map .entry)) (stretchOf (now (stretch .entry)) pos neg) tests (now (work .entry)) (now (bytes .entry)) r
         (now (work .exit)) (now (bytes .exit)) ⌝ }
 {
-    match write(map, stretch, pos, neg, work, bytes) {
-        WriteAnswer::Written(count) => count,
+    match write(map, stretch, pos, neg, tests, work, bytes) {
+        WriteAnswer::Written(count, _, _) => count,
         WriteAnswer::Refused(why) => number_of(why) as usize,
     }
 }
@@ -151,8 +153,8 @@ pub extern "C" fn measured_write_point(
         (now (work .exit)) (now (bytes .exit)) ⌝ }
 {
     match write_point(map, line, offset, orientation, side, work, bytes) {
-        WriteAnswer::Written(count) => count,
-        WriteAnswer::Refused(why) => number_of(why) as usize,
+        PointWriteAnswer::Written(count) => count,
+        PointWriteAnswer::Refused(why) => number_of(why) as usize,
     }
 }
 

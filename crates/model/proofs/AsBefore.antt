@@ -9,12 +9,12 @@ use Rattle.model.specs.Lines.{nodeAt, Connected, single, linked, firstOf
 use Rattle.model.specs.Reading.{joined}
 use Rattle.model.specs.Stretch.{Stretch, StretchAnswer, remains, checkStretch}
 use Rattle.model.specs.Choice.{fromNode, toNode, good, Usable, final, before, Choice, pointOf, pointsOf, referenceOf, stretchBytes}
-use Rattle.model.specs.Outcome.{WriteOutcome, WriteOn, WriteStretch}
+use Rattle.model.specs.Outcome.{WriteOutcome, WriteStretch}
 use Rattle.model.specs.AsBefore.{plainDifferences, PlainFit, plainGood, plainPoint, plainPoints, plainReference, plainBytes, PlainStretch, NodeOf, Narrow, NarrowLeft, NarrowGiven, AsBefore}
 use Rattle.model.proofs.Skipping.{Part, taken}
-use Rattle.model.proofs.Joining.{connected}
+use Rattle.model.proofs.Joining.{connected, Inside, same-inside, first-inside, rest-inside}
 use Rattle.model.proofs.Opened.{opens-by}
-use Rattle.model.proofs.SameChoice.{Inside, Passes, first-inside, rest-inside, choice-by, written-by}
+use Rattle.model.proofs.SameChoice.{Passes, choice-by, written-by}
 
 -- ---- two longitudes less than half a circle apart
 
@@ -80,36 +80,36 @@ module _ {m : Map} {lines : List ℕ} (narrow : Narrow m lines) where
 module _ (m : Map) (s : Stretch) (narrow : Narrow m (s .lines)) where
   same-bytes : (lss : List (List ℕ)) → Choice (good m) (s .lines) lss → stretchBytes m lss s ≡ plainBytes m lss s
   unfolding plainBytes plainReference stretchBytes referenceOf
-  same-bytes lss c = rw (same-points narrow (λ l j. subst (λ (x : List ℕ). List·Memᴰ l x) (c .whole) j) (c .usable))
+  same-bytes lss c = rw (same-points narrow (same-inside (c .whole)) (c .usable))
 
-  on-now : (room : ℕ) (o : WriteOutcome) → PlainStretch m (remains s) room o → WriteOn m s room o
-  on-now room o h =
+  on-now : (tests room : ℕ) (o : WriteOutcome) → PlainStretch m (remains s) tests room o → WriteStretch m (remains s) tests room o
+  on-now tests room o h =
       written-by (good-now narrow) (good-then narrow) (λ lss. plainBytes m lss s) (λ lss. stretchBytes m lss s)
-      (λ lss c. sym (same-bytes lss (choice-by (good-now narrow) c))) room h
+      (λ lss c. sym (same-bytes lss (choice-by (good-now narrow) c))) _ room h
 
-  on-then : (room : ℕ) (o : WriteOutcome) → WriteOn m s room o → PlainStretch m (remains s) room o
-  on-then room o h =
-      written-by (good-then narrow) (good-now narrow) (λ lss. stretchBytes m lss s) (λ lss. plainBytes m lss s) same-bytes room h
+  on-then : (tests room : ℕ) (o : WriteOutcome) → WriteStretch m (remains s) tests room o → PlainStretch m (remains s) tests room o
+  on-then tests room o h =
+      written-by (good-then narrow) (good-now narrow) (λ lss. stretchBytes m lss s) (λ lss. plainBytes m lss s) same-bytes _ room h
 
-module _ (m : Map) (room : ℕ) (o : WriteOutcome) where
-  stretch-now : (a : StretchAnswer) → ((r : Stretch) → a ≡ remains r → Narrow m (r .lines)) → PlainStretch m a room o → WriteStretch m a room o
-  stretch-now (remains r) narrow h = on-now m r (narrow r refl) room o h
+module _ (m : Map) (tests room : ℕ) (o : WriteOutcome) where
+  stretch-now : (a : StretchAnswer) → ((r : Stretch) → a ≡ remains r → Narrow m (r .lines)) → PlainStretch m a tests room o → WriteStretch m a tests room o
+  stretch-now (remains r) narrow h = on-now m r (narrow r refl) tests room o h
   stretch-now (StretchAnswer.refused r) narrow h = h
 
-  stretch-then : (a : StretchAnswer) → ((r : Stretch) → a ≡ remains r → Narrow m (r .lines)) → WriteStretch m a room o → PlainStretch m a room o
-  stretch-then (remains r) narrow h = on-then m r (narrow r refl) room o h
+  stretch-then : (a : StretchAnswer) → ((r : Stretch) → a ≡ remains r → Narrow m (r .lines)) → WriteStretch m a tests room o → PlainStretch m a tests room o
+  stretch-then (remains r) narrow h = on-then m r (narrow r refl) tests room o h
   stretch-then (StretchAnswer.refused r) narrow h = h
 
 -- "Gives the bytes it gave": of the nodes of what remains.
 pub as-before : AsBefore NarrowLeft
 as-before =
     record {
-      gives = λ mb s work room o narrow h.
-          opens-by WriteOutcome.refused (λ m. PlainStretch m (checkStretch m s) room) (λ m. WriteStretch m (checkStretch m s) room) mb
-          (λ m d. stretch-now m room o (checkStretch m s) (λ r e. narrow m r d e)) work h;
-      gave = λ mb s work room o narrow h.
-          opens-by WriteOutcome.refused (λ m. WriteStretch m (checkStretch m s) room) (λ m. PlainStretch m (checkStretch m s) room) mb
-          (λ m d. stretch-then m room o (checkStretch m s) (λ r e. narrow m r d e)) work h;
+      gives = λ mb s tests work room o narrow h.
+          opens-by WriteOutcome.refused (λ m. PlainStretch m (checkStretch m s) tests room) (λ m. WriteStretch m (checkStretch m s) tests room) mb
+          (λ m d. stretch-now m tests room o (checkStretch m s) (λ r e. narrow m r d e)) work h;
+      gave = λ mb s tests work room o narrow h.
+          opens-by WriteOutcome.refused (λ m. WriteStretch m (checkStretch m s) tests room) (λ m. PlainStretch m (checkStretch m s) tests room) mb
+          (λ m d. stretch-then m tests room o (checkStretch m s) (λ r e. narrow m r d e)) work h;
     }
 
 -- ---- the nodes of what remains are nodes of the stretch as given
@@ -130,6 +130,6 @@ narrow-left mb s given m r d e v w p q =
 pub as-given : AsBefore NarrowGiven
 as-given =
     record {
-      gives = λ mb s work room o given. as-before .gives mb s work room o (narrow-left mb s given);
-      gave = λ mb s work room o given. as-before .gave mb s work room o (narrow-left mb s given);
+      gives = λ mb s tests work room o given. as-before .gives mb s tests work room o (narrow-left mb s given);
+      gave = λ mb s tests work room o given. as-before .gave mb s tests work room o (narrow-left mb s given);
     }

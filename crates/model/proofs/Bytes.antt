@@ -180,6 +180,25 @@ unfolding offsetBytes
 offset-small absent f = none
 offset-small (byte b) f = also f none
 
+-- How many bytes there are, and that they count the points, whatever stands in the fields.
+module _ (r : Reference) where
+  abbrev pub offsets : List ℕ
+  offsets = offsetBytes (r .pos) ++ offsetBytes (r .neg)
+
+  pub offsets-length : length offsets ≡ length (offsetBytes (r .pos)) + length (offsetBytes (r .neg))
+  offsets-length = length-append (offsetBytes (r .pos)) (offsetBytes (r .neg))
+
+  pub bytes-length : length (bytesOf r) ≡ 9 + 7 * length (r .points) + length offsets
+  unfolding bytesOf bytes3 bytes2
+  bytes-length = omega (arith, points-length (r .points) (byteP (r .arrives) ∷ byteR r ∷ offsets))
+
+  few-offsets : length offsets ≤ 2
+  few-offsets = omega (arith, offsets-length, offset-few (r .pos), offset-few (r .neg))
+
+  pub count : pointCount (bytesOf r) ≡ length (r .points)
+  unfolding pointCount
+  count = omega (arith, bytes-length, few-offsets)
+
 module _ (r : Reference) (f : Fitting r) where
   r-bits : Bits (r .pos) (r .neg) (r .arrives .sector) (byteR r)
   unfolding byteR
@@ -194,31 +213,14 @@ module _ (r : Reference) (f : Fitting r) where
       also {a = 0x0B} (omega arith)
       (bytes3-small (r .lon) (bytes3-small (r .lat) (points-small (r .points) (f .points) (also p (also last offsets)))))
 
-  abbrev offsets : List ℕ
-  offsets = offsetBytes (r .pos) ++ offsetBytes (r .neg)
-
-  offsets-length : length offsets ≡ length (offsetBytes (r .pos)) + length (offsetBytes (r .neg))
-  offsets-length = length-append (offsetBytes (r .pos)) (offsetBytes (r .neg))
-
-  bytes-length : length (bytesOf r) ≡ 9 + 7 * length (r .points) + length offsets
-  unfolding bytesOf bytes3 bytes2
-  bytes-length = omega (arith, points-length (r .points) (byteP (r .arrives) ∷ byteR r ∷ offsets))
-
-  few-offsets : length offsets ≤ 2
-  few-offsets = omega (arith, offsets-length, offset-few (r .pos), offset-few (r .neg))
-
-  count : pointCount (bytesOf r) ≡ length (r .points)
-  unfolding pointCount
-  count = omega (arith, bytes-length, few-offsets)
-
-  from-points : drop 7 (bytesOf r) ≡ pointBytes (r .points) (byteP (r .arrives) ∷ byteR r ∷ offsets)
+  from-points : drop 7 (bytesOf r) ≡ pointBytes (r .points) (byteP (r .arrives) ∷ byteR r ∷ offsets r)
   unfolding bytesOf bytes3 bytes2
   from-points = refl
 
-  from-last : drop (7 + 7 * length (r .points)) (bytesOf r) ≡ byteP (r .arrives) ∷ byteR r ∷ offsets
+  from-last : drop (7 + 7 * length (r .points)) (bytesOf r) ≡ byteP (r .arrives) ∷ byteR r ∷ offsets r
   from-last = points-after (r .points) (bytesOf r) 7 _ from-points
 
-  from-offsets : drop (9 + 7 * length (r .points)) (bytesOf r) ≡ offsets
+  from-offsets : drop (9 + 7 * length (r .points)) (bytesOf r) ≡ offsets r
   from-offsets =
       let n = 7 + 7 * length (r .points) in
       let same : 9 + 7 * length (r .points) ≡ n + 2 = omega arith in
@@ -260,20 +262,20 @@ module _ (r : Reference) (f : Fitting r) where
   unfolding bytesOf
   status = refl
 
-  flagged : flags (byteR r) ≡ length offsets
+  flagged : flags (byteR r) ≡ length (offsets r)
   unfolding flags
-  flagged = omega (arith, r-bits .pos-flag, r-bits .neg-flag, offsets-length)
+  flagged = omega (arith, r-bits .pos-flag, r-bits .neg-flag, offsets-length r)
 
   pub length-fits : (shortestReference ≤ length (bytesOf r)) × (length (bytesOf r) ≤ longestReference)
-  length-fits = omega (arith, bytes-length, f .some, f .few, few-offsets)
+  length-fits = omega (arith, bytes-length r, f .some, f .few, few-offsets r)
 
   pub parse-back : parse (bytesOf r) ≡ parsed r
   unfolding parse
   parse-back =
       let n = length (bytesOf r) in
-      let left : (n - shortestReference) % 7 ≡ length offsets = omega (arith, bytes-length, f .some, few-offsets) in
-      let whole : (n - shortestReference) % 7 ≤ 2 = omega (arith, left, few-offsets) in
+      let left : (n - shortestReference) % 7 ≡ length (offsets r) = omega (arith, bytes-length r, f .some, few-offsets r) in
+      let whole : (n - shortestReference) % 7 ≤ 2 = omega (arith, left, few-offsets r) in
       let no-bits : spareBits (bytesOf r) 7 (length (r .points)) ≡ false =
       points-bits (r .points) (bytesOf r) 7 _ _ _ (f .points) (byte-p (r .arrives) (f .arrives)) (r-bits .small) from-points in
       rw
-      (le-ltb n shortestReference (length-fits .0), le-ltb longestReference n (length-fits .1), le-ltb 2 _ whole, status, count, no-bits, last-r, eq-eqb _ _ (left ∙ sym flagged), fields)
+      (le-ltb n shortestReference (length-fits .0), le-ltb longestReference n (length-fits .1), le-ltb 2 _ whole, status, count r, no-bits, last-r, eq-eqb _ _ (left ∙ sym flagged), fields)

@@ -8,17 +8,18 @@ use native.Mathlib.Omega.{arith}
 use lib.ListN.{length}
 use lib.Dec.{eqb}
 use Rattle.model.specs.declared.Refusal.{Refusal}
-use Rattle.model.specs.declared.Refusal.the-variants.{WorkAreaShort, MapNumber, MapCount, MapCoordinate, MapLine, EqualCodes, StretchLines, StretchGap, StretchOffsets, NoChoice, BytesShort, ReferenceLength, ReferenceStatus, ReferenceBits, ReferenceFlags, NoNode, NoReading, SeveralReadings, NoOffset, LinesShort, StretchBan, JoinedBan, MapBan, MapStep, PointMarks}
+use Rattle.model.specs.declared.Refusal.the-variants.{WorkAreaShort, MapNumber, MapCount, MapCoordinate, MapLine, EqualCodes, StretchLines, StretchGap, StretchOffsets, NoChoice, BytesShort, ReferenceLength, ReferenceStatus, ReferenceBits, ReferenceFlags, NoNode, NoReading, SeveralReadings, NoOffset, LinesShort, StretchBan, JoinedBan, MapBan, MapStep, PointMarks, Unfinished}
 use Rattle.model.specs.declared.ReadAnswer.{ReadAnswer}
 use Rattle.model.specs.declared.WriteAnswer.{WriteAnswer}
 use Rattle.model.specs.declared.PointReadAnswer.{PointReadAnswer}
+use Rattle.model.specs.declared.PointWriteAnswer.{PointWriteAnswer}
 use Rattle.model.specs.Refusal.{numberOf, placeOf, refusalOf}
 use Rattle.model.specs.Stretch.{Stretch}
 use Rattle.model.specs.Work.{workLength}
 use Rattle.model.specs.Outcome.{ReadOutcome, WriteOutcome}
 use Rattle.model.specs.Call.{ReadAnswers, WriteAnswers, Answered, Called, ReadCall, WriteCall}
-use Rattle.model.specs.Host.{hostStretch, hostRoom, HostRead, hostRead, HostReadCall, HostWritten, hostWritten, HostWriteCall, HostPoint, hostPoint, HostPointReadCall, HostPointWriteCall}
-use Rattle.model.specs.PointAlong.{GivenPoint, PointReadOutcome, PointReadAnswers, PointReadCall, PointWriteCall}
+use Rattle.model.specs.Host.{hostStretch, hostRoom, HostRead, hostRead, HostReadCall, HostWritten, hostWritten, HostWriteCall, HostPoint, hostPoint, HostPointReadCall, HostPointWritten, hostPointWritten, HostPointWriteCall}
+use Rattle.model.specs.PointAlong.{GivenPoint, PointReadOutcome, PointReadAnswers, PointReadCall, PointWriteOutcome, PointWriteAnswers, PointWriteCall}
 use Rattle.model.proofs.Once.{reads-once, writes-once}
 use Rattle.model.proofs.PointReading.{point-reads-once}
 use Rattle.model.proofs.PointWriting.{point-writes-once}
@@ -51,7 +52,7 @@ caseOf n k =
     (cond (eqb n 11) BytesShort (cond (eqb n 12) ReferenceLength (cond (eqb n 13) ReferenceStatus (cond (eqb n 14) ReferenceBits
     (cond (eqb n 15) ReferenceFlags (cond (eqb n 16) (NoNode k) (cond (eqb n 17) (NoReading k) (cond (eqb n 18) (SeveralReadings k)
     (cond (eqb n 19) NoOffset (cond (eqb n 20) LinesShort (cond (eqb n 21) StretchBan (cond (eqb n 22) JoinedBan
-    (cond (eqb n 23) MapBan (cond (eqb n 24) MapStep PointMarks)))))))))))))))))))))))
+    (cond (eqb n 23) MapBan (cond (eqb n 24) MapStep (cond (eqb n 25) PointMarks Unfinished))))))))))))))))))))))))
 
 case-back : (why : Refusal) → caseOf (numberOf (refusalOf why)) (placeOf (refusalOf why)) ≡ why
 unfolding caseOf numberOf placeOf refusalOf
@@ -80,6 +81,7 @@ case-back JoinedBan = refl
 case-back MapBan = refl
 case-back MapStep = refl
 case-back PointMarks = refl
+case-back Unfinished = refl
 
 -- Two cases of the enum are the same row of the table only where they are the same case.
 pub refusal-once : (a b : Refusal) → refusalOf a ≡ refusalOf b → a ≡ b
@@ -103,6 +105,12 @@ point-told PointReadAnswers.lines PointReadAnswers.refusal e = absurd (let z : _
 point-told PointReadAnswers.refusal PointReadAnswers.lines e = absurd (let z : _≡_ {A = ℕ} 0 1 = cc in omega arith)
 point-told (PointReadAnswers.refusal {why = v}) (PointReadAnswers.refusal {why = w}) e = let same = refusal-once v w cc in cc
 
+pub point-write-told : {a b : PointWriteAnswer} {o o′ : PointWriteOutcome} → PointWriteAnswers a o → PointWriteAnswers b o′ → o ≡ o′ → a ≡ b
+point-write-told PointWriteAnswers.bytes PointWriteAnswers.bytes e = cc
+point-write-told PointWriteAnswers.bytes PointWriteAnswers.refusal e = absurd (let z : _≡_ {A = ℕ} 0 1 = cc in omega arith)
+point-write-told PointWriteAnswers.refusal PointWriteAnswers.bytes e = absurd (let z : _≡_ {A = ℕ} 0 1 = cc in omega arith)
+point-write-told (PointWriteAnswers.refusal {why = v}) (PointWriteAnswers.refusal {why = w}) e = let same = refusal-once v w cc in cc
+
 -- What a host is answered is a function of the outcome.
 given-told : {Outcome Given : Type 0} (f : Outcome → Given) {a b : Given} (o o′ : Outcome) → a ≡ f o → b ≡ f o′ → o ≡ o′ → a ≡ b
 given-told f o o′ e e′ same = e ∙ ap f same ∙ sym e′
@@ -114,21 +122,21 @@ pub read-call-once : {mb ref work before : List ℕ} {a b : ReadAnswer} {work′
 read-call-once {mb} {ref} {work} {before} c d =
     called-once (λ o o′. reads-once mb ref (length before) {o = o} {o′ = o′} (length work)) (λ o o′. read-told {o = o} {o′ = o′}) (c .called) (d .called)
 
-pub write-call-once : {mb : List ℕ} {s : Stretch} {work before : List ℕ} {a b : WriteAnswer} {work′ work″ after after′ : List ℕ} →
-    WriteCall mb s work before a work′ after → WriteCall mb s work before b work″ after′ → (a ≡ b) × (work′ ≡ work″) × (after ≡ after′)
-write-call-once {mb} {s} {work} {before} c d =
-    called-once (λ o o′. writes-once mb s (length before) {o = o} {o′ = o′} (length work)) (λ o o′. write-told {o = o} {o′ = o′}) (c .called) (d .called)
+pub write-call-once : {mb : List ℕ} {s : Stretch} {tests : ℕ} {work before : List ℕ} {a b : WriteAnswer} {work′ work″ after after′ : List ℕ} →
+    WriteCall mb s tests work before a work′ after → WriteCall mb s tests work before b work″ after′ → (a ≡ b) × (work′ ≡ work″) × (after ≡ after′)
+write-call-once {mb} {s} {tests} {work} {before} c d =
+    called-once (λ o o′. writes-once mb s tests (length before) {o = o} {o′ = o′} (length work)) (λ o o′. write-told {o = o} {o′ = o′}) (c .called) (d .called)
 
 pub host-read-once : {mb ref before : List ℕ} {a b : HostRead} {after after′ : List ℕ} → HostReadCall mb ref before a after →
     HostReadCall mb ref before b after′ → (a ≡ b) × (after ≡ after′)
 host-read-once {mb} {ref} {before} c d =
     answered-once (λ o o′. reads-once mb ref (hostRoom (length before)) {o = o} {o′ = o′} workLength) (given-told hostRead) (c .answered) (d .answered)
 
-pub host-write-once : {mb stretch : List ℕ} {pos neg : ℕ} {before : List ℕ} {a b : HostWritten} {after after′ : List ℕ} →
-    HostWriteCall mb stretch pos neg before a after → HostWriteCall mb stretch pos neg before b after′ → (a ≡ b) × (after ≡ after′)
-host-write-once {mb} {stretch} {pos} {neg} {before} c d =
-    answered-once (λ o o′. writes-once mb (hostStretch stretch pos neg) (length before) {o = o} {o′ = o′} workLength) (given-told hostWritten) (c .answered)
-    (d .answered)
+pub host-write-once : {mb stretch : List ℕ} {pos neg tests : ℕ} {before : List ℕ} {a b : HostWritten} {after after′ : List ℕ} →
+    HostWriteCall mb stretch pos neg tests before a after → HostWriteCall mb stretch pos neg tests before b after′ → (a ≡ b) × (after ≡ after′)
+host-write-once {mb} {stretch} {pos} {neg} {tests} {before} c d =
+    answered-once (λ o o′. writes-once mb (hostStretch stretch pos neg) tests (length before) {o = o} {o′ = o′} workLength) (given-told hostWritten)
+    (c .answered) (d .answered)
 
 -- ---- the calls with points (W5)
 
@@ -137,17 +145,18 @@ pub point-read-call-once : {mb ref work before : List ℕ} {a b : PointReadAnswe
 point-read-call-once {mb} {ref} {work} {before} c d =
     called-once (λ o o′. point-reads-once mb ref (length before) {o = o} {o′ = o′} (length work)) (λ o o′. point-told {o = o} {o′ = o′}) (c .called) (d .called)
 
-pub point-write-call-once : {mb : List ℕ} {p : GivenPoint} {work before : List ℕ} {a b : WriteAnswer} {work′ work″ after after′ : List ℕ} →
+pub point-write-call-once : {mb : List ℕ} {p : GivenPoint} {work before : List ℕ} {a b : PointWriteAnswer} {work′ work″ after after′ : List ℕ} →
     PointWriteCall mb p work before a work′ after → PointWriteCall mb p work before b work″ after′ → (a ≡ b) × (work′ ≡ work″) × (after ≡ after′)
 point-write-call-once {mb} {p} {work} {before} c d =
-    called-once (λ o o′. point-writes-once mb p (length before) {o = o} {o′ = o′} (length work)) (λ o o′. write-told {o = o} {o′ = o′}) (c .called) (d .called)
+    called-once (λ o o′. point-writes-once mb p (length before) {o = o} {o′ = o′} (length work)) (λ o o′. point-write-told {o = o} {o′ = o′}) (c .called)
+    (d .called)
 
 pub host-point-read-once : {mb ref before : List ℕ} {a b : HostPoint} {after after′ : List ℕ} → HostPointReadCall mb ref before a after →
     HostPointReadCall mb ref before b after′ → (a ≡ b) × (after ≡ after′)
 host-point-read-once {mb} {ref} {before} c d =
     answered-once (λ o o′. point-reads-once mb ref (hostRoom (length before)) {o = o} {o′ = o′} workLength) (given-told hostPoint) (c .answered) (d .answered)
 
-pub host-point-write-once : {mb : List ℕ} {p : GivenPoint} {before : List ℕ} {a b : HostWritten} {after after′ : List ℕ} →
+pub host-point-write-once : {mb : List ℕ} {p : GivenPoint} {before : List ℕ} {a b : HostPointWritten} {after after′ : List ℕ} →
     HostPointWriteCall mb p before a after → HostPointWriteCall mb p before b after′ → (a ≡ b) × (after ≡ after′)
 host-point-write-once {mb} {p} {before} c d =
-    answered-once (λ o o′. point-writes-once mb p (length before) {o = o} {o′ = o′} workLength) (given-told hostWritten) (c .answered) (d .answered)
+    answered-once (λ o o′. point-writes-once mb p (length before) {o = o} {o′ = o′} workLength) (given-told hostPointWritten) (c .answered) (d .answered)

@@ -12,6 +12,9 @@ pub mod Tie
 pub mod RidgeCalls
 pub mod Texts
 pub mod WrongWriters
+pub mod Pentagon
+pub mod Unfinished
+pub mod WrongTests
 pub mod WrongReaders
 pub mod Fields
 pub mod References

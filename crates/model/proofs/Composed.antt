@@ -48,7 +48,7 @@ offset-fits leg offset inside = go (eqb offset 0)
     go true = tt
     go false = offset-byte leg offset
 
-points-count : (m : Map) (lss : List (List ℕ)) → length (pointsOf m lss) ≡ length lss
+pub points-count : (m : Map) (lss : List (List ℕ)) → length (pointsOf m lss) ≡ length lss
 unfolding pointsOf
 points-count m [] = refl
 points-count m (ls ∷ lss) = ap suc (points-count m lss)

@@ -4,16 +4,15 @@ use mathlib.Core.Path.{_≡_, refl, sym, _∙_, subst}
 use mathlib.Core.List.{List}
 use native.Mathlib.Omega.{arith}
 use lib.ListN.{length}
-use Rattle.model.specs.Outcome.{written}
 use Rattle.model.specs.Work.{workLength, placed}
-use Rattle.model.specs.PointAlong.{read, GivenPoint, ownLeg, PointWrites}
-use Rattle.model.specs.Host.{greatestHostLines, wordBytes, hostRoom, hostPoint, hostPointLinesAfter, HostPointReadCall, HostWritten, HostPointWriteCall}
+use Rattle.model.specs.PointAlong.{read, GivenPoint, ownLeg, written, PointWrites}
+use Rattle.model.specs.Host.{greatestHostLines, wordBytes, hostRoom, hostPoint, hostPointLinesAfter, HostPointReadCall, HostPointWritten, HostPointWriteCall}
 use Rattle.model.specs.PointTrip.{PointBack}
 use Rattle.model.specs.HostPointTrip.{HostPointReadAs, HostPointBack, HostPointTrip}
 use Rattle.model.proofs.PointRows.{no-point-write-refusal-is-0}
 use Rattle.model.proofs.PointTrip.{point-trip}
 use Rattle.model.proofs.CallsOnce.{host-point-read-once}
-use Rattle.model.proofs.HostWrote.{HostWrote, wrote-by}
+use Rattle.model.proofs.HostWrote.{HostWrote, point-wrote-by}
 
 module _ (mb bytes : List ℕ) (p : GivenPoint) (given : PointBack mb p bytes) where
   reads : HostPointReadAs mb bytes p (given .span)
@@ -36,10 +35,11 @@ module _ (mb bytes : List ℕ) (p : GivenPoint) (given : PointBack mb p bytes) w
   handed : HostPointBack mb p bytes
   handed = record { back = given; reads = reads }
 
-pub host-point-wrote : {mb : List ℕ} {p : GivenPoint} {before after : List ℕ} {a : HostWritten} → HostPointWriteCall mb p before a after → a .refusal ≡ 0 →
-    HostWrote (PointWrites mb p workLength (length before)) before after (a .bytes)
+pub host-point-wrote : {mb : List ℕ} {p : GivenPoint} {before after : List ℕ} {a : HostPointWritten} → HostPointWriteCall mb p before a after →
+    a .refusal ≡ 0 → HostWrote (λ bs. PointWrites mb p workLength (length before) (written bs)) before after (a .bytes)
 host-point-wrote {mb} {p} {before} {after} {a} c zero =
-    wrote-by (PointWrites mb p workLength (length before)) (no-point-write-refusal-is-0 mb p workLength (length before)) before after a zero (c .answered)
+    point-wrote-by (PointWrites mb p workLength (length before)) (no-point-write-refusal-is-0 mb p workLength (length before)) before after a zero
+    (c .answered)
 
 pub host-point-trip : HostPointTrip
 host-point-trip =

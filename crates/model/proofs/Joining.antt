@@ -1,8 +1,8 @@
 -- Connected lists of a well-formed map, and how they are joined.
 use Prim.Native.Nat.{ℕ, _≤_, _<_}
-use mathlib.Core.Path.{_≡_, _∙_, ap}
+use mathlib.Core.Path.{_≡_, _∙_, ap, subst}
 use mathlib.Core.Bool.{Bool, false}
-use mathlib.Core.List.{List, [], _∷_, _++_, append-nil}
+use mathlib.Core.List.{List, [], _∷_, _++_, append-nil, List·Memᴰ, Memᴰ·append-left, Memᴰ·append-right}
 use native.Mathlib.Omega.{arith}
 use lib.ListN.{length, length-append}
 use Rattle.model.specs.Map.{Map}
@@ -100,3 +100,20 @@ unfolding joined lastLeg
 last-joined (final {ls = ls} g) = ap lastOf (append-nil ls)
 last-joined (before {ls = ls} {ks = ks} {lss = lss} g u) =
     last-append ls (joined (ks ∷ lss)) (omega (arith, as-many u)) ∙ last-joined u
+
+-- Each of some lines is one of some others.
+abbrev pub Inside : List ℕ → List ℕ → Type 0
+Inside ls ks = (l : ℕ) → List·Memᴰ l ls → List·Memᴰ l ks
+
+pub same-inside : {ls ks : List ℕ} → ls ≡ ks → Inside ls ks
+same-inside e l j = subst (λ (x : List ℕ). List·Memᴰ l x) e j
+
+module _ (ls : List ℕ) (lss : List (List ℕ)) {lines : List ℕ} where
+  -- The first leg, and the rest.
+  pub first-inside : Inside (joined (ls ∷ lss)) lines → Inside ls lines
+  unfolding joined
+  first-inside i l j = i l (Memᴰ·append-left (joined lss) j)
+
+  pub rest-inside : Inside (joined (ls ∷ lss)) lines → Inside (joined lss) lines
+  unfolding joined
+  rest-inside i l j = i l (Memᴰ·append-right ls j)

@@ -17,6 +17,7 @@ pub mod OffsetSpans
 pub mod Legs
 pub mod Skipping
 pub mod Joining
+pub mod LegTests
 pub mod Bans
 pub mod Bytes
 pub mod Parsed
@@ -31,6 +32,7 @@ pub mod Calls
 pub mod Answering
 pub mod Text
 pub mod Demand3
+pub mod BestFound
 pub mod PointBytes
 pub mod PointShape
 pub mod PointReading

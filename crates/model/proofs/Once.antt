@@ -10,9 +10,11 @@ use Rattle.model.specs.Reference.{Reference, ParseAnswer, parsed, parse}
 use Rattle.model.specs.Reading.{Leg, bannedMeeting}
 use Rattle.model.specs.Stretch.{Stretch, StretchAnswer, remains, checkStretch}
 use Rattle.model.specs.Choice.{LegTest, MoreFirst, more, later, Preferred, same, fewer, more-first, Chosen}
+use Rattle.model.specs.LegTests.{Fewest}
 use Rattle.model.specs.Locate.{located, locate}
 use Rattle.model.specs.Outcome.{LegsAnswer, LegsRead, SpansRead, ReadOutcome, ReadEnd, ReadJoined, ReadOn, ReadParsed, Reads, WriteOutcome, WriteBy, WriteStretch, Writes}
 use Rattle.model.proofs.Opened.{opens-once}
+use Rattle.model.proofs.LegTests.{tested-good, good-as-untested}
 use Rattle.model.proofs.Legs.{legs-same}
 use Rattle.model.proofs.Spans.{span-same, no-span}
 
@@ -35,25 +37,37 @@ preferred-same (more-first e h) (more-first e′ k) = absurd (not-both-more h k)
 pub chosen-same : {test : LegTest} {lines : List ℕ} {a b : List (List ℕ)} → Chosen test lines a → Chosen test lines b → a ≡ b
 chosen-same c d = preferred-same (c .preferred _ (d .choice)) (d .preferred _ (c .choice))
 
-module _ {test : LegTest} {bytes : List (List ℕ) → List ℕ} {lines : List ℕ} {room : ℕ} where
-  write-on-same : {o o′ : WriteOutcome} → WriteBy test bytes lines room o → WriteBy test bytes lines room o′ → o ≡ o′
-  write-on-same (WriteBy.no-choice n) (WriteBy.no-choice n′) = refl
-  write-on-same (WriteBy.no-choice n) (WriteBy.no-room c h) = absurd (n _ (c .choice))
-  write-on-same (WriteBy.no-choice n) (WriteBy.accepted c h) = absurd (n _ (c .choice))
-  write-on-same (WriteBy.no-room c h) (WriteBy.no-choice n) = absurd (n _ (c .choice))
-  write-on-same (WriteBy.no-room c h) (WriteBy.no-room c′ h′) = refl
-  write-on-same (WriteBy.no-room c h) (WriteBy.accepted c′ h′) = absurd (omega (arith, rw (chosen-same c c′) at h))
-  write-on-same (WriteBy.accepted c h) (WriteBy.no-choice n) = absurd (n _ (c .choice))
-  write-on-same (WriteBy.accepted c h) (WriteBy.no-room c′ h′) = absurd (omega (arith, rw (chosen-same c c′) at h))
-  write-on-same (WriteBy.accepted c h) (WriteBy.accepted c′ h′) = rw (chosen-same c c′)
+-- There is one fewest number of legs.
+pub fewest-same : {test : LegTest} {lines : List ℕ} {a b : ℕ} → Fewest test lines a → Fewest test lines b → a ≡ b
+fewest-same f g = omega (arith, f .fewest (g .legs) (g .choice), g .fewest (f .legs) (f .choice), f .counted, g .counted)
 
-module _ (mb : List ℕ) (s : Stretch) (room : ℕ) {o o′ : WriteOutcome} where
-  write-stretch-same : (m : Map) (a : StretchAnswer) → WriteStretch m a room o → WriteStretch m a room o′ → o ≡ o′
+module _ {test : LegTest} {bytes : List (List ℕ) → List ℕ} {lines : List ℕ} {made room : ℕ} where
+  pub write-on-same : {o o′ : WriteOutcome} → WriteBy test bytes lines made room o → WriteBy test bytes lines made room o′ → o ≡ o′
+  write-on-same (WriteBy.unfinished n c) (WriteBy.unfinished n′ c′) = refl
+  write-on-same (WriteBy.unfinished n c) (WriteBy.no-choice n′) = absurd (n′ _ c)
+  write-on-same (WriteBy.unfinished n c) (WriteBy.no-room c′ h) = absurd (n _ (c′ .choice))
+  write-on-same (WriteBy.unfinished n c) (WriteBy.accepted c′ f h) = absurd (n _ (c′ .choice))
+  write-on-same (WriteBy.no-choice n) (WriteBy.unfinished n′ c) = absurd (n _ c)
+  write-on-same (WriteBy.no-choice n) (WriteBy.no-choice n′) = refl
+  write-on-same (WriteBy.no-choice n) (WriteBy.no-room c h) = absurd (n _ (good-as-untested (tested-good (c .choice))))
+  write-on-same (WriteBy.no-choice n) (WriteBy.accepted c f h) = absurd (n _ (f .choice))
+  write-on-same (WriteBy.no-room c h) (WriteBy.unfinished n c′) = absurd (n _ (c .choice))
+  write-on-same (WriteBy.no-room c h) (WriteBy.no-choice n) = absurd (n _ (good-as-untested (tested-good (c .choice))))
+  write-on-same (WriteBy.no-room c h) (WriteBy.no-room c′ h′) = refl
+  write-on-same (WriteBy.no-room c h) (WriteBy.accepted c′ f h′) = absurd (omega (arith, rw (chosen-same c c′) at h))
+  write-on-same (WriteBy.accepted c f h) (WriteBy.unfinished n c′) = absurd (n _ (c .choice))
+  write-on-same (WriteBy.accepted c f h) (WriteBy.no-choice n) = absurd (n _ (f .choice))
+  write-on-same (WriteBy.accepted c f h) (WriteBy.no-room c′ h′) = absurd (omega (arith, rw (chosen-same c c′) at h))
+  write-on-same (WriteBy.accepted c f h) (WriteBy.accepted c′ f′ h′) = rw (chosen-same c c′, fewest-same f f′)
+
+module _ (mb : List ℕ) (s : Stretch) (tests room : ℕ) {o o′ : WriteOutcome} where
+  write-stretch-same : (m : Map) (a : StretchAnswer) → WriteStretch m a tests room o → WriteStretch m a tests room o′ → o ≡ o′
   write-stretch-same m (remains r) h h′ = write-on-same h h′
   write-stretch-same m (StretchAnswer.refused n) h h′ = cc
 
-  pub writes-once : (work : ℕ) → Writes mb s work room o → Writes mb s work room o′ → o ≡ o′
-  writes-once work h h′ = opens-once WriteOutcome.refused (λ m. WriteStretch m (checkStretch m s) room) (λ m. write-stretch-same m (checkStretch m s)) mb work h h′
+  pub writes-once : (work : ℕ) → Writes mb s tests work room o → Writes mb s tests work room o′ → o ≡ o′
+  writes-once work h h′ =
+      opens-once WriteOutcome.refused (λ m. WriteStretch m (checkStretch m s) tests room) (λ m. write-stretch-same m (checkStretch m s)) mb work h h′
 
 module _ (m : Map) (r : Reference) (room : ℕ) where
   module _ {lss : List (List ℕ)} {p p′ n n′ : Span} (a : SpansRead m r lss p n) (b : SpansRead m r lss p′ n′) where

@@ -50,6 +50,20 @@ module _ {Outcome : Type 0} (refused : Refused → Outcome) where
     pub opened : (work : ℕ) → Opens refused Asks mb work o → (m : Map) × (decode mb ≡ whole m) × Asks m o
     opened work h = on-area-opened (ltb work workLength) h
 
+  -- And then another call with that map and work area comes to the map too.
+  module _ (Asks Asks′ : Map → Outcome → Type 0) {o o′ : Outcome} (mb : List ℕ) (accepted : (r : Refused) → o ≡ refused r → ⊥) where
+    on-map-both : (a : MapAnswer) → decode mb ≡ a → OnMap refused Asks a o → OnMap refused Asks′ a o′ →
+        (m : Map) × (decode mb ≡ whole m) × Asks m o × Asks′ m o′
+    on-map-both (whole m) d h h′ = (m, d, h, h′)
+    on-map-both (MapAnswer.refused r) d h h′ = absurd (accepted r h)
+
+    on-area-both : (t : Bool) → OnArea refused Asks t mb o → OnArea refused Asks′ t mb o′ → (m : Map) × (decode mb ≡ whole m) × Asks m o × Asks′ m o′
+    on-area-both true h h′ = absurd (accepted (row 1) h)
+    on-area-both false h h′ = on-map-both (decode mb) refl h h′
+
+    pub both-opened : (work : ℕ) → Opens refused Asks mb work o → Opens refused Asks′ mb work o′ → (m : Map) × (decode mb ≡ whole m) × Asks m o × Asks′ m o′
+    both-opened work h h′ = on-area-both (ltb work workLength) h h′
+
   module _ (Asks : Map → Outcome → Type 0) (mb : List ℕ) (work : ℕ) where
     pub area-short : work < workLength → Opens refused Asks mb work (refused (row 1))
     area-short h = rw (lt-ltb work workLength h) refl

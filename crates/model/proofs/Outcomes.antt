@@ -1,9 +1,10 @@
 -- The writer's and the reader's outcomes, taken apart and put together row by row.
-use Prim.Native.Nat.{ℕ, _+_, _≤_, _<_}
+use Prim.Native.Nat.{ℕ, _+_, _-_, _≤_, _<_}
 use mathlib.Core.Path.{_≡_, refl, subst}
 use mathlib.Core.Bool.{Bool, true, false}
 use mathlib.Core.List.{List}
 use native.Mathlib.Omega.{arith}
+use lib.ListN.{length}
 use borrow.Author.Tests.{le-ltb}
 use Rattle.model.specs.declared.Span.{Span}
 use Rattle.model.specs.Refusal.{Refused}
@@ -13,40 +14,56 @@ use Rattle.model.specs.Reference.{Reference, ParseAnswer, parsed, parse}
 use Rattle.model.specs.Reading.{Leg, joined, bannedMeeting}
 use Rattle.model.specs.Stretch.{Stretch, remaining, StretchAnswer, remains, checkStretch}
 use Rattle.model.specs.Choice.{LegTest, good, Chosen, stretchBytes}
+use Rattle.model.specs.LegTests.{testsMade, testedGood, goodOrUntested, Fewest}
 use Rattle.model.specs.Outcome.{LegsRead, every, SpansRead, ReadOutcome, read, ReadEnd, ReadJoined, ReadOn, ReadParsed, Reads, WriteOutcome, written, WriteBy, WriteOn, WriteStretch, Writes}
 use Rattle.model.specs.Work.{workLength}
 use Rattle.model.proofs.Every.{Every, none, also}
 use Rattle.model.proofs.Skipping.{Left, taken}
 use Rattle.model.proofs.Opened.{opened}
 
--- The writer wrote these bytes on this map.
-pub record Written (m : Map) (mb : List ℕ) (s : Stretch) (bytes : List ℕ) : Type 0 where
+-- What an acceptance of the writer says, by whatever test.
+pub record WrittenBy (test : LegTest) (bytes : List (List ℕ) → List ℕ) (lines : List ℕ) (made : ℕ) (bs : List ℕ) (told excess : ℕ) : Type 0 where
+  pub legs : List (List ℕ)
+  pub chosen : Chosen (testedGood test lines made) lines legs
+  pub same : bs ≡ bytes legs
+  pub tests : told ≡ made
+  pub fewest : ℕ
+  pub untested : Fewest (goodOrUntested test lines made) lines fewest
+  pub exceeds : excess ≡ length legs - fewest
+
+pub written-on : {test : LegTest} {bytes : List (List ℕ) → List ℕ} {lines : List ℕ} {made room : ℕ} {bs : List ℕ} {told excess : ℕ} →
+    WriteBy test bytes lines made room (written bs told excess) → WrittenBy test bytes lines made bs told excess
+written-on (WriteBy.accepted {lss = lss} {fewest = fewest} c f fits) =
+    record { legs = lss; chosen = c; same = refl; tests = refl; fewest = fewest; untested = f; exceeds = refl }
+
+-- The writer, which may make `tests` leg tests, wrote these bytes on this map, and told how many it made and the excess.
+pub record Written (m : Map) (mb : List ℕ) (s : Stretch) (tests : ℕ) (bytes : List ℕ) (made excess : ℕ) : Type 0 where
   pub decodes : decode mb ≡ whole m
   pub left : Left m (remaining m s)
-  pub legs : List (List ℕ)
-  pub chosen : Chosen (good m) (remaining m s .lines) legs
-  pub same : bytes ≡ stretchBytes m legs (remaining m s)
+  pub on : WrittenBy (good m) (λ lss. stretchBytes m lss (remaining m s)) (remaining m s .lines) (testsMade (length (remaining m s .lines)) tests) bytes made
+      excess
 
-not-refused : {bytes : List ℕ} {r : Refused} → written bytes ≡ WriteOutcome.refused r → ⊥
+pub not-refused : {bytes : List ℕ} {made excess : ℕ} {r : Refused} → written bytes made excess ≡ WriteOutcome.refused r → ⊥
 not-refused e = let z : _≡_ {A = ℕ} 0 1 = cc in omega arith
 
-pub written-on : {test : LegTest} {bytes : List (List ℕ) → List ℕ} {lines : List ℕ} {room : ℕ} {bs : List ℕ} →
-    WriteBy test bytes lines room (written bs) → (legs : List (List ℕ)) × Chosen test lines legs × (bs ≡ bytes legs)
-written-on (WriteBy.accepted {lss = lss} c fits) = (lss, c, refl)
-
-module _ (mb : List ℕ) (s : Stretch) (bytes : List ℕ) (room : ℕ) where
-  written-stretch : (m : Map) (a : StretchAnswer) → decode mb ≡ whole m → checkStretch m s ≡ a → WriteStretch m a room (written bytes) →
-      Written m mb s bytes
+module _ (mb : List ℕ) (s : Stretch) (tests : ℕ) (bytes : List ℕ) (made excess room : ℕ) where
+  written-stretch : (m : Map) (a : StretchAnswer) → decode mb ≡ whole m → checkStretch m s ≡ a →
+      WriteStretch m a tests room (written bytes made excess) → Written m mb s tests bytes made excess
   written-stretch m (remains r) d e h =
       let t = taken m s r e in
-      let on = written-on (subst (λ x. WriteOn m x room (written bytes)) (t .0) h) in
-      record { decodes = d; left = rw (t .0) at (t .1); legs = on .0; chosen = on .1; same = on .2 }
+      let on = subst (λ (x : Stretch). WriteOn m x (testsMade (length (x .lines)) tests) room (written bytes made excess)) (t .0) h in
+      record { decodes = d; left = rw (t .0) at (t .1); on = written-on on }
   written-stretch m (StretchAnswer.refused n) d e h = absurd (not-refused h)
 
-  pub written-of : (work : ℕ) → Writes mb s work room (written bytes) → (m : Map) × Written m mb s bytes
+  pub written-of : (work : ℕ) → Writes mb s tests work room (written bytes made excess) → (m : Map) × Written m mb s tests bytes made excess
   written-of work h =
-      let g = opened WriteOutcome.refused (λ m. WriteStretch m (checkStretch m s) room) mb (λ r. not-refused) work h in
+      let g = opened WriteOutcome.refused (λ m. WriteStretch m (checkStretch m s) tests room) mb (λ r. not-refused) work h in
       (g .0, written-stretch (g .0) _ (g .1) refl (g .2))
+
+-- The writer comes to the map and to what remains of the stretch.
+pub on-writes : (mb : List ℕ) (s : Stretch) {m : Map} {r : Stretch} (tests work room : ℕ) (o : WriteOutcome) → workLength ≤ work → decode mb ≡ whole m →
+    checkStretch m s ≡ remains r → WriteOn m r (testsMade (length (r .lines)) tests) room o → Writes mb s tests work room o
+on-writes mb s tests work room o full d e h = rw (le-ltb work workLength full, d, e) h
 
 -- The reader comes to the map and the reference.
 pub on-reads : (mb bytes : List ℕ) {m : Map} {r : Reference} (work room : ℕ) (o : ReadOutcome) → workLength ≤ work → decode mb ≡ whole m →

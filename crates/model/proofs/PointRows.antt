@@ -10,9 +10,8 @@ use Rattle.model.specs.Refusal.{Refused, row, numberOf}
 use Rattle.model.specs.Map.{Map}
 use Rattle.model.specs.Lines.{lineAt}
 use Rattle.model.specs.Reference.{negative}
-use Rattle.model.specs.Outcome.{WriteOutcome}
-use Rattle.model.specs.PointAlong.{greatestMark, PointAlong, pointStatus, shortestPoint, longestPoint, pointAlongAt, PointParse, parsed, parsePoint, PointReadOutcome, PointReadOn, PointReadParsed, PointReads, GivenPoint, PointWriteOn, PointCheck, passes, checkPoint, PointWriteChecked, PointWrites}
-use Rattle.model.proofs.Rows.{From, at, wider, write-same, read-on-rows, opens-rows}
+use Rattle.model.specs.PointAlong.{greatestMark, PointAlong, pointStatus, shortestPoint, longestPoint, pointAlongAt, PointParse, parsed, parsePoint, PointReadOutcome, PointReadOn, PointReadParsed, PointReads, GivenPoint, PointWriteOutcome, PointWriteOn, PointCheck, passes, checkPoint, PointWriteChecked, PointWrites}
+use Rattle.model.proofs.Rows.{From, at, wider, read-on-rows, opens-rows}
 
 -- ---- a point's bytes
 
@@ -76,19 +75,22 @@ point-read-rows mb ref work room why h =
     opens-rows PointReadOutcome.refused point-read-same (λ m. PointReadParsed m (parsePoint ref) room) 25 why
     (λ m. parsed-rows m ref (parsePoint ref) room why refl) (omega arith) mb work h
 
-write-on-rows : {m : Map} {p : GivenPoint} {room : ℕ} {why : Refused} → PointWriteOn m p room (WriteOutcome.refused why) → From 10 11 why
+point-write-same : (r s : Refused) → PointWriteOutcome.refused r ≡ PointWriteOutcome.refused s → r ≡ s
+point-write-same r s e = cc
+
+write-on-rows : {m : Map} {p : GivenPoint} {room : ℕ} {why : Refused} → PointWriteOn m p room (PointWriteOutcome.refused why) → From 10 11 why
 write-on-rows (PointWriteOn.not-good n) = at 10 (omega arith) (omega arith)
 write-on-rows (PointWriteOn.no-room g h) = at 11 (omega arith) (omega arith)
 
 checked-rows : (m : Map) (p : GivenPoint) (a : PointCheck) (room : ℕ) (why : Refused) → checkPoint m p ≡ a →
-    PointWriteChecked m p a room (WriteOutcome.refused why) → From 1 25 why
+    PointWriteChecked m p a room (PointWriteOutcome.refused why) → From 1 25 why
 checked-rows m p passes room why e h = wider (omega arith) (omega arith) (write-on-rows h)
-checked-rows m p (PointCheck.refused r) room why e h = rw (write-same why r h) (wider (omega arith) (omega arith) (check-rows m p r e))
+checked-rows m p (PointCheck.refused r) room why e h = rw (point-write-same why r h) (wider (omega arith) (omega arith) (check-rows m p r e))
 
-pub point-write-rows : (mb : List ℕ) (p : GivenPoint) (work room : ℕ) (why : Refused) → PointWrites mb p work room (WriteOutcome.refused why) →
+pub point-write-rows : (mb : List ℕ) (p : GivenPoint) (work room : ℕ) (why : Refused) → PointWrites mb p work room (PointWriteOutcome.refused why) →
     From 1 25 why
 point-write-rows mb p work room why h =
-    opens-rows WriteOutcome.refused write-same (λ m. PointWriteChecked m p (checkPoint m p) room) 25 why
+    opens-rows PointWriteOutcome.refused point-write-same (λ m. PointWriteChecked m p (checkPoint m p) room) 25 why
     (λ m. checked-rows m p (checkPoint m p) room why refl) (omega arith) mb work h
 
 -- No refusal has the number 0, which tells a C host that a call was accepted.
@@ -97,5 +99,5 @@ pub no-point-read-refusal-is-0 : (mb ref : List ℕ) (work room : ℕ) (why : Re
 no-point-read-refusal-is-0 mb ref work room why h e = omega (arith, point-read-rows mb ref work room why h .least)
 
 pub no-point-write-refusal-is-0 : (mb : List ℕ) (p : GivenPoint) (work room : ℕ) (why : Refused) →
-    PointWrites mb p work room (WriteOutcome.refused why) → numberOf why ≡ 0 → ⊥
+    PointWrites mb p work room (PointWriteOutcome.refused why) → numberOf why ≡ 0 → ⊥
 no-point-write-refusal-is-0 mb p work room why h e = omega (arith, point-write-rows mb p work room why h .least)

@@ -16,11 +16,11 @@ use Rattle.model.specs.Stretch.{somePair}
 use Rattle.model.specs.Choice.{fromNode, legOf, good, Usable, final, firstLeg, lastLeg, pointsOf, offsetOf, referenceOf}
 use Rattle.model.specs.Locate.{located, locate}
 use Rattle.model.specs.Span.{SpanRead}
-use Rattle.model.specs.Outcome.{SpansRead, ReadOutcome, ReadEnd, ReadOn, written}
+use Rattle.model.specs.Outcome.{SpansRead, ReadOutcome, ReadEnd, ReadOn}
 use Rattle.model.specs.Work.{workLength}
 use Rattle.model.specs.WellFormed.{WellFormed}
 use Rattle.model.specs.Demand3.{Within}
-use Rattle.model.specs.PointAlong.{shortestPoint, longestPoint, PointAlong, parsed, parsePoint, lineReference, read, PointReadOn, PointReads, GivenPoint, ownLeg, alongOf, givenBytes, PointWrites}
+use Rattle.model.specs.PointAlong.{shortestPoint, longestPoint, PointAlong, parsed, parsePoint, lineReference, read, PointReadOn, PointReads, GivenPoint, ownLeg, alongOf, givenBytes, written, PointWrites}
 use Rattle.model.specs.PointTrip.{FitsPoint, PointReadAs, PointBack, PointsAlike, PointTrip}
 use Rattle.model.proofs.Decoded.{well-formed}
 use Rattle.model.proofs.Every.{Every, also, Byte}

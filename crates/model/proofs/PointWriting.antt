@@ -14,15 +14,14 @@ use Rattle.model.specs.Difference.{DifferencesFit}
 use Rattle.model.specs.Lines.{lineAt, nodeAt}
 use Rattle.model.specs.Reading.{Only}
 use Rattle.model.specs.Choice.{fromNode, toNode, legOf, Good}
-use Rattle.model.specs.Outcome.{WriteOutcome, written}
-use Rattle.model.specs.PointAlong.{greatestMark, GivenPoint, ownLeg, givenBytes, PointWriteOn, PointCheck, passes, checkPoint, PointWriteChecked, PointWrites}
+use Rattle.model.specs.PointAlong.{greatestMark, GivenPoint, ownLeg, givenBytes, PointWriteOutcome, written, PointWriteOn, PointCheck, passes, checkPoint, PointWriteChecked, PointWrites}
 use Rattle.model.proofs.Tests.{neither}
 use Rattle.model.proofs.Opened.{opens-once, opened}
 
 -- ---- one outcome at most
 
 module _ {m : Map} {p : GivenPoint} {room : ℕ} where
-  pub point-write-same : {o o′ : WriteOutcome} → PointWriteOn m p room o → PointWriteOn m p room o′ → o ≡ o′
+  pub point-write-same : {o o′ : PointWriteOutcome} → PointWriteOn m p room o → PointWriteOn m p room o′ → o ≡ o′
   point-write-same (PointWriteOn.not-good n) (PointWriteOn.not-good n′) = refl
   point-write-same (PointWriteOn.not-good n) (PointWriteOn.no-room g h) = absurd (n g)
   point-write-same (PointWriteOn.not-good n) (PointWriteOn.accepted g h) = absurd (n g)
@@ -33,14 +32,14 @@ module _ {m : Map} {p : GivenPoint} {room : ℕ} where
   point-write-same (PointWriteOn.accepted g h) (PointWriteOn.no-room g′ h′) = absurd (omega arith)
   point-write-same (PointWriteOn.accepted g h) (PointWriteOn.accepted g′ h′) = refl
 
-module _ (mb : List ℕ) (p : GivenPoint) (room : ℕ) {o o′ : WriteOutcome} where
+module _ (mb : List ℕ) (p : GivenPoint) (room : ℕ) {o o′ : PointWriteOutcome} where
   checked-same : (m : Map) (a : PointCheck) → PointWriteChecked m p a room o → PointWriteChecked m p a room o′ → o ≡ o′
   checked-same m passes h h′ = point-write-same h h′
   checked-same m (PointCheck.refused r) h h′ = cc
 
   pub point-writes-once : (work : ℕ) → PointWrites mb p work room o → PointWrites mb p work room o′ → o ≡ o′
   point-writes-once work h h′ =
-      opens-once WriteOutcome.refused (λ m. PointWriteChecked m p (checkPoint m p) room) (λ m. checked-same m (checkPoint m p)) mb work h h′
+      opens-once PointWriteOutcome.refused (λ m. PointWriteChecked m p (checkPoint m p) room) (λ m. checked-same m (checkPoint m p)) mb work h h′
 
 -- ---- as given: 7, 9, 25
 
@@ -96,18 +95,18 @@ taken m p e =
 
 module _ (m : Map) (p : GivenPoint) (room : ℕ) where
   pub differences-apart : (DifferencesFit (nodeAt m (fromNode m (ownLeg p))) (nodeAt m (toNode m (ownLeg p))) → ⊥) →
-      PointWriteOn m p room (WriteOutcome.refused (row 10))
+      PointWriteOn m p room (PointWriteOutcome.refused (row 10))
   differences-apart h = PointWriteOn.not-good λ g. h (g .fit)
 
-  pub not-only-reading : (Only m (legOf m true (ownLeg p)) (ownLeg p) → ⊥) → PointWriteOn m p room (WriteOutcome.refused (row 10))
+  pub not-only-reading : (Only m (legOf m true (ownLeg p)) (ownLeg p) → ⊥) → PointWriteOn m p room (PointWriteOutcome.refused (row 10))
   not-only-reading h = PointWriteOn.not-good λ g. h (g .only)
 
   -- And for nothing else.
   pub not-ten : DifferencesFit (nodeAt m (fromNode m (ownLeg p))) (nodeAt m (toNode m (ownLeg p))) → Only m (legOf m true (ownLeg p)) (ownLeg p) →
-      PointWriteOn m p room (WriteOutcome.refused (row 10)) → ⊥
+      PointWriteOn m p room (PointWriteOutcome.refused (row 10)) → ⊥
   not-ten fit only h = ten-bad refl h (record { fit = fit; only = only })
     where
-      ten-bad : {o : WriteOutcome} → o ≡ WriteOutcome.refused (row 10) → PointWriteOn m p room o → Good m true (ownLeg p) → ⊥
+      ten-bad : {o : PointWriteOutcome} → o ≡ PointWriteOutcome.refused (row 10) → PointWriteOn m p room o → Good m true (ownLeg p) → ⊥
       ten-bad e (PointWriteOn.not-good n) g = n g
       ten-bad e (PointWriteOn.no-room g′ h′) g = let z : _≡_ {A = ℕ} 11 10 = cc in omega arith
       ten-bad e (PointWriteOn.accepted g′ h′) g = let z : _≡_ {A = ℕ} 0 1 = cc in omega arith
@@ -121,7 +120,7 @@ pub record PointWritten (m : Map) (mb : List ℕ) (p : GivenPoint) (bytes : List
   pub good-line : Good m true (ownLeg p)
   pub same : bytes ≡ givenBytes m p
 
-not-refused : {bytes : List ℕ} {r : Refused} → written bytes ≡ WriteOutcome.refused r → ⊥
+not-refused : {bytes : List ℕ} {r : Refused} → written bytes ≡ PointWriteOutcome.refused r → ⊥
 not-refused e = let z : _≡_ {A = ℕ} 0 1 = cc in omega arith
 
 written-on : {m : Map} {p : GivenPoint} {room : ℕ} {bytes : List ℕ} → PointWriteOn m p room (written bytes) →
@@ -138,5 +137,5 @@ module _ (mb bytes : List ℕ) (p : GivenPoint) (room : ℕ) where
 
   pub point-written-of : (work : ℕ) → PointWrites mb p work room (written bytes) → (m : Map) × PointWritten m mb p bytes
   point-written-of work h =
-      let g = opened WriteOutcome.refused (λ m. PointWriteChecked m p (checkPoint m p) room) mb (λ r. not-refused) work h in
+      let g = opened PointWriteOutcome.refused (λ m. PointWriteChecked m p (checkPoint m p) room) mb (λ r. not-refused) work h in
       (g .0, written-checked (g .0) _ (g .1) refl (g .2))

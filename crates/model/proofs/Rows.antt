@@ -1,5 +1,5 @@
--- The rows of the table that each part is refused with: a map 2 to 6, 23 or 24, a stretch 7 to 9 or 21, a reference's bytes 12 to 15. So no refusal
--- has the number 0. Only the least and the greatest number of a part are said.
+-- The rows of the table that each part is refused with: a map 2 to 6, 23 or 24, a stretch 7 to 9 or 21, what remains of it 10, 11 or 26, a reference's
+-- bytes 12 to 15. So no refusal has the number 0. Only the least and the greatest number of a part are said.
 use Prim.Native.Nat.{ℕ, zero, suc, _+_, _-_, _%_, _*_, _≤_}
 use mathlib.Core.Path.{_≡_, refl, subst}
 use mathlib.Core.Bool.{Bool, true, false, cond, _&&_, _||_}
@@ -191,8 +191,9 @@ read-on-rows (ReadOn.no-leg e h) = let n = legs-rows h in at-place _ _ (omega (a
 read-on-rows {m} {r} {room} {why} (ReadOn.every-leg {lss = lss} e h end) =
     wider (omega arith) (omega arith) (joined-rows m r room why (bannedMeeting m lss) lss end)
 
-write-on-rows : {test : LegTest} {bytes : List (List ℕ) → List ℕ} {lines : List ℕ} {room : ℕ} {why : Refused} →
-    WriteBy test bytes lines room (WriteOutcome.refused why) → From 10 11 why
+write-on-rows : {test : LegTest} {bytes : List (List ℕ) → List ℕ} {lines : List ℕ} {made room : ℕ} {why : Refused} →
+    WriteBy test bytes lines made room (WriteOutcome.refused why) → From 10 26 why
+write-on-rows (WriteBy.unfinished n c) = at 26 (omega arith) (omega arith)
 write-on-rows (WriteBy.no-choice n) = at 10 (omega arith) (omega arith)
 write-on-rows (WriteBy.no-room c h) = at 11 (omega arith) (omega arith)
 
@@ -210,7 +211,7 @@ module _ {Outcome : Type 0} (refused : Refused → Outcome) (same : (r s : Refus
   pub opens-rows : (mb : List ℕ) (work : ℕ) → Opens refused Asks mb work (refused why) → From 1 high why
   opens-rows mb work h = on-area-rows (ltb work workLength) mb h
 
-pub write-same : (r s : Refused) → WriteOutcome.refused r ≡ WriteOutcome.refused s → r ≡ s
+write-same : (r s : Refused) → WriteOutcome.refused r ≡ WriteOutcome.refused s → r ≡ s
 write-same r s e = cc
 
 parsed-rows : (m : Map) (ref : List ℕ) (a : ParseAnswer) (room : ℕ) (why : Refused) → parse ref ≡ a →
@@ -218,26 +219,26 @@ parsed-rows : (m : Map) (ref : List ℕ) (a : ParseAnswer) (room : ℕ) (why : R
 parsed-rows m ref (parsed r) room why e h = wider (omega arith) (omega arith) (read-on-rows h)
 parsed-rows m ref (ParseAnswer.refused r) room why e h = rw (read-same why r h) (wider (omega arith) (omega arith) (parse-rows ref r e))
 
-left-rows : (m : Map) (s : Stretch) (a : StretchAnswer) (room : ℕ) (why : Refused) → checkStretch m s ≡ a → WriteStretch m a room (WriteOutcome.refused why) →
-    From 1 24 why
-left-rows m s (remains t) room why e h = wider (omega arith) (omega arith) (write-on-rows h)
-left-rows m s (StretchAnswer.refused r) room why e h = rw (write-same why r h) (wider (omega arith) (omega arith) (stretch-rows m s r e))
+left-rows : (m : Map) (s : Stretch) (a : StretchAnswer) (tests room : ℕ) (why : Refused) → checkStretch m s ≡ a →
+    WriteStretch m a tests room (WriteOutcome.refused why) → From 1 26 why
+left-rows m s (remains t) tests room why e h = wider (omega arith) (omega arith) (write-on-rows h)
+left-rows m s (StretchAnswer.refused r) tests room why e h = rw (write-same why r h) (wider (omega arith) (omega arith) (stretch-rows m s r e))
 
--- The numbers of the reader's and of the writer's refusals are 1 to 24.
+-- The numbers of the reader's refusals are 1 to 24, of the writer's 1 to 26.
 pub read-rows : (mb ref : List ℕ) (work room : ℕ) (why : Refused) → Reads mb ref work room (ReadOutcome.refused why) → From 1 24 why
 read-rows mb ref work room why h =
     opens-rows ReadOutcome.refused read-same (λ m. ReadParsed m (parse ref) room) 24 why (λ m. parsed-rows m ref (parse ref) room why refl)
     (omega arith) mb work h
 
-pub write-rows : (mb : List ℕ) (s : Stretch) (work room : ℕ) (why : Refused) → Writes mb s work room (WriteOutcome.refused why) → From 1 24 why
-write-rows mb s work room why h =
-    opens-rows WriteOutcome.refused write-same (λ m. WriteStretch m (checkStretch m s) room) 24 why (λ m. left-rows m s (checkStretch m s) room why refl)
-    (omega arith) mb work h
+pub write-rows : (mb : List ℕ) (s : Stretch) (tests work room : ℕ) (why : Refused) → Writes mb s tests work room (WriteOutcome.refused why) → From 1 26 why
+write-rows mb s tests work room why h =
+    opens-rows WriteOutcome.refused write-same (λ m. WriteStretch m (checkStretch m s) tests room) 26 why
+    (λ m. left-rows m s (checkStretch m s) tests room why refl) (omega arith) mb work h
 
 -- No refusal has the number 0, which tells a C host that a call was accepted.
 pub no-read-refusal-is-0 : (mb ref : List ℕ) (work room : ℕ) (why : Refused) → Reads mb ref work room (ReadOutcome.refused why) → numberOf why ≡ 0 → ⊥
 no-read-refusal-is-0 mb ref work room why h e = omega (arith, read-rows mb ref work room why h .least)
 
-pub no-write-refusal-is-0 : (mb : List ℕ) (s : Stretch) (work room : ℕ) (why : Refused) → Writes mb s work room (WriteOutcome.refused why) →
+pub no-write-refusal-is-0 : (mb : List ℕ) (s : Stretch) (tests work room : ℕ) (why : Refused) → Writes mb s tests work room (WriteOutcome.refused why) →
     numberOf why ≡ 0 → ⊥
-no-write-refusal-is-0 mb s work room why h e = omega (arith, write-rows mb s work room why h .least)
+no-write-refusal-is-0 mb s tests work room why h e = omega (arith, write-rows mb s tests work room why h .least)

@@ -116,7 +116,7 @@ pub record Left (m : Map) (s : Stretch) : Type 0 where
   pub free : bannedPair m (s .lines) ≡ false
   pub few : length (s .lines) ≤ 64
 
-filled : (m : Map) (xs : List ℕ) → 0 < total m xs → 0 < length xs
+pub filled : (m : Map) (xs : List ℕ) → 0 < total m xs → 0 < length xs
 unfolding total
 filled m [] h = h
 filled m (x ∷ xs) h = omega arith

@@ -1,7 +1,7 @@
 -- "A span's ends, and two stretches with equal bytes, then differ by less than three 512ths of the leg" (W6): of whatever bytes the readers accept, `read-ends`
 -- and `point-read-ends`; of two stretches, `stretches-close`, and of two points, `points-close`.
 use Prim.Native.Nat.{ℕ, _<_}
-use mathlib.Core.Path.{_≡_, subst}
+use mathlib.Core.Path.{_≡_}
 use mathlib.Core.List.{List, _∷_}
 use native.Mathlib.Omega.{arith}
 use Rattle.model.specs.declared.Span.{Span}
@@ -11,10 +11,10 @@ use Rattle.model.specs.Lines.{lineAt, Connected, total}
 use Rattle.model.specs.Reference.{Reference, parsed, parse}
 use Rattle.model.specs.Reading.{joined}
 use Rattle.model.specs.Stretch.{Stretch, remaining}
-use Rattle.model.specs.Choice.{good, Chosen, firstLeg, lastLeg}
+use Rattle.model.specs.Choice.{firstLeg, lastLeg}
 use Rattle.model.specs.Outcome.{SpansRead, read, Reads, written, Writes}
-use Rattle.model.specs.PointAlong.{PointReadOutcome, parsePoint, PointReadParsed, PointReads, GivenPoint, PointWrites}
-use Rattle.model.specs.Demand3.{Close}
+use Rattle.model.specs.PointAlong.{PointReadOutcome, parsePoint, PointReadParsed, PointReads, GivenPoint, PointWriteOutcome, PointWrites}
+use Rattle.model.specs.Demand3.{ChosenBy, Close}
 use Rattle.model.specs.WellFormed.{WellFormed}
 use Rattle.model.proofs.Every.{Every, none, also}
 use Rattle.model.proofs.Decoded.{well-formed}
@@ -94,25 +94,26 @@ point-read-ends mb bytes work room ls span orientation side h =
     }
 
 -- Two stretches with equal bytes: both are cut into the same legs, and each offset is close to the same offset of the other on its own leg.
-pub record StretchesClose (mb : List ℕ) (s t : Stretch) : Type 0 where
+pub record StretchesClose (mb : List ℕ) (s t : Stretch) (tests tests′ : ℕ) : Type 0 where
   pub map : Map
   pub decodes : decode mb ≡ whole map
   pub legs : List (List ℕ)
-  pub one : Chosen (good map) (remaining map s .lines) legs
-  pub other : Chosen (good map) (remaining map t .lines) legs
+  pub one : ChosenBy map (remaining map s .lines) tests legs
+  pub other : ChosenBy map (remaining map t .lines) tests′ legs
   pub pos : Close (remaining map s .pos) (remaining map t .pos) (total map (firstLeg legs))
   pub neg : Close (remaining map s .neg) (remaining map t .neg) (total map (lastLeg legs))
 
-pub stretches-close : (mb bytes : List ℕ) (s t : Stretch) (work work′ room room′ : ℕ) → Writes mb s work room (written bytes) →
-    Writes mb t work′ room′ (written bytes) → StretchesClose mb s t
-stretches-close mb bytes s t work work′ room room′ h h′ =
-    let a = demand3 .alike mb bytes s t work work′ room room′ h h′ in
+pub stretches-close : (mb bytes : List ℕ) (s t : Stretch) (tests tests′ work work′ room room′ made made′ excess excess′ : ℕ) →
+    Writes mb s tests work room (written bytes made excess) → Writes mb t tests′ work′ room′ (written bytes made′ excess′) →
+    StretchesClose mb s t tests tests′
+stretches-close mb bytes s t tests tests′ work work′ room room′ made made′ excess excess′ h h′ =
+    let a = demand3 .alike mb bytes s t tests tests′ work work′ room room′ made made′ excess excess′ h h′ in
     record {
       map = a .map;
       decodes = a .decodes;
       legs = a .legs;
       one = a .chosen;
-      other = subst (λ (ls : List ℕ). Chosen (good (a .map)) ls (a .legs)) (a .lines) (a .chosen);
+      other = a .chosen-too;
       pos = a .near-pos .close;
       neg = a .near-neg .close;
     }
@@ -124,8 +125,8 @@ pub record PointsClose (mb : List ℕ) (p q : GivenPoint) : Type 0 where
   pub line : p .line ≡ q .line
   pub offset : Close (p .offset) (q .offset) (lineAt map (p .line) .length)
 
-pub points-close : (mb bytes : List ℕ) (p q : GivenPoint) (work work′ room room′ : ℕ) → PointWrites mb p work room (written bytes) →
-    PointWrites mb q work′ room′ (written bytes) → PointsClose mb p q
+pub points-close : (mb bytes : List ℕ) (p q : GivenPoint) (work work′ room room′ : ℕ) → PointWrites mb p work room (PointWriteOutcome.written bytes) →
+    PointWrites mb q work′ room′ (PointWriteOutcome.written bytes) → PointsClose mb p q
 points-close mb bytes p q work work′ room room′ h h′ =
     let a = point-trip .alike mb bytes p q work work′ room room′ h h′ in
     record { map = a .map; decodes = a .decodes; line = a .line; offset = a .near .close }

@@ -5,6 +5,7 @@ use Prim.Native.Nat.{ℕ, _+_, _<_}
 use mathlib.Core.Path.{_≡_}
 use mathlib.Core.Bool.{Bool}
 use mathlib.Core.List.{List, [], _∷_, List·Memᴰ}
+use lib.ListN.{length}
 use Rattle.model.specs.Map.{Node, Map, whole, decode}
 use Rattle.model.specs.Difference.{Near, difference, Difference}
 use Rattle.model.specs.Lines.{lineAt, nodeAt}
@@ -12,6 +13,7 @@ use Rattle.model.specs.Reference.{Point, Reference, bytesOf}
 use Rattle.model.specs.Reading.{Only}
 use Rattle.model.specs.Stretch.{Stretch, StretchAnswer, remains, checkStretch}
 use Rattle.model.specs.Choice.{fromNode, toNode, legOf, LegTest, pointOf, referenceOf}
+use Rattle.model.specs.LegTests.{testsMade}
 use Rattle.model.specs.Opening.{Opens}
 use Rattle.model.specs.Outcome.{WriteOutcome, WriteBy, Writes}
 
@@ -56,13 +58,14 @@ plainReference m legs pos neg =
 unfoldable pub plainBytes : Map → List (List ℕ) → Stretch → List ℕ
 plainBytes m legs s = bytesOf (plainReference m legs (s .pos) (s .neg))
 
--- Its outcome, row by row as it is now.
-abbrev pub PlainStretch : Map → StretchAnswer → ℕ → WriteOutcome → Type 0
-PlainStretch m (remains s) room o = WriteBy (plainGood m) (λ lss. plainBytes m lss s) (s .lines) room o
-PlainStretch m (StretchAnswer.refused r) room o = o ≡ WriteOutcome.refused r
+-- Its outcome, row by row as it is now, with any number of leg tests (W7).
+abbrev pub PlainStretch : Map → StretchAnswer → ℕ → ℕ → WriteOutcome → Type 0
+PlainStretch m (remains s) tests room o =
+    WriteBy (plainGood m) (λ lss. plainBytes m lss s) (s .lines) (testsMade (length (s .lines)) tests) room o
+PlainStretch m (StretchAnswer.refused r) tests room o = o ≡ WriteOutcome.refused r
 
-abbrev pub PlainWrites : List ℕ → Stretch → ℕ → ℕ → WriteOutcome → Type 0
-PlainWrites mb s work room o = Opens WriteOutcome.refused (λ m. PlainStretch m (checkStretch m s) room) mb work o
+abbrev pub PlainWrites : List ℕ → Stretch → ℕ → ℕ → ℕ → WriteOutcome → Type 0
+PlainWrites mb s tests work room o = Opens WriteOutcome.refused (λ m. PlainStretch m (checkStretch m s) tests room) mb work o
 
 -- ---- the sentence
 
@@ -82,8 +85,10 @@ NarrowLeft mb s = (m : Map) (r : Stretch) → decode mb ≡ whole m → checkStr
 abbrev pub NarrowGiven : List ℕ → Stretch → Type 0
 NarrowGiven mb s = (m : Map) → decode mb ≡ whole m → Narrow m (s .lines)
 
--- A stretch of which that is so "gives the bytes it gave": its whole outcome, bytes or refusal, is the one that it had, whatever the work area and
--- the byte buffer.
+-- A stretch of which that is so "gives the bytes it gave": its whole outcome, bytes or refusal, is the one that it had, whatever the number of leg
+-- tests, the work area and the byte buffer.
 pub record AsBefore (Asked : List ℕ → Stretch → Type 0) : Type 0 where
-  pub gives : (mb : List ℕ) (s : Stretch) (work room : ℕ) (o : WriteOutcome) → Asked mb s → PlainWrites mb s work room o → Writes mb s work room o
-  pub gave : (mb : List ℕ) (s : Stretch) (work room : ℕ) (o : WriteOutcome) → Asked mb s → Writes mb s work room o → PlainWrites mb s work room o
+  pub gives : (mb : List ℕ) (s : Stretch) (tests work room : ℕ) (o : WriteOutcome) → Asked mb s →
+      PlainWrites mb s tests work room o → Writes mb s tests work room o
+  pub gave : (mb : List ℕ) (s : Stretch) (tests work room : ℕ) (o : WriteOutcome) → Asked mb s →
+      Writes mb s tests work room o → PlainWrites mb s tests work room o

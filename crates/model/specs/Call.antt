@@ -20,7 +20,7 @@ linesAfter (read ls pos neg) lines = placed ls lines
 linesAfter (ReadOutcome.refused r) lines = lines
 
 unfoldable pub bytesAfter : WriteOutcome → List ℕ → List ℕ
-bytesAfter (written bs) bytes = placed bs bytes
+bytesAfter (written bs made excess) bytes = placed bs bytes
 bytesAfter (WriteOutcome.refused r) bytes = bytes
 
 -- "The reader answers the count of lines and, for each offset, its span."
@@ -28,9 +28,9 @@ pub data ReadAnswers : ReadAnswer → ReadOutcome → Type 0 where
   lines : {ls : List ℕ} {pos neg : Span} → ReadAnswers (Reader.Read (length ls) pos neg) (read ls pos neg)
   refusal : {why : Refusal} → ReadAnswers (Reader.Refused why) (ReadOutcome.refused (refusalOf why))
 
--- "The writer answers the count of bytes."
+-- "The writer answers the count of bytes", and the tests made and the excess (W7).
 pub data WriteAnswers : WriteAnswer → WriteOutcome → Type 0 where
-  bytes : {bs : List ℕ} → WriteAnswers (Writer.Written (length bs)) (written bs)
+  bytes : {bs : List ℕ} {made excess : ℕ} → WriteAnswers (Writer.Written (length bs) made excess) (written bs made excess)
   refusal : {why : Refusal} → WriteAnswers (Writer.Refused why) (WriteOutcome.refused (refusalOf why))
 
 -- An answer to a part of the definitions' question: an outcome that the part allows, the answer that tells it, and the buffer before and after. The
@@ -59,6 +59,6 @@ pub record Called {Outcome Answer : Type 0} (Tells : Answer → Outcome → Type
 pub record ReadCall (mb ref work before : List ℕ) (a : ReadAnswer) (work′ after : List ℕ) : Type 0 where
   pub called : Called ReadAnswers linesAfter (Reads mb ref (length work) (length before)) work work′ before after a
 
--- A call of the writer: its answer, and the work area and the byte buffer before and after it.
-pub record WriteCall (mb : List ℕ) (s : Stretch) (work before : List ℕ) (a : WriteAnswer) (work′ after : List ℕ) : Type 0 where
-  pub called : Called WriteAnswers bytesAfter (Writes mb s (length work) (length before)) work work′ before after a
+-- A call of the writer with a number of leg tests: its answer, and the work area and the byte buffer before and after it.
+pub record WriteCall (mb : List ℕ) (s : Stretch) (tests : ℕ) (work before : List ℕ) (a : WriteAnswer) (work′ after : List ℕ) : Type 0 where
+  pub called : Called WriteAnswers bytesAfter (Writes mb s tests (length work) (length before)) work work′ before after a

@@ -10,7 +10,7 @@ use Rattle.model.specs.Stretch.{Stretch}
 use Rattle.model.specs.Outcome.{ReadOutcome, read, Reads, WriteOutcome, written, Writes}
 use Rattle.model.specs.Call.{Answered}
 use Rattle.model.specs.Work.{workLength, placed}
-use Rattle.model.specs.PointAlong.{PointReadOutcome, PointReads, GivenPoint, PointWrites}
+use Rattle.model.specs.PointAlong.{PointReadOutcome, PointReads, GivenPoint, PointWriteOutcome, PointWrites, pointBytesAfter}
 
 -- The line numbers of some bytes; bytes beyond the last whole four are left out.
 unfoldable pub words : List ℕ → List ℕ
@@ -60,14 +60,16 @@ hostRead (read ls pos neg) =
 hostRead (ReadOutcome.refused r) =
     record { refusal = numberOf r; place = placeOf r; lines = 0; posLeast = 0; posGreatest = 0; negLeast = 0; negGreatest = 0 }
 
--- And from the writer: a refusal or 0, and the count of bytes.
+-- And from the writer: a refusal or 0, the count of bytes, the tests made and the excess (W7).
 pub record HostWritten : Type 0 where
   pub refusal : ℕ
   pub bytes : ℕ
+  pub tests : ℕ
+  pub excess : ℕ
 
 unfoldable pub hostWritten : WriteOutcome → HostWritten
-hostWritten (written bs) = record { refusal = 0; bytes = length bs }
-hostWritten (WriteOutcome.refused r) = record { refusal = numberOf r; bytes = 0 }
+hostWritten (written bs made excess) = record { refusal = 0; bytes = length bs; tests = made; excess = excess }
+hostWritten (WriteOutcome.refused r) = record { refusal = numberOf r; bytes = 0; tests = 0; excess = 0 }
 
 -- The host's buffers after a call.
 unfoldable pub hostLinesAfter : ReadOutcome → List ℕ → List ℕ
@@ -75,7 +77,7 @@ hostLinesAfter (read ls pos neg) lines = placed (wordBytes ls) lines
 hostLinesAfter (ReadOutcome.refused r) lines = lines
 
 unfoldable pub hostBytesAfter : WriteOutcome → List ℕ → List ℕ
-hostBytesAfter (written bs) bytes = placed bs bytes
+hostBytesAfter (written bs made excess) bytes = placed bs bytes
 hostBytesAfter (WriteOutcome.refused r) bytes = bytes
 
 -- A host's call of the reader, with the line buffer before and after it. "The entry points hold the work area themselves."
@@ -83,8 +85,9 @@ pub record HostReadCall (mb ref before : List ℕ) (a : HostRead) (after : List 
   pub answered : Answered (λ given o. given ≡ hostRead o) hostLinesAfter (Reads mb ref workLength (hostRoom (length before))) before after a
 
 -- A host's call of the writer, with the byte buffer before and after it.
-pub record HostWriteCall (mb stretch : List ℕ) (pos neg : ℕ) (before : List ℕ) (a : HostWritten) (after : List ℕ) : Type 0 where
-  pub answered : Answered (λ given o. given ≡ hostWritten o) hostBytesAfter (Writes mb (hostStretch stretch pos neg) workLength (length before)) before after a
+pub record HostWriteCall (mb stretch : List ℕ) (pos neg tests : ℕ) (before : List ℕ) (a : HostWritten) (after : List ℕ) : Type 0 where
+  pub answered : Answered (λ given o. given ≡ hostWritten o) hostBytesAfter (Writes mb (hostStretch stretch pos neg) tests workLength (length before))
+      before after a
 
 -- The numbers that the host gets from the reader of points (W5): a refusal or 0, its point or leg, the count of lines, the offset's span, the orientation
 -- and the side; 0 where they say nothing.
@@ -115,9 +118,18 @@ unfoldable pub hostPointLinesAfter : PointReadOutcome → List ℕ → List ℕ
 hostPointLinesAfter (PointReadOutcome.read ls span orientation side) lines = placed (wordBytes ls) lines
 hostPointLinesAfter (PointReadOutcome.refused r) lines = lines
 
+-- And from the writer of points: a refusal or 0, and the count of bytes.
+pub record HostPointWritten : Type 0 where
+  pub refusal : ℕ
+  pub bytes : ℕ
+
+unfoldable pub hostPointWritten : PointWriteOutcome → HostPointWritten
+hostPointWritten (PointWriteOutcome.written bs) = record { refusal = 0; bytes = length bs }
+hostPointWritten (PointWriteOutcome.refused r) = record { refusal = numberOf r; bytes = 0 }
+
 -- A host's call that reads a point, and one that writes a point.
 pub record HostPointReadCall (mb ref before : List ℕ) (a : HostPoint) (after : List ℕ) : Type 0 where
   pub answered : Answered (λ given o. given ≡ hostPoint o) hostPointLinesAfter (PointReads mb ref workLength (hostRoom (length before))) before after a
 
-pub record HostPointWriteCall (mb : List ℕ) (p : GivenPoint) (before : List ℕ) (a : HostWritten) (after : List ℕ) : Type 0 where
-  pub answered : Answered (λ given o. given ≡ hostWritten o) hostBytesAfter (PointWrites mb p workLength (length before)) before after a
+pub record HostPointWriteCall (mb : List ℕ) (p : GivenPoint) (before : List ℕ) (a : HostPointWritten) (after : List ℕ) : Type 0 where
+  pub answered : Answered (λ given o. given ≡ hostPointWritten o) pointBytesAfter (PointWrites mb p workLength (length before)) before after a

@@ -19,16 +19,16 @@ pub record HostReadAs (mb bytes lines : List ℕ) (pos neg : Span) : Type 0 wher
       (a ≡ hostRead (read lines pos neg)) × (after ≡ placed (wordBytes lines) before)
 
 -- Demand 3 of the bytes that a host's writer wrote for a stretch, and what the host's reader answers to them.
-pub record HostBack (mb : List ℕ) (s : Stretch) (bytes : List ℕ) : Type 0 where
-  pub back : ReadBack mb s bytes
+pub record HostBack (mb : List ℕ) (s : Stretch) (tests : ℕ) (bytes : List ℕ) : Type 0 where
+  pub back : ReadBack mb s tests bytes
   pub reads : HostReadAs mb bytes (remaining (back .map) s .lines) (back .pos) (back .neg)
 
 -- "Accepted means that no refusal is given": refusal 0. "A stretch's bytes are the first of the byte buffer, as many as the count of bytes that the
 -- writer answers."
 pub record HostDemand3 : Type 0 where
-  pub back : (mb stretch : List ℕ) (pos neg : ℕ) (before after : List ℕ) (a : HostWritten) → HostWriteCall mb stretch pos neg before a after →
-      a .refusal ≡ 0 → HostBack mb (hostStretch stretch pos neg) (take (a .bytes) after)
-  pub alike : (mb stretch stretch′ : List ℕ) (pos neg pos′ neg′ : ℕ) (before after before′ after′ : List ℕ) (a b : HostWritten) →
-      HostWriteCall mb stretch pos neg before a after → HostWriteCall mb stretch′ pos′ neg′ before′ b after′ → a .refusal ≡ 0 → b .refusal ≡ 0 →
-      take (a .bytes) after ≡ take (b .bytes) after′ →
-      Alike mb (take (a .bytes) after) (hostStretch stretch pos neg) (hostStretch stretch′ pos′ neg′)
+  pub back : (mb stretch : List ℕ) (pos neg tests : ℕ) (before after : List ℕ) (a : HostWritten) → HostWriteCall mb stretch pos neg tests before a after →
+      a .refusal ≡ 0 → HostBack mb (hostStretch stretch pos neg) tests (take (a .bytes) after)
+  pub alike : (mb stretch stretch′ : List ℕ) (pos neg tests pos′ neg′ tests′ : ℕ) (before after before′ after′ : List ℕ) (a b : HostWritten) →
+      HostWriteCall mb stretch pos neg tests before a after → HostWriteCall mb stretch′ pos′ neg′ tests′ before′ b after′ → a .refusal ≡ 0 →
+      b .refusal ≡ 0 → take (a .bytes) after ≡ take (b .bytes) after′ →
+      Alike mb (take (a .bytes) after) (hostStretch stretch pos neg) (hostStretch stretch′ pos′ neg′) tests tests′

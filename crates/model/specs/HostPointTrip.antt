@@ -6,7 +6,7 @@ use lib.ListN.{length, take}
 use Rattle.model.specs.declared.Span.{Span}
 use Rattle.model.specs.Work.{placed}
 use Rattle.model.specs.PointAlong.{read, GivenPoint, ownLeg}
-use Rattle.model.specs.Host.{wordBytes, HostPoint, hostPoint, HostPointReadCall, HostWritten, HostPointWriteCall}
+use Rattle.model.specs.Host.{wordBytes, HostPoint, hostPoint, HostPointReadCall, HostPointWritten, HostPointWriteCall}
 use Rattle.model.specs.PointTrip.{PointBack, PointsAlike}
 
 -- A host's call of the reader is answered with that one line, in four bytes, this span, the orientation and the side, and with nothing else, for every line
@@ -24,8 +24,8 @@ pub record HostPointBack (mb : List ℕ) (p : GivenPoint) (bytes : List ℕ) : T
 
 -- Accepted is refusal 0; a point's bytes are the first of the byte buffer, as many as the writer answers.
 pub record HostPointTrip : Type 0 where
-  pub back : (mb : List ℕ) (p : GivenPoint) (before after : List ℕ) (a : HostWritten) → HostPointWriteCall mb p before a after → a .refusal ≡ 0 →
+  pub back : (mb : List ℕ) (p : GivenPoint) (before after : List ℕ) (a : HostPointWritten) → HostPointWriteCall mb p before a after → a .refusal ≡ 0 →
       HostPointBack mb p (take (a .bytes) after)
-  pub alike : (mb : List ℕ) (p q : GivenPoint) (before after before′ after′ : List ℕ) (a b : HostWritten) → HostPointWriteCall mb p before a after →
+  pub alike : (mb : List ℕ) (p q : GivenPoint) (before after before′ after′ : List ℕ) (a b : HostPointWritten) → HostPointWriteCall mb p before a after →
       HostPointWriteCall mb q before′ b after′ → a .refusal ≡ 0 → b .refusal ≡ 0 → take (a .bytes) after ≡ take (b .bytes) after′ →
       PointsAlike mb (take (a .bytes) after) p q

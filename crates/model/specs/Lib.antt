@@ -1,4 +1,5 @@
--- What the promises mean. In the order of paper 01, as far as one definition needs another; PointAlong and PointTrip are paper 02's W5.
+-- What the promises mean. In the order of paper 01, as far as one definition needs another; PointAlong and PointTrip are paper 02's W5, LegTests and BestFound
+-- its W7.
 pub mod Number
 pub mod Field
 pub mod Sector
@@ -10,6 +11,7 @@ pub mod Stretch
 pub mod Reference
 pub mod Reading
 pub mod Choice
+pub mod LegTests
 pub mod Refusal
 pub mod Locate
 pub mod Span
@@ -25,3 +27,4 @@ pub mod HostDemand3
 pub mod PointTrip
 pub mod HostPointTrip
 pub mod AsBefore
+pub mod BestFound

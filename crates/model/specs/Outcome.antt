@@ -1,5 +1,5 @@
 -- What the reader and the writer come to: for each outcome, when it is the one (paper 01, "Refused, by place").
-use Prim.Native.Nat.{ℕ, _+_, _≤_, _<_}
+use Prim.Native.Nat.{ℕ, _+_, _-_, _≤_, _<_}
 use mathlib.Core.Path.{_≡_}
 use mathlib.Core.Bool.{Bool, true, false}
 use mathlib.Core.List.{List, [], _∷_}
@@ -13,6 +13,7 @@ use Rattle.model.specs.Reference.{Reference, ParseAnswer, parsed, parse}
 use Rattle.model.specs.Reading.{Leg, Only, Several, Unread, joined, bannedMeeting}
 use Rattle.model.specs.Stretch.{Stretch, StretchAnswer, remains, checkStretch}
 use Rattle.model.specs.Choice.{LegTest, good, Choice, Chosen, firstLeg, lastLeg, stretchBytes}
+use Rattle.model.specs.LegTests.{testsMade, testedGood, goodOrUntested, NoChoice, Fewest}
 use Rattle.model.specs.Locate.{locate, located, no-node}
 use Rattle.model.specs.Span.{SpanRead, NoOffset}
 
@@ -77,29 +78,36 @@ ReadMap answer ref room o = OnMap ReadOutcome.refused (λ m. ReadParsed m (parse
 abbrev pub Reads : List ℕ → List ℕ → ℕ → ℕ → ReadOutcome → Type 0
 Reads mb ref work room o = Opens ReadOutcome.refused (λ m. ReadParsed m (parse ref) room) mb work o
 
--- An outcome of the writer.
+-- An outcome of the writer. "It answers the reference, the tests made, and by how many points at most that exceeds the fewest" (W7).
 pub data WriteOutcome : Type 0 where
-  written : List ℕ → WriteOutcome
+  written : List ℕ → ℕ → ℕ → WriteOutcome
   refused : Refused → WriteOutcome
 
--- For the lines that remain of a stretch, a test of its legs, the bytes of legs, and a byte buffer of `room` bytes: 10, 11, or accepted.
-pub data WriteBy (test : LegTest) (bytes : List (List ℕ) → List ℕ) (lines : List ℕ) (room : ℕ) : WriteOutcome → Type 0 where
-  no-choice : ((lss : List (List ℕ)) → Choice test lines lss → ⊥) → WriteBy test bytes lines room (refused (row 10))
-  no-room : {lss : List (List ℕ)} → Chosen test lines lss → room < length (bytes lss) → WriteBy test bytes lines room (refused (row 11))
-  accepted : {lss : List (List ℕ)} → Chosen test lines lss → length (bytes lss) ≤ room → WriteBy test bytes lines room (written (bytes lss))
+-- For the lines that remain of a stretch, a test of its legs of which `made` are made, the bytes of legs, and a byte buffer of `room` bytes. "26 (before
+-- 10) when tested legs allow no reference but one exists once untested legs count as good" (W7); 10 where none exists even so; 11; or "the fewest-point
+-- reference over legs tested good", with "the excess over the fewest when untested legs count as good".
+pub data WriteBy (test : LegTest) (bytes : List (List ℕ) → List ℕ) (lines : List ℕ) (made room : ℕ) : WriteOutcome → Type 0 where
+  unfinished : {lss : List (List ℕ)} → NoChoice (testedGood test lines made) lines → Choice (goodOrUntested test lines made) lines lss →
+      WriteBy test bytes lines made room (refused (row 26))
+  no-choice : NoChoice (goodOrUntested test lines made) lines → WriteBy test bytes lines made room (refused (row 10))
+  no-room : {lss : List (List ℕ)} → Chosen (testedGood test lines made) lines lss → room < length (bytes lss) →
+      WriteBy test bytes lines made room (refused (row 11))
+  accepted : {lss : List (List ℕ)} {fewest : ℕ} → Chosen (testedGood test lines made) lines lss → Fewest (goodOrUntested test lines made) lines fewest →
+      length (bytes lss) ≤ room → WriteBy test bytes lines made room (written (bytes lss) made (length lss - fewest))
 
--- On a map, for what remains of a stretch.
-abbrev pub WriteOn : Map → Stretch → ℕ → WriteOutcome → Type 0
-WriteOn m s room o = WriteBy (good m) (λ lss. stretchBytes m lss s) (s .lines) room o
+-- On a map, for what remains of a stretch, with so many tests made.
+abbrev pub WriteOn : Map → Stretch → ℕ → ℕ → WriteOutcome → Type 0
+WriteOn m s made room o = WriteBy (good m) (λ lss. stretchBytes m lss s) (s .lines) made room o
 
--- Row by row: the stretch as given (7, 8, 21, 9) after the map (2 to 6, 23, 24) after the work area (1).
-abbrev pub WriteStretch : Map → StretchAnswer → ℕ → WriteOutcome → Type 0
-WriteStretch m (remains s) room o = WriteOn m s room o
-WriteStretch m (StretchAnswer.refused r) room o = o ≡ refused r
+-- "The writer takes a number of leg tests it may make": `tests`. Row by row: the stretch as given (7, 8, 21, 9) after the map (2 to 6, 23, 24) after the
+-- work area (1).
+abbrev pub WriteStretch : Map → StretchAnswer → ℕ → ℕ → WriteOutcome → Type 0
+WriteStretch m (remains s) tests room o = WriteOn m s (testsMade (length (s .lines)) tests) room o
+WriteStretch m (StretchAnswer.refused r) tests room o = o ≡ refused r
 
-abbrev pub WriteMap : MapAnswer → Stretch → ℕ → WriteOutcome → Type 0
-WriteMap answer s room o = OnMap WriteOutcome.refused (λ m. WriteStretch m (checkStretch m s) room) answer o
+abbrev pub WriteMap : MapAnswer → Stretch → ℕ → ℕ → WriteOutcome → Type 0
+WriteMap answer s tests room o = OnMap WriteOutcome.refused (λ m. WriteStretch m (checkStretch m s) tests room) answer o
 
--- The writer's outcome for map bytes, a stretch as given, a work area of `work` numbers and a byte buffer of `room` bytes.
-abbrev pub Writes : List ℕ → Stretch → ℕ → ℕ → WriteOutcome → Type 0
-Writes mb s work room o = Opens WriteOutcome.refused (λ m. WriteStretch m (checkStretch m s) room) mb work o
+-- The writer's outcome for map bytes, a stretch as given, a number of leg tests, a work area of `work` numbers and a byte buffer of `room` bytes.
+abbrev pub Writes : List ℕ → Stretch → ℕ → ℕ → ℕ → WriteOutcome → Type 0
+Writes mb s tests work room o = Opens WriteOutcome.refused (λ m. WriteStretch m (checkStretch m s) tests room) mb work o

@@ -9,17 +9,18 @@ use lib.Dec.{ltb, leb, eqb}
 use Rattle.model.specs.declared.Span.{Span}
 use Rattle.model.specs.declared.Refusal.{Refusal}
 use Rattle.model.specs.declared.PointReadAnswer.{PointReadAnswer}
-use Rattle.model.specs.declared.WriteAnswer.{WriteAnswer}
+use Rattle.model.specs.declared.PointWriteAnswer.{PointWriteAnswer}
 use Rattle.model.specs.Refusal.{Refused, row, refusalOf}
 use Rattle.model.specs.Map.{Map, MapAnswer, lonCode, latCode}
 use Rattle.model.specs.Lines.{LineAttributes, lineAt, nodeAt, arriving}
 use Rattle.model.specs.Reference.{Offset, absent, Point, Reference, bytes2, bytes3, byteP, byteQ, flag, offsetBytes, at2, at3, attributes, positive, negative, offsetAt}
 use Rattle.model.specs.Choice.{Good, pointOf, offsetOf}
 use Rattle.model.specs.Opening.{OnMap, Opens}
-use Rattle.model.specs.Outcome.{ReadOutcome, ReadOn, WriteOutcome, written}
+use Rattle.model.specs.Outcome.{ReadOutcome, ReadOn}
 use Rattle.model.specs.Work.{placed}
-use Rattle.model.specs.Call.{bytesAfter, WriteAnswers, Answered, Called}
+use Rattle.model.specs.Call.{Answered, Called}
 use Rattle.model.specs.declared.PointReadAnswer.the-variants as Reader
+use Rattle.model.specs.declared.PointWriteAnswer.the-variants as Writer
 
 -- ---- the bytes
 
@@ -195,12 +196,17 @@ givenBytes m p = pointAlongBytes (alongOf m p)
 abbrev pub GoodLine : Map → GivenPoint → Type 0
 GoodLine m p = Good m true (ownLeg p)
 
+-- An outcome of the writer of points.
+pub data PointWriteOutcome : Type 0 where
+  written : List ℕ → PointWriteOutcome
+  refused : Refused → PointWriteOutcome
+
 -- On a map, for a point that is not refused as given: "10 is given if their differences do not fit 16 bits or the line is not the leg's only reading",
 -- 11, or accepted.
-pub data PointWriteOn (m : Map) (p : GivenPoint) (room : ℕ) : WriteOutcome → Type 0 where
-  not-good : (GoodLine m p → ⊥) → PointWriteOn m p room (WriteOutcome.refused (row 10))
-  no-room : GoodLine m p → room < length (givenBytes m p) → PointWriteOn m p room (WriteOutcome.refused (row 11))
-  accepted : GoodLine m p → length (givenBytes m p) ≤ room → PointWriteOn m p room (written (givenBytes m p))
+pub data PointWriteOn (m : Map) (p : GivenPoint) (room : ℕ) : PointWriteOutcome → Type 0 where
+  not-good : (GoodLine m p → ⊥) → PointWriteOn m p room (PointWriteOutcome.refused (row 10))
+  no-room : GoodLine m p → room < length (givenBytes m p) → PointWriteOn m p room (PointWriteOutcome.refused (row 11))
+  accepted : GoodLine m p → length (givenBytes m p) ≤ room → PointWriteOn m p room (PointWriteOutcome.written (givenBytes m p))
 
 -- A point as given, refused with 7 ("no such line"), 9 (the offset is not below the line's length) or 25 ("after 9"), or not.
 pub data PointCheck : Type 0 where
@@ -214,16 +220,16 @@ checkPoint m p =
     (cond (ltb greatestMark (p .orientation) || ltb greatestMark (p .side)) (refused (row 25)) passes))
 
 -- Row by row: the point as given after the map after the work area.
-abbrev pub PointWriteChecked : Map → GivenPoint → PointCheck → ℕ → WriteOutcome → Type 0
+abbrev pub PointWriteChecked : Map → GivenPoint → PointCheck → ℕ → PointWriteOutcome → Type 0
 PointWriteChecked m p passes room o = PointWriteOn m p room o
-PointWriteChecked m p (PointCheck.refused r) room o = o ≡ WriteOutcome.refused r
+PointWriteChecked m p (PointCheck.refused r) room o = o ≡ PointWriteOutcome.refused r
 
-abbrev pub PointWriteMap : MapAnswer → GivenPoint → ℕ → WriteOutcome → Type 0
-PointWriteMap answer p room o = OnMap WriteOutcome.refused (λ m. PointWriteChecked m p (checkPoint m p) room) answer o
+abbrev pub PointWriteMap : MapAnswer → GivenPoint → ℕ → PointWriteOutcome → Type 0
+PointWriteMap answer p room o = OnMap PointWriteOutcome.refused (λ m. PointWriteChecked m p (checkPoint m p) room) answer o
 
 -- The writer's outcome for map bytes, a point as given, a work area of `work` numbers and a byte buffer of `room` bytes.
-abbrev pub PointWrites : List ℕ → GivenPoint → ℕ → ℕ → WriteOutcome → Type 0
-PointWrites mb p work room o = Opens WriteOutcome.refused (λ m. PointWriteChecked m p (checkPoint m p) room) mb work o
+abbrev pub PointWrites : List ℕ → GivenPoint → ℕ → ℕ → PointWriteOutcome → Type 0
+PointWrites mb p work room o = Opens PointWriteOutcome.refused (λ m. PointWriteChecked m p (checkPoint m p) room) mb work o
 
 -- ---- the calls
 
@@ -232,22 +238,33 @@ unfoldable pub pointLinesAfter : PointReadOutcome → List ℕ → List ℕ
 pointLinesAfter (read ls span orientation side) lines = placed ls lines
 pointLinesAfter (PointReadOutcome.refused r) lines = lines
 
--- The reader answers the count of lines, the span, the orientation and the side, or the refusal. The writer answers as that of stretches does.
+unfoldable pub pointBytesAfter : PointWriteOutcome → List ℕ → List ℕ
+pointBytesAfter (PointWriteOutcome.written bs) bytes = placed bs bytes
+pointBytesAfter (PointWriteOutcome.refused r) bytes = bytes
+
+-- The reader answers the count of lines, the span, the orientation and the side, or the refusal; the writer the count of bytes, or the refusal.
 pub data PointReadAnswers : PointReadAnswer → PointReadOutcome → Type 0 where
   lines : {ls : List ℕ} {span : Span} {orientation side : ℕ} →
       PointReadAnswers (Reader.Read (length ls) span orientation side) (read ls span orientation side)
   refusal : {why : Refusal} → PointReadAnswers (Reader.Refused why) (PointReadOutcome.refused (refusalOf why))
 
+pub data PointWriteAnswers : PointWriteAnswer → PointWriteOutcome → Type 0 where
+  bytes : {bs : List ℕ} → PointWriteAnswers (Writer.Written (length bs)) (PointWriteOutcome.written bs)
+  refusal : {why : Refusal} → PointWriteAnswers (Writer.Refused why) (PointWriteOutcome.refused (refusalOf why))
+
 abbrev pub PointReadAnswered : (PointReadOutcome → Type 0) → List ℕ → List ℕ → PointReadAnswer → Type 0
 PointReadAnswered Asks before after a = Answered PointReadAnswers pointLinesAfter Asks before after a
+
+abbrev pub PointWriteAnswered : (PointWriteOutcome → Type 0) → List ℕ → List ℕ → PointWriteAnswer → Type 0
+PointWriteAnswered Asks before after a = Answered PointWriteAnswers pointBytesAfter Asks before after a
 
 -- A call that reads a point: its answer, and the work area and the line buffer before and after it.
 pub record PointReadCall (mb ref work before : List ℕ) (a : PointReadAnswer) (work′ after : List ℕ) : Type 0 where
   pub called : Called PointReadAnswers pointLinesAfter (PointReads mb ref (length work) (length before)) work work′ before after a
 
 -- A call that writes one: its answer, and the work area and the byte buffer before and after it.
-pub record PointWriteCall (mb : List ℕ) (p : GivenPoint) (work before : List ℕ) (a : WriteAnswer) (work′ after : List ℕ) : Type 0 where
-  pub called : Called WriteAnswers bytesAfter (PointWrites mb p (length work) (length before)) work work′ before after a
+pub record PointWriteCall (mb : List ℕ) (p : GivenPoint) (work before : List ℕ) (a : PointWriteAnswer) (work′ after : List ℕ) : Type 0 where
+  pub called : Called PointWriteAnswers pointBytesAfter (PointWrites mb p (length work) (length before)) work work′ before after a
 
 -- A point by its parts, as a caller gives them.
 abbrev pub pointGiven : ℕ → ℕ → ℕ → ℕ → GivenPoint

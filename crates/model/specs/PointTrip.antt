@@ -8,10 +8,9 @@ use Rattle.model.specs.Map.{Map, whole, decode}
 use Rattle.model.specs.Lines.{lineAt}
 use Rattle.model.specs.Reading.{Leg, Reading}
 use Rattle.model.specs.Locate.{located, locate}
-use Rattle.model.specs.Outcome.{written}
 use Rattle.model.specs.Work.{workLength}
 use Rattle.model.specs.Demand3.{Within, Apart}
-use Rattle.model.specs.PointAlong.{PointAlong, parsed, parsePoint, lineReference, PointReadOutcome, read, PointReads, GivenPoint, ownLeg, PointWrites}
+use Rattle.model.specs.PointAlong.{PointAlong, parsed, parsePoint, lineReference, PointReadOutcome, read, PointReads, GivenPoint, ownLeg, PointWriteOutcome, PointWrites}
 
 -- What fits the bytes of a point: a reading of its leg, an orientation and a side.
 pub record FitsPoint (m : Map) (bytes lines : List ℕ) (orientation side : ℕ) : Type 0 where
@@ -55,6 +54,6 @@ pub record PointsAlike (mb bytes : List ℕ) (p q : GivenPoint) : Type 0 where
 
 -- A single claim, as demand 3 is: about a writing that was accepted and reading what it wrote; and about two writings that gave the same bytes.
 pub record PointTrip : Type 0 where
-  pub back : (mb bytes : List ℕ) (p : GivenPoint) (work room : ℕ) → PointWrites mb p work room (written bytes) → PointBack mb p bytes
+  pub back : (mb bytes : List ℕ) (p : GivenPoint) (work room : ℕ) → PointWrites mb p work room (PointWriteOutcome.written bytes) → PointBack mb p bytes
   pub alike : (mb bytes : List ℕ) (p q : GivenPoint) (work work′ room room′ : ℕ) →
-      PointWrites mb p work room (written bytes) → PointWrites mb q work′ room′ (written bytes) → PointsAlike mb bytes p q
+      PointWrites mb p work room (PointWriteOutcome.written bytes) → PointWrites mb q work′ room′ (PointWriteOutcome.written bytes) → PointsAlike mb bytes p q

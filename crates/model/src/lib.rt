@@ -32,6 +32,7 @@ pub enum Refusal {
     MapBan,
     MapStep,
     PointMarks,
+    Unfinished,
 }
 
 // The least and the greatest offset, in decimetres, that an offset byte may stand for. 0 and 0 where there is no byte.
@@ -52,8 +53,14 @@ pub enum PointReadAnswer {
     Refused(Refusal),
 }
 
-// What a writer answers, of stretches or of points: the count of bytes, or why not.
+// What the writer answers: the count of bytes, the leg tests made and the excess, or why not.
 pub enum WriteAnswer {
+    Written(usize, u32, u32),
+    Refused(Refusal),
+}
+
+// What the writer of points along a line answers: the count of bytes, or why not.
+pub enum PointWriteAnswer {
     Written(usize),
     Refused(Refusal),
 }
@@ -91,6 +98,7 @@ pub fn row_of(why: Refusal) -> Row
         Refusal::MapBan => Row(23, 0),
         Refusal::MapStep => Row(24, 0),
         Refusal::PointMarks => Row(25, 0),
+        Refusal::Unfinished => Row(26, 0),
     }
 }
 

@@ -18,10 +18,8 @@ use Rattle.model.specs.Stretch.{Stretch, StretchAnswer, checkStretch, greatestS
 use Rattle.model.specs.Outcome.{WriteOutcome, written, WriteStretch, Writes}
 use Rattle.model.specs.Work.{workLength}
 use Rattle.model.specs.Call.{bytesAfter, WriteAnswers, bytes, refusal, WriteAnswered}
-use Rattle.model.specs.Host.{hostStretch, HostWritten, hostWritten, hostBytesAfter, HostWriteCall, HostPointWriteCall}
+use Rattle.model.specs.Host.{hostStretch, HostWritten, hostWritten, hostBytesAfter, HostWriteCall}
 use Rattle.model.specs.Reference.{longestReference}
-use Rattle.model.specs.PointAlong.{GivenPoint, PointWrites}
-use Rattle.model.proofs.PointTrip.{point-written-few}
 use Rattle.model.proofs.Demand3.{written-bytes}
 use Rattle.openlr.specs.Host.{stretchLines}
 
@@ -41,75 +39,67 @@ first-65 m ls pos neg = go (ltb 65 (length ls)) refl
     go false e = ap (λ (l : List ℕ). checkStretch m (stretchOf l pos neg)) (take-all 65 ls (ltb-false 65 (length ls) e))
 
 -- The line numbers taken from a host's bytes stand for its stretch.
-pub stretch-stands : (mb stretch ns : List ℕ) (pos neg work room : ℕ) (o : WriteOutcome) → ns ≡ take 65 (stretchLines stretch) →
-    Writes mb (stretchOf ns pos neg) work room o → Writes mb (hostStretch stretch pos neg) work room o
+pub stretch-stands : (mb stretch ns : List ℕ) (pos neg tests work room : ℕ) (o : WriteOutcome) → ns ≡ take 65 (stretchLines stretch) →
+    Writes mb (stretchOf ns pos neg) tests work room o → Writes mb (hostStretch stretch pos neg) tests work room o
 unfolding hostStretch
-stretch-stands mb stretch ns pos neg work room o e h =
+stretch-stands mb stretch ns pos neg tests work room o e h =
     let same : (m : Map) → checkStretch m (stretchOf ns pos neg) ≡ checkStretch m (hostStretch stretch pos neg) =
     λ m. ap (λ (l : List ℕ). checkStretch m (stretchOf l pos neg)) e ∙ first-65 m (stretchLines stretch) pos neg in
-    opens-by WriteOutcome.refused (λ m. WriteStretch m (checkStretch m (stretchOf ns pos neg)) room)
-    (λ m. WriteStretch m (checkStretch m (hostStretch stretch pos neg)) room) mb
-    (λ m d p. subst (λ (x : StretchAnswer). WriteStretch m x room o) (same m) p) work h
+    opens-by WriteOutcome.refused (λ m. WriteStretch m (checkStretch m (stretchOf ns pos neg)) tests room)
+    (λ m. WriteStretch m (checkStretch m (hostStretch stretch pos neg)) tests room) mb
+    (λ m d p. subst (λ (x : StretchAnswer). WriteStretch m x tests room o) (same m) p) work h
 
 -- ---- the answer
 
-told-written : {a : WriteAnswer} {o : WriteOutcome} {count : ℕ} → WriteAnswers a o → a ≡ Written count →
-    (bs : List ℕ) × (o ≡ written bs) × (count ≡ length bs)
-told-written (bytes {bs = bs}) e = (bs, refl, cc)
+told-written : {a : WriteAnswer} {o : WriteOutcome} {count made excess : ℕ} → WriteAnswers a o → a ≡ Written count made excess →
+    (bs : List ℕ) × (o ≡ written bs made excess) × (count ≡ length bs)
+told-written {made = made} {excess = excess} (bytes {bs = bs} {made = made′} {excess = excess′}) e =
+    let same : made′ ≡ made = cc in
+    let over : excess′ ≡ excess = cc in
+    (bs, rw (same, over) refl, cc)
 told-written refusal e = absurd (let z : _≡_ {A = ℕ} 0 1 = cc in omega arith)
 
 told-refused : {a : WriteAnswer} {o : WriteOutcome} {why : Refusal} → WriteAnswers a o → a ≡ Refused why → o ≡ WriteOutcome.refused (refusalOf why)
 told-refused bytes e = absurd (let z : _≡_ {A = ℕ} 0 1 = cc in omega arith)
 told-refused refusal e = cc
 
--- A reference has 459 bytes at most, and so has a point.
-pub count-small : (mb : List ℕ) (s : Stretch) {room room′ : List ℕ} {a : WriteAnswer} → WriteAnswered (Writes mb s workLength (length room)) room room′ a →
-    (count : ℕ) → a ≡ Written count → count ≤ longestReference
-count-small mb s {room = room} d count e =
+-- A reference has 459 bytes at most.
+pub count-small : (mb : List ℕ) (s : Stretch) (tests : ℕ) {room room′ : List ℕ} {a : WriteAnswer} →
+    WriteAnswered (Writes mb s tests workLength (length room)) room room′ a → (count made excess : ℕ) → a ≡ Written count made excess →
+    count ≤ longestReference
+count-small mb s tests {room = room} d count made excess e =
     let t = told-written (d .answers) e in
-    let w = written-bytes mb (t .0) s workLength (length room) (subst (λ (o : WriteOutcome). Writes mb s workLength (length room) o) (t .1) (d .asked)) in
+    let w = written-bytes mb (t .0) s tests workLength (length room) made excess
+    (subst (λ (o : WriteOutcome). Writes mb s tests workLength (length room) o) (t .1) (d .asked)) in
     omega (arith, t .2, w .2)
 
-pub point-count-small : (mb : List ℕ) (p : GivenPoint) {room room′ : List ℕ} {a : WriteAnswer} →
-    WriteAnswered (PointWrites mb p workLength (length room)) room room′ a → (count : ℕ) → a ≡ Written count → count ≤ longestReference
-point-count-small mb p {room = room} d count e =
-    let t = told-written (d .answers) e in
-    let w = point-written-few mb (t .0) p workLength (length room) (subst (λ (o : WriteOutcome). PointWrites mb p workLength (length room) o) (t .1) (d .asked)) in
-    omega (arith, t .2, w .1)
-
 -- What a host gets tells the outcome.
-pub host-wrote-bytes : {a : WriteAnswer} {o : WriteOutcome} {count : ℕ} → a ≡ Written count → WriteAnswers a o →
-    record { refusal = 0; bytes = count } ≡ hostWritten o
+pub host-wrote-bytes : {a : WriteAnswer} {o : WriteOutcome} {count made excess : ℕ} → a ≡ Written count made excess → WriteAnswers a o →
+    record { refusal = 0; bytes = count; tests = made; excess = excess } ≡ hostWritten o
 unfolding hostWritten
-host-wrote-bytes e h = let t = told-written h e in ap (λ (n : ℕ). record { refusal = 0; bytes = n }) (t .2) ∙ ap hostWritten (sym (t .1))
+host-wrote-bytes {made = made} {excess = excess} e h =
+    let t = told-written h e in
+    ap (λ (n : ℕ). record { refusal = 0; bytes = n; tests = made; excess = excess }) (t .2) ∙ ap hostWritten (sym (t .1))
 
 pub host-wrote-none : {a : WriteAnswer} {o : WriteOutcome} {why : Refusal} {n : ℕ} → a ≡ Refused why → n ≡ numberOf (refusalOf why) → WriteAnswers a o →
-    record { refusal = n; bytes = 0 } ≡ hostWritten o
+    record { refusal = n; bytes = 0; tests = 0; excess = 0 } ≡ hostWritten o
 unfolding hostWritten
-host-wrote-none e f h = ap (λ (k : ℕ). record { refusal = k; bytes = 0 }) f ∙ ap hostWritten (sym (told-refused h e))
+host-wrote-none e f h = ap (λ (k : ℕ). record { refusal = k; bytes = 0; tests = 0; excess = 0 }) f ∙ ap hostWritten (sym (told-refused h e))
 
 same-bytes : (room : List ℕ) (o : WriteOutcome) → bytesAfter o room ≡ hostBytesAfter o room
 unfolding bytesAfter hostBytesAfter
-same-bytes room (written bs) = refl
+same-bytes room (written bs made excess) = refl
 same-bytes room (WriteOutcome.refused r) = refl
 
-pub host-call : (mb ns : List ℕ) (pos neg : ℕ) {room room′ : List ℕ} {a : WriteAnswer} →
-    (d : WriteAnswered (Writes mb (stretchOf ns pos neg) workLength (length room)) room room′ a) (stretch : List ℕ) → ns ≡ take 65 (stretchLines stretch) →
-    {r : HostWritten} → r ≡ hostWritten (d .outcome) → HostWriteCall mb stretch pos neg room r room′
-host-call mb ns pos neg {room = room} d stretch taken given =
+pub host-call : (mb ns : List ℕ) (pos neg tests : ℕ) {room room′ : List ℕ} {a : WriteAnswer} →
+    (d : WriteAnswered (Writes mb (stretchOf ns pos neg) tests workLength (length room)) room room′ a) (stretch : List ℕ) →
+    ns ≡ take 65 (stretchLines stretch) → {r : HostWritten} → r ≡ hostWritten (d .outcome) → HostWriteCall mb stretch pos neg tests room r room′
+host-call mb ns pos neg tests {room = room} d stretch taken given =
     record {
       answered = record {
         outcome = d .outcome;
-        asked = stretch-stands mb stretch ns pos neg workLength (length room) (d .outcome) taken (d .asked);
+        asked = stretch-stands mb stretch ns pos neg tests workLength (length room) (d .outcome) taken (d .asked);
         answers = given;
         buffer-after = d .buffer-after ∙ same-bytes room (d .outcome);
       };
-    }
-
-pub host-point-call : (mb : List ℕ) (p : GivenPoint) {room room′ : List ℕ} {a : WriteAnswer} →
-    (d : WriteAnswered (PointWrites mb p workLength (length room)) room room′ a) {r : HostWritten} → r ≡ hostWritten (d .outcome) →
-    HostPointWriteCall mb p room r room′
-host-point-call mb p {room = room} d given =
-    record {
-      answered = record { outcome = d .outcome; asked = d .asked; answers = given; buffer-after = d .buffer-after ∙ same-bytes room (d .outcome) };
     }

@@ -47,6 +47,8 @@ pub struct Lines {
 pub struct Written {
     pub refusal: u32,
     pub bytes: u32,
+    pub tests: u32,
+    pub excess: u32,
 }
 
 // What the host gets where the reader refuses.
@@ -65,21 +67,25 @@ fn no_lines(why: Refusal) -> Lines
     }
 }
 
-// What the host gets for a writer's answer, of stretches or of points.
+// What the host gets for the writer's answer.
 fn told(answer: WriteAnswer) -> Written
-    requires { ⌜ ((count : ℕ) → answer ≡ Writer.Written count → count ≤ longestReference) ⌝ }
+    requires { ⌜ ((count made excess : ℕ) → answer ≡ Writer.Written count made excess → count ≤ longestReference) ⌝ }
     ensures { λ r. ⌜ ((o : WriteOutcome) → WriteAnswers answer o → asWritten r ≡ hostWritten o) ⌝ }
 {
     match answer {
-        WriteAnswer::Written(count) => Written {
+        WriteAnswer::Written(count, made, excess) => Written {
             refusal: 0,
             bytes: count as u32,
+            tests: made,
+            excess,
         },
         WriteAnswer::Refused(why) => {
             let number = number_of(why);
             Written {
                 refusal: number,
                 bytes: 0,
+                tests: 0,
+                excess: 0,
             }
         }
     }
@@ -138,34 +144,49 @@ fn take_stretch(bytes: &[u8], numbers: &mut [u32]) -> usize
 }
 
 // Writes with a work area of its own.
-fn write_from(map: &[u8], stretch: &[u32], pos: u32, neg: u32, bytes: &mut [u8]) -> WriteAnswer
-    ensures { λ r. ⌜ WriteAnswered (Writes (now (map .entry)) (stretchOf (now (stretch .entry)) pos neg) workLength (length (now (bytes .entry))))
+fn write_from(
+    map: &[u8],
+    stretch: &[u32],
+    pos: u32,
+    neg: u32,
+    tests: u32,
+    bytes: &mut [u8],
+) -> WriteAnswer
+    ensures { λ r. ⌜ WriteAnswered (Writes (now (map .entry)) (stretchOf (now (stretch .entry)) pos neg) tests workLength (length (now (bytes .entry))))
         (now (bytes .entry)) (now (bytes .exit)) r ⌝ }
 {
     let mut work = [0u32; WORK_LENGTH];
-    writer::write(map, stretch, pos, neg, &mut work, bytes)
+    writer::write(map, stretch, pos, neg, tests, &mut work, bytes)
 }
 
 // Writes the stretch whose line numbers were taken from a host's bytes.
-fn write_taken(map: &[u8], numbers: &[u32], pos: u32, neg: u32, bytes: &mut [u8]) -> Written
+fn write_taken(
+    map: &[u8],
+    numbers: &[u32],
+    pos: u32,
+    neg: u32,
+    tests: u32,
+    bytes: &mut [u8],
+) -> Written
     ensures { λ r. ⌜ ((stretch : List ℕ) → now (numbers .entry) ≡ take 65 (stretchLines stretch)
-        → HostWriteCall (now (map .entry)) stretch pos neg (now (bytes .entry)) (asWritten r) (now (bytes .exit))) ⌝ }
+        → HostWriteCall (now (map .entry)) stretch pos neg tests (now (bytes .entry)) (asWritten r) (now (bytes .exit))) ⌝ }
 {
-    told(write_from(map, numbers, pos, neg, bytes))
+    told(write_from(map, numbers, pos, neg, tests, bytes))
 }
 
-// Writes a reference for a stretch on a map. `stretch` has the line numbers, four bytes each, low byte first.
+// Writes a reference for a stretch on a map, by `tests` leg tests at most. `stretch` has the line numbers, four bytes each, low byte first.
 #[no_mangle]
 pub extern "C" fn openlr_write(
     map: &[u8],
     stretch: &[u8],
     pos: u32,
     neg: u32,
+    tests: u32,
     bytes: &mut [u8],
 ) -> Written
-    ensures { λ r. ⌜ HostWriteCall (now (map .entry)) (now (stretch .entry)) pos neg (now (bytes .entry)) (asWritten r) (now (bytes .exit)) ⌝ }
+    ensures { λ r. ⌜ HostWriteCall (now (map .entry)) (now (stretch .entry)) pos neg tests (now (bytes .entry)) (asWritten r) (now (bytes .exit)) ⌝ }
 {
     let mut numbers = [0u32; STRETCH_NUMBERS];
     let count = take_stretch(stretch, &mut numbers);
-    write_taken(map, &numbers[..count], pos, neg, bytes)
+    write_taken(map, &numbers[..count], pos, neg, tests, bytes)
 }

@@ -1,23 +1,24 @@
 // The functions for points along a line that a C program calls (paper 02, W5). include/openlr.h has them for C.
-use crate::Written;
-use crate::told;
 use buffers::lesser;
 use buffers::words::WORD_BYTES;
 use buffers::words::put_words;
 use model::PointReadAnswer;
+use model::PointWriteAnswer;
 use model::Refusal;
-use model::WriteAnswer;
 use model::limits::GREATEST_HOST_LINES;
 use model::limits::WORK_LENGTH;
+use model::number_of;
 use model::row_of;
 ghost use mathlib.Core.Path.{_≡_};
+ghost use Prim.Native.Nat.{ℕ, _≤_};
 ghost use lib.ListN.{length};
 ghost use Rattle.model.specs.Refusal.{refusalOf};
 ghost use Rattle.model.specs.Work.{workLength};
-ghost use Rattle.model.specs.Call.{WriteAnswered};
-ghost use Rattle.model.specs.PointAlong.{PointReadOutcome, PointReads, PointReadAnswered, PointWrites, pointGiven};
-ghost use Rattle.model.specs.Host.{greatestHostLines, hostPoint, HostPointReadCall, HostPointWriteCall};
-ghost use Rattle.openlr.specs.Host.{asPoint, asWritten};
+ghost use Rattle.model.specs.PointAlong.{PointReadOutcome, PointReads, PointReadAnswered, PointWriteOutcome, PointWrites, PointWriteAnswers, PointWriteAnswered, pointGiven};
+ghost use Rattle.model.specs.PointAlong.{longestPoint};
+ghost use Rattle.model.specs.declared.PointWriteAnswer.the-variants as Writer;
+ghost use Rattle.model.specs.Host.{greatestHostLines, hostPoint, HostPointReadCall, hostPointWritten, HostPointWriteCall};
+ghost use Rattle.openlr.specs.Host.{asPoint, asPointWritten};
 
 // What the host gets from the reader of points; `struct openlr_point` in C. 0 where a number says nothing.
 #[repr(C)]
@@ -29,6 +30,13 @@ pub struct Point {
     pub greatest: u32,
     pub orientation: u32,
     pub side: u32,
+}
+
+// What the host gets from the writer of points; `struct openlr_point_written` in C.
+#[repr(C)]
+pub struct PointWritten {
+    pub refusal: u32,
+    pub bytes: u32,
 }
 
 // What the host gets where the reader of points refuses.
@@ -88,6 +96,26 @@ pub extern "C" fn openlr_read_point(map: &[u8], reference: &[u8], lines: &mut [u
     read_point_lines(map, reference, &mut numbers, lines)
 }
 
+// What the host gets for the answer of the writer of points.
+fn told(answer: PointWriteAnswer) -> PointWritten
+    requires { ⌜ ((count : ℕ) → answer ≡ Writer.Written count → count ≤ longestPoint) ⌝ }
+    ensures { λ r. ⌜ ((o : PointWriteOutcome) → PointWriteAnswers answer o → asPointWritten r ≡ hostPointWritten o) ⌝ }
+{
+    match answer {
+        PointWriteAnswer::Written(count) => PointWritten {
+            refusal: 0,
+            bytes: count as u32,
+        },
+        PointWriteAnswer::Refused(why) => {
+            let number = number_of(why);
+            PointWritten {
+                refusal: number,
+                bytes: 0,
+            }
+        }
+    }
+}
+
 // Writes a point with a work area of its own.
 fn write_point_from(
     map: &[u8],
@@ -96,8 +124,8 @@ fn write_point_from(
     orientation: u32,
     side: u32,
     bytes: &mut [u8],
-) -> WriteAnswer
-    ensures { λ r. ⌜ WriteAnswered (PointWrites (now (map .entry)) (pointGiven line offset orientation side) workLength (length (now (bytes .entry))))
+) -> PointWriteAnswer
+    ensures { λ r. ⌜ PointWriteAnswered (PointWrites (now (map .entry)) (pointGiven line offset orientation side) workLength (length (now (bytes .entry))))
         (now (bytes .entry)) (now (bytes .exit)) r ⌝ }
 {
     let mut work = [0u32; WORK_LENGTH];
@@ -113,8 +141,8 @@ pub extern "C" fn openlr_write_point(
     orientation: u32,
     side: u32,
     bytes: &mut [u8],
-) -> Written
-    ensures { λ r. ⌜ HostPointWriteCall (now (map .entry)) (pointGiven line offset orientation side) (now (bytes .entry)) (asWritten r) (now (bytes .exit)) ⌝ }
+) -> PointWritten
+    ensures { λ r. ⌜ HostPointWriteCall (now (map .entry)) (pointGiven line offset orientation side) (now (bytes .entry)) (asPointWritten r) (now (bytes .exit)) ⌝ }
 {
     told(write_point_from(map, line, offset, orientation, side, bytes))
 }

@@ -10,10 +10,8 @@ use borrow.Author.Tests.{eq-eqb, ne-eqb}
 use lib.ListN.{length, take, drop, length-append, length-drop, take-append-drop}
 use lib.Seq.{slice, drop-length, length-slice, length-take-le, drop-append-le, drop-append-seam, take-append-seam, drop-drop, take-add, drop-at}
 use lib.Dec.{eqb}
-use Rattle.model.specs.Map.{Map}
 use Rattle.model.specs.Reading.{joined}
-use Rattle.model.specs.Choice.{LegTest, good, Usable, final, before, Choice, MoreFirst, Preferred, Chosen}
-use Rattle.model.proofs.Joining.{filled, connected}
+use Rattle.model.specs.Choice.{LegTest, Usable, final, before, Choice, MoreFirst, Preferred, Chosen}
 use Rattle.point_choice.specs.Cuts.{Route, there, leg, FurtherFirst, same, more, later, Best, NoRoute, cutLegs, Sound, Complete, HasLines}
 use Rattle.point_choice.proofs.Routes.{short}
 
@@ -120,7 +118,3 @@ module _ (test : LegTest) (lines : List ℕ) {good : ℕ → ℕ → Type 0} {cs
           by : {a b : List (List ℕ)} → (a ≡ b) ⊎ MoreFirst a b → length a ≡ length b → Preferred a b
           by (inl e) l = rw e Preferred.same
           by (inr f) l = Preferred.more-first l f
-
--- The legs that the writer goes by have a line at least.
-pub good-filled : (m : Map) → HasLines (good m)
-good-filled m at last ls g = filled (connected g)

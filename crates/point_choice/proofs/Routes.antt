@@ -70,3 +70,21 @@ module _ {good : ℕ → ℕ → Type 0} {n : ℕ} where
   pub told-none : {i b : ℕ} → n ≤ 64 → Fewest good n i b → b ≡ 65 → NoRoute good n i
   told-none m (inl (cs, best, e)) h = absurd (omega (arith, short (best .route)))
   told-none m (inr (e, none)) h = none
+
+-- The same over legs that are more, and over the same legs said otherwise.
+pub wider : {P Q : ℕ → ℕ → Type 0} {n i : ℕ} {cs : List ℕ} → ((i j : ℕ) → i < j → j ≤ n → P i j → Q i j) → Route P n i cs → Route Q n i cs
+wider f there = there
+wider f (leg h g r) = leg h (f _ _ h (omega (arith, short r)) g) (wider f r)
+
+module _ {P Q : ℕ → ℕ → Type 0} {n : ℕ} (f : (i j : ℕ) → i < j → j ≤ n → P i j → Q i j) (g : (i j : ℕ) → i < j → j ≤ n → Q i j → P i j) where
+  best-same : {i : ℕ} {cs : List ℕ} → Best P n i cs → Best Q n i cs
+  best-same b =
+      record {
+        route = wider f (b .route);
+        fewest = λ others r. b .fewest others (wider g r);
+        furthest = λ others r e. b .furthest others (wider g r) e;
+      }
+
+  pub fewest-same : {i legs : ℕ} → Fewest P n i legs → Fewest Q n i legs
+  fewest-same (inl (cs, b, e)) = inl (cs, best-same b, e)
+  fewest-same (inr (e, none)) = inr (e, λ cs r. none cs (wider g r))

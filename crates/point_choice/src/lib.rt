@@ -2,7 +2,15 @@
 // position `i` to position `j` is good.
 ghost use Prim.Native.Nat.{_+_, _*_, _≤_, _<_};
 ghost use lib.ListN.{length};
-ghost use Rattle.point_choice.specs.Cuts.{GoodIn, FirstCut, TellsFewest, CutAnswers};
+ghost use Rattle.point_choice.specs.Cuts.{GoodIn, Fewest, FirstCut, TellsFewest, CutAnswers};
+
+pub mod untested;
+
+// The greatest count of a stretch's positions: one more than of its lines.
+const POSITIONS: usize = 65;
+
+// The count of legs where there is no route: more than any route has.
+pub const NO_ROUTE: usize = 65;
 
 // No route of good legs, or how many legs the one to take has.
 pub enum Cut {
@@ -10,14 +18,14 @@ pub enum Cut {
     Legs(usize),
 }
 
-// Where the first leg of the route to take ends, and how many legs it has: 65 where there is no route.
+// Where the first leg of the route to take ends, and how many legs it has: `NO_ROUTE` where there is none.
 struct Next {
     to: usize,
     legs: usize,
 }
 
 // The first leg from `i`, given how many legs it takes from each later position. Of equal ones the longest is taken.
-fn first_cut(good: &[u8], n: usize, best: &[usize; 65], i: usize) -> Next
+fn first_cut(good: &[u8], n: usize, best: &[usize; POSITIONS], i: usize) -> Next
     requires { ⌜ (i < n) × (n ≤ 64) × (65 * n ≤ length (now good)) ⌝ }
     requires { ⌜ TellsFewest (GoodIn (now good)) n (now best) (i + 1) ⌝ }
     ensures { λ r. ⌜ FirstCut (GoodIn (now (good .entry))) n i (r .to) (r .legs) ⌝ }
@@ -28,7 +36,7 @@ fn first_cut(good: &[u8], n: usize, best: &[usize; 65], i: usize) -> Next
     while j < n {
         j += 1;
         let after = best[j];
-        if good[65 * i + j] == 1 {
+        if good[POSITIONS * i + j] == 1 {
             if after <= least {
                 to = j;
                 least = after;
@@ -40,11 +48,11 @@ fn first_cut(good: &[u8], n: usize, best: &[usize; 65], i: usize) -> Next
 }
 
 // How many legs it takes from each position.
-fn fewest(good: &[u8], n: usize) -> [usize; 65]
+fn fewest(good: &[u8], n: usize) -> [usize; POSITIONS]
     requires { ⌜ (n ≤ 64) × (65 * n ≤ length (now good)) ⌝ }
     ensures { λ r. ⌜ TellsFewest (GoodIn (now (good .entry))) n r 0 ⌝ }
 {
-    let mut best = [65; 65];
+    let mut best = [NO_ROUTE; POSITIONS];
     best[n] = 0;
     let mut i = n;
     while 0 < i {
@@ -54,13 +62,21 @@ fn fewest(good: &[u8], n: usize) -> [usize; 65]
     best
 }
 
+// How many legs the route to take has: `NO_ROUTE` where there is none.
+fn fewest_legs(good: &[u8], n: usize) -> usize
+    requires { ⌜ (n ≤ 64) × (65 * n ≤ length (now good)) ⌝ }
+    ensures { λ r. ⌜ Fewest (GoodIn (now (good .entry))) n 0 r ⌝ }
+{
+    fewest(good, n)[0]
+}
+
 // The route to take: `cuts` gets 0 and then where each leg ends.
 pub fn choose(good: &[u8], n: usize, cuts: &mut [u32]) -> Cut
     requires { ⌜ (n ≤ 64) × (65 * n ≤ length (now good)) × (n < length (now cuts)) ⌝ }
     ensures { λ r. ⌜ CutAnswers (GoodIn (now (good .entry))) n r (now (cuts .entry)) (now (cuts .exit)) ⌝ }
 {
     let best = fewest(good, n);
-    if best[0] == 65 {
+    if best[0] == NO_ROUTE {
         return Cut::Nowhere;
     }
     cuts[0] = 0;

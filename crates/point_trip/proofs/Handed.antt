@@ -1,26 +1,42 @@
 -- Points written and then read, from the claim over the definitions and the contracts of the two calls.
 use Prim.Native.Nat.{ℕ, _≤_}
-use mathlib.Core.Path.{_≡_, sym, ap, subst, _∙_}
+use mathlib.Core.Path.{_≡_, refl, sym, ap, subst, _∙_}
 use mathlib.Core.List.{List}
 use native.Mathlib.Omega.{arith}
 use lib.ListN.{length, take}
-use Rattle.model.specs.Outcome.{written}
-use Rattle.model.specs.PointAlong.{PointReadOutcome, read, GivenPoint, PointWrites, pointLinesAfter, PointReadAnswers, PointReadCall, PointWriteCall}
+use Rattle.model.specs.PointAlong.{PointReadOutcome, read, GivenPoint, PointWriteOutcome, PointWrites, pointLinesAfter, pointBytesAfter, PointReadAnswers, PointWriteAnswers, PointReadCall, PointWriteCall}
 use Rattle.model.specs.PointTrip.{PointBack, PointsAlike}
 use Rattle.model.proofs.PointTrip.{point-trip}
 use Rattle.model.specs.declared.Span.{Span}
 use Rattle.model.specs.declared.PointReadAnswer.{PointReadAnswer}
 use Rattle.model.specs.declared.PointReadAnswer.the-variants.{Read}
-use Rattle.model.specs.declared.WriteAnswer.the-variants.{Written}
-use Rattle.round_trip.proofs.Wrote.{WroteBytes, wrote-by, bytes-first, fit}
+use Rattle.model.specs.declared.PointWriteAnswer.{PointWriteAnswer}
+use Rattle.model.specs.declared.PointWriteAnswer.the-variants.{Written}
+use Rattle.round_trip.proofs.Wrote.{WroteBytes, bytes-first, fit}
 use Rattle.point_trip.specs.Told.{HandedBack}
 
 -- A writer's call that answers a count of bytes.
 pub record Wrote (mb : List ℕ) (p : GivenPoint) (w b b′ : List ℕ) (count : ℕ) : Type 0 where
-  pub so : WroteBytes (PointWrites mb p (length w) (length b)) b b′ count
+  pub so : WroteBytes (λ bs. PointWrites mb p (length w) (length b) (PointWriteOutcome.written bs)) b b′ count
+
+written-list : {a : PointWriteAnswer} {o : PointWriteOutcome} {count : ℕ} → PointWriteAnswers a o → a ≡ Written count →
+    (bs : List ℕ) × (o ≡ PointWriteOutcome.written bs) × (length bs ≡ count)
+written-list {count = count} (PointWriteAnswers.bytes {bs = bs}) e = let size : length bs ≡ count = cc in (bs, refl, size)
+written-list PointWriteAnswers.refusal e = absurd (let z : _≡_ {A = ℕ} 0 1 = cc in omega arith)
 
 pub wrote : {mb : List ℕ} {p : GivenPoint} {w b w′ b′ : List ℕ} {count : ℕ} → PointWriteCall mb p w b (Written count) w′ b′ → Wrote mb p w b b′ count
-wrote call = record { so = wrote-by (call .called .answered) }
+unfolding pointBytesAfter
+wrote {mb} {p} {w} {b} call =
+    let d = call .called .answered in
+    let k = written-list (d .answers) refl in
+    record {
+      so = record {
+        list = k .0;
+        writes = subst (λ (o : PointWriteOutcome). PointWrites mb p (length w) (length b) o) (k .1) (d .asked);
+        size = k .2;
+        placed-so = d .buffer-after ∙ ap (λ (o : PointWriteOutcome). pointBytesAfter o b) (k .1);
+      };
+    }
 
 pub bytes-fit : {mb : List ℕ} {p : GivenPoint} {w b b′ : List ℕ} {count : ℕ} → Wrote mb p w b b′ count → length b′ ≡ length b → count ≤ length b′
 bytes-fit k same = fit (k .so) same
@@ -59,7 +75,7 @@ alike {mb} {p} {q} {w} {b} {b′} {u} {o} k j e =
     let same : j .so .list ≡ k .so .list = sym (bytes-first (j .so)) ∙ sym e ∙ bytes-first (k .so) in
     rw (bytes-first (k .so))
     (point-trip .alike mb (k .so .list) p q (length w) (length u) (length b) (length o) (k .so .writes)
-    (subst (λ (ls : List ℕ). PointWrites mb q (length u) (length o) (written ls)) same (j .so .writes)))
+    (subst (λ (ls : List ℕ). PointWrites mb q (length u) (length o) (PointWriteOutcome.written ls)) same (j .so .writes)))
 
 -- The reader hands back the other point too.
 pub handed-too : {mb : List ℕ} {q : GivenPoint} {u o o′ : List ℕ} {size : ℕ} (bs : List ℕ) → Wrote mb q u o o′ size → bs ≡ take size o′ →

@@ -13,7 +13,7 @@ use Rattle.point_trip.specs.declared.Pair.{Pair}
 use Rattle.point_trip.specs.declared.Pair.the-variants.{FirstRefused, SecondRefused, Differ, Same}
 use Rattle.point_trip.specs.declared.Trip.{Trip}
 use Rattle.point_trip.specs.declared.Trip.the-variants.{Refused, Back}
-use Rattle.model.specs.declared.WriteAnswer.the-variants as Writer
+use Rattle.model.specs.declared.PointWriteAnswer.the-variants as Writer
 
 -- The point of the definitions.
 abbrev pub asGiven : Given → GivenPoint

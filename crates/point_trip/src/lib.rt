@@ -1,7 +1,7 @@
 // The claim of W5 (paper 02) about calls: what `write_point` accepts `read_point` hands back, and nothing else fits the bytes.
 use model::PointReadAnswer;
+use model::PointWriteAnswer;
 use model::Refusal;
-use model::WriteAnswer;
 use point_reader::read_point;
 use point_writer::write_point;
 use round_trip::same_bytes;
@@ -43,8 +43,8 @@ pub fn write_and_read(
         writing,
         bytes,
     ) {
-        WriteAnswer::Refused(why) => Trip::Refused(why),
-        WriteAnswer::Written(count) => Trip::Back(
+        PointWriteAnswer::Refused(why) => Trip::Refused(why),
+        PointWriteAnswer::Written(count) => Trip::Back(
             count,
             read_point(map, &bytes[..count], reading, lines),
         ),
@@ -83,8 +83,8 @@ pub fn write_two_and_read(
         writing,
         bytes,
     ) {
-        WriteAnswer::Refused(why) => Pair::FirstRefused(why),
-        WriteAnswer::Written(count) => match write_point(
+        PointWriteAnswer::Refused(why) => Pair::FirstRefused(why),
+        PointWriteAnswer::Written(count) => match write_point(
             map,
             second.line,
             second.offset,
@@ -93,8 +93,8 @@ pub fn write_two_and_read(
             writing,
             others,
         ) {
-            WriteAnswer::Refused(why) => Pair::SecondRefused(why),
-            WriteAnswer::Written(size) => {
+            PointWriteAnswer::Refused(why) => Pair::SecondRefused(why),
+            PointWriteAnswer::Written(size) => {
                 if !same_bytes(&bytes[..count], &others[..size]) {
                     return Pair::Differ;
                 }

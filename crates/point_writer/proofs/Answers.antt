@@ -5,16 +5,13 @@ use mathlib.Core.List.{List}
 use native.Mathlib.Omega.{arith}
 use lib.ListN.{length, getD}
 use Rattle.model.specs.declared.Refusal.{Refusal}
-use Rattle.model.specs.declared.WriteAnswer.{WriteAnswer}
-use Rattle.model.specs.declared.WriteAnswer.the-variants.{Refused}
+use Rattle.model.specs.declared.PointWriteAnswer.{PointWriteAnswer}
+use Rattle.model.specs.declared.PointWriteAnswer.the-variants.{Refused}
 use Rattle.model.specs.Refusal.{refusalOf}
 use Rattle.model.specs.Map.{Map, MapAnswer, decode}
 use Rattle.model.specs.Lines.{lineAt}
-use Rattle.model.specs.Outcome.{WriteOutcome}
 use Rattle.model.specs.Work.{workLength, cleared}
-use Rattle.model.specs.Call.{WriteAnswered}
-use Rattle.model.specs.PointAlong.{GivenPoint, PointCheck, passes, checkPoint, PointWriteChecked, PointWriteMap, PointWriteCall}
-use Rattle.model.proofs.Answering.{refused-write}
+use Rattle.model.specs.PointAlong.{GivenPoint, PointCheck, passes, checkPoint, PointWriteOutcome, PointWriteChecked, PointWriteMap, pointBytesAfter, PointWriteAnswers, PointWriteAnswered, PointWriteCall}
 use Rattle.work_area.specs.Area.{linePlace, Held}
 use Rattle.point_writer.specs.declared.Checked.{Checked}
 use Rattle.point_writer.specs.PointChecks.{ChecksPoint}
@@ -30,14 +27,20 @@ module _ (m : Map) (p : GivenPoint) (r : Checked) (checks : ChecksPoint m p r) w
   pub check-refuses : {w : Refusal} → r ≡ checked.Refused w → checkPoint m p ≡ PointCheck.refused (refusalOf w)
   check-refuses e = subst (ChecksPoint m p) e checks
 
+-- A refusal leaves the byte buffer.
+pub refused-point : {Asks : PointWriteOutcome → Type 0} {bytes : List ℕ} (r : Refusal) → Asks (PointWriteOutcome.refused (refusalOf r)) →
+    PointWriteAnswered Asks bytes bytes (Refused r)
+unfolding pointBytesAfter
+refused-point r h = record { outcome = PointWriteOutcome.refused (refusalOf r); asked = h; answers = PointWriteAnswers.refusal; buffer-after = refl }
+
 -- A point, or a map, that is refused.
 pub point-refused : (m : Map) (p : GivenPoint) {bytes : List ℕ} (room : ℕ) (r : Refusal) → checkPoint m p ≡ PointCheck.refused (refusalOf r) →
-    WriteAnswered (PointWriteChecked m p (checkPoint m p) room) bytes bytes (Refused r)
-point-refused m p room r e = refused-write r (rw e refl)
+    PointWriteAnswered (PointWriteChecked m p (checkPoint m p) room) bytes bytes (Refused r)
+point-refused m p room r e = refused-point r (rw e refl)
 
 pub map-refused : (map : List ℕ) (p : GivenPoint) {bytes : List ℕ} (room : ℕ) (r : Refusal) → decode map ≡ MapAnswer.refused (refusalOf r) →
-    WriteAnswered (PointWriteMap (decode map) p room) bytes bytes (Refused r)
-map-refused map p room r e = refused-write r (rw e refl)
+    PointWriteAnswered (PointWriteMap (decode map) p room) bytes bytes (Refused r)
+map-refused map p room r e = refused-point r (rw e refl)
 
 -- The whole call.
 module _ (mb : List ℕ) (p : GivenPoint) (bytes : List ℕ) where
@@ -45,12 +48,12 @@ module _ (mb : List ℕ) (p : GivenPoint) (bytes : List ℕ) where
   unfolding refusalOf
   area-short work h =
       record {
-        called = Answering.area-short WriteOutcome.refused (λ m. PointWriteChecked m p (checkPoint m p) (length bytes)) mb h (refused-write why.WorkAreaShort refl);
+        called = Answering.area-short PointWriteOutcome.refused (λ m. PointWriteChecked m p (checkPoint m p) (length bytes)) mb h (refused-point why.WorkAreaShort refl);
       }
 
-  pub called : {after work work′ : List ℕ} {a : WriteAnswer} → workLength ≤ length work →
-      WriteAnswered (PointWriteMap (decode mb) p (length bytes)) bytes after a → work′ ≡ cleared work → PointWriteCall mb p work bytes a work′ after
-  called h d e = record { called = Answering.called WriteOutcome.refused (λ m. PointWriteChecked m p (checkPoint m p) (length bytes)) mb h d e }
+  pub called : {after work work′ : List ℕ} {a : PointWriteAnswer} → workLength ≤ length work →
+      PointWriteAnswered (PointWriteMap (decode mb) p (length bytes)) bytes after a → work′ ≡ cleared work → PointWriteCall mb p work bytes a work′ after
+  called h d e = record { called = Answering.called PointWriteOutcome.refused (λ m. PointWriteChecked m p (checkPoint m p) (length bytes)) mb h d e }
 
 -- The line's length, as it stands in the work area.
 pub length-held : {w : List ℕ} {lines : ℕ} {m : Map} → Held w lines m → (number line r : ℕ) → number < lines → number ≡ line →

@@ -9,6 +9,7 @@ use lib.Seq.{take-at}
 use Rattle.model.specs.declared.Refusal.{Refusal}
 use Rattle.model.specs.declared.WriteAnswer.{WriteAnswer}
 use Rattle.model.specs.declared.WriteAnswer.the-variants.{Written, Refused}
+use Rattle.model.specs.declared.PointWriteAnswer.{PointWriteAnswer}
 use Rattle.model.specs.Refusal.{row, refusalOf}
 use Rattle.model.specs.Map.{Map}
 use Rattle.model.specs.Lines.{Connected, single, firstOf, lastOf, leaving, arriving}
@@ -17,20 +18,25 @@ use Rattle.model.specs.Reference.{bytesOf}
 use Rattle.model.specs.Reading.{joined}
 use Rattle.model.specs.Stretch.{Stretch, stretchOf}
 use Rattle.model.specs.Choice.{Good, good, Usable, final, before, Choice, pointOf, stretchBytes}
-use Rattle.model.specs.Outcome.{WriteOutcome, written, WriteOn, no-choice, no-room, accepted}
+use Rattle.model.specs.LegTests.{legsBefore, legCount, testsMade}
+use Rattle.model.specs.BestFound.{Ordinary}
+use Rattle.model.specs.Outcome.{WriteOutcome, written, WriteOn}
 use Rattle.model.specs.Work.{placed}
 use Rattle.model.specs.Call.{bytesAfter, WriteAnswers, WriteAnswered}
-use Rattle.model.specs.PointAlong.{shortestPoint, longestPoint, lineReference, GivenPoint, ownLeg, alongOf, givenBytes, PointWriteOn}
+use Rattle.model.specs.PointAlong.{shortestPoint, longestPoint, lineReference, GivenPoint, ownLeg, alongOf, givenBytes, PointWriteOutcome, PointWriteOn, pointBytesAfter, PointWriteAnswers, PointWriteAnswered}
 use Rattle.model.proofs.Joining.{as-many}
 use Rattle.model.proofs.Bytes.{byte-p}
-use Rattle.model.proofs.Answering.{refused-write}
+use Rattle.model.proofs.BestFound.{ordinary-on}
 use Rattle.model.proofs.PointBytes.{point-size, few-offsets}
 use Rattle.model.proofs.PointTrip.{as-stretch}
 use Rattle.model.proofs.PointWriting.{Taken}
-use Rattle.reference_bytes.specs.Put.{Inside, Puts}
+use Rattle.reference_bytes.specs.Put.{Inside}
 use Rattle.point_bytes.specs.PointForm.{withMarks}
 use Rattle.point_bytes.proofs.AsLine.{as-line, with-length, line-size, first-p-at, last-p-at, placed-at, marks-over}
+use Rattle.point_writer.specs.PointChecks.{PutsPoint}
+use Rattle.point_writer.proofs.Answers.{refused-point}
 use Rattle.model.specs.Refusal as definitions
+use Rattle.model.specs.declared.PointWriteAnswer.the-variants as point
 
 -- The line alone, as a stretch.
 abbrev pub ownStretch : GivenPoint → Stretch
@@ -70,28 +76,43 @@ line-few m p = omega (arith, line-size (alongOf m p), point-size (alongOf m p), 
 
 -- ---- what the writer of stretches answers to it, with room for the longest point
 
+-- The leg tests made of a line alone, with one test: all of them.
+abbrev pub oneMade : ℕ
+oneMade = testsMade 1 1
+
 module _ (m : Map) (p : GivenPoint) where
+  -- One line has one leg, so that one test makes the answer the ordinary one.
+  one-test : {room : ℕ} (o : WriteOutcome) → WriteOn m (ownStretch p) oneMade room o → Ordinary m (ownStretch p) room o
+  unfolding testsMade legCount legsBefore
+  one-test {room} o w = ordinary-on m (ownStretch p) room o w
+
   -- Accepted: the line is good, and its bytes are written.
-  by-accepted : {room : ℕ} {bs : List ℕ} (o : WriteOutcome) → WriteOn m (ownStretch p) room o → o ≡ written bs → Good m true (ownLeg p) × (bs ≡ lineBytes m p)
-  by-accepted o (no-choice n) e = absurd (let z : _≡_ {A = ℕ} 0 1 = cc in omega arith)
-  by-accepted o (no-room c h) e = absurd (let z : _≡_ {A = ℕ} 0 1 = cc in omega arith)
-  by-accepted {bs = bs} o (accepted {lss = lss} c h) e =
+  by-accepted : {room made excess : ℕ} {bs : List ℕ} (o : WriteOutcome) → Ordinary m (ownStretch p) room o → o ≡ written bs made excess →
+      Good m true (ownLeg p) × (bs ≡ lineBytes m p)
+  by-accepted o (Ordinary.no-choice n) e = absurd (let z : _≡_ {A = ℕ} 0 1 = cc in omega arith)
+  by-accepted o (Ordinary.no-room c h) e = absurd (let z : _≡_ {A = ℕ} 0 1 = cc in omega arith)
+  by-accepted {bs = bs} o (Ordinary.accepted {lss = lss} c h) e =
       let one = one-leg (c .choice .usable) (c .choice .whole) in
       let same : stretchBytes m lss (ownStretch p) ≡ bs = cc in
       (one .1, sym same ∙ ap (λ (ls : List (List ℕ)). stretchBytes m ls (ownStretch p)) (one .0) ∙ own-bytes m p)
 
   -- Refused: with 10, since there is room, and the line is not good.
-  by-refused : {room : ℕ} {r : definitions.Refused} (o : WriteOutcome) → longestPoint ≤ room → WriteOn m (ownStretch p) room o → o ≡ WriteOutcome.refused r →
-      (r ≡ row 10) × (Good m true (ownLeg p) → ⊥)
-  by-refused {r = r} o full (no-choice n) e = let same : row 10 ≡ r = cc in (sym same, λ g. n _ (own-choice p g))
-  by-refused o full (no-room {lss = lss} c h) e =
+  by-refused : {room : ℕ} {r : definitions.Refused} (o : WriteOutcome) → longestPoint ≤ room → Ordinary m (ownStretch p) room o →
+      o ≡ WriteOutcome.refused r → (r ≡ row 10) × (Good m true (ownLeg p) → ⊥)
+  by-refused {r = r} o full (Ordinary.no-choice n) e = let same : row 10 ≡ r = cc in (sym same, λ g. n _ (own-choice p g))
+  by-refused o full (Ordinary.no-room {lss = lss} c h) e =
       let one = one-leg (c .choice .usable) (c .choice .whole) in
       let size = ap (λ (ls : List (List ℕ)). length (stretchBytes m ls (ownStretch p))) (one .0) ∙ ap (λ (l : List ℕ). length l) (own-bytes m p) in
       absurd (omega (arith, full, h, size, line-few m p .1))
-  by-refused o full (accepted c h) e = absurd (let z : _≡_ {A = ℕ} 0 1 = cc in omega arith)
+  by-refused o full (Ordinary.accepted c h) e = absurd (let z : _≡_ {A = ℕ} 0 1 = cc in omega arith)
 
-  written-list : {a : WriteAnswer} {o : WriteOutcome} {count : ℕ} → WriteAnswers a o → a ≡ Written count → (bs : List ℕ) × (o ≡ written bs) × (length bs ≡ count)
-  written-list {count = count} (WriteAnswers.bytes {bs = bs}) e = let size : length bs ≡ count = cc in (bs, refl, size)
+  written-list : {a : WriteAnswer} {o : WriteOutcome} {count made excess : ℕ} → WriteAnswers a o → a ≡ Written count made excess →
+      (bs : List ℕ) × (o ≡ written bs made excess) × (length bs ≡ count)
+  written-list {count = count} {made = made} {excess = excess} (WriteAnswers.bytes {bs = bs} {made = made′} {excess = excess′}) e =
+      let size : length bs ≡ count = cc in
+      let same : made′ ≡ made = cc in
+      let over : excess′ ≡ excess = cc in
+      (bs, rw (same, over) refl, size)
   written-list WriteAnswers.refusal e = absurd (let z : _≡_ {A = ℕ} 0 1 = cc in omega arith)
 
   -- The line's bytes stand first, and so many are answered.
@@ -101,12 +122,12 @@ module _ (m : Map) (p : GivenPoint) where
     pub few : count ≤ longestPoint
     pub first : after ≡ placed (lineBytes m p) before
 
-  pub own-written : {before after : List ℕ} {a : WriteAnswer} {count : ℕ} → WriteAnswered (WriteOn m (ownStretch p) (length before)) before after a →
-      a ≡ Written count → OwnWritten before after count
+  pub own-written : {before after : List ℕ} {a : WriteAnswer} {count made excess : ℕ} →
+      WriteAnswered (WriteOn m (ownStretch p) oneMade (length before)) before after a → a ≡ Written count made excess → OwnWritten before after count
   unfolding bytesAfter
   own-written {before} d e =
       let k = written-list (d .answers) e in
-      let g = by-accepted (d .outcome) (d .asked) (k .1) in
+      let g = by-accepted (d .outcome) (one-test (d .outcome) (d .asked)) (k .1) in
       let size = ap (λ (l : List ℕ). length l) (sym (g .1)) ∙ k .2 in
       record {
         good-line = g .0;
@@ -120,11 +141,11 @@ module _ (m : Map) (p : GivenPoint) where
   refused-outcome {r = r} (WriteAnswers.refusal {why = w}) e = let same : w ≡ r = cc in ap (λ (x : Refusal). WriteOutcome.refused (refusalOf x)) same
 
   pub own-refused : {before after bytes : List ℕ} {a : WriteAnswer} {r : Refusal} (room : ℕ) → longestPoint ≤ length before →
-      WriteAnswered (WriteOn m (ownStretch p) (length before)) before after a → a ≡ Refused r →
-      WriteAnswered (PointWriteOn m p room) bytes bytes (Refused r)
+      WriteAnswered (WriteOn m (ownStretch p) oneMade (length before)) before after a → a ≡ Refused r →
+      PointWriteAnswered (PointWriteOn m p room) bytes bytes (point.Refused r)
   own-refused {r = r} room full d e =
-      let k = by-refused (d .outcome) full (d .asked) (refused-outcome (d .answers) e) in
-      refused-write r (rw (k .0) (PointWriteOn.not-good (k .1)))
+      let k = by-refused (d .outcome) full (one-test (d .outcome) (d .asked)) (refused-outcome (d .answers) e) in
+      refused-point r (rw (k .0) (PointWriteOn.not-good (k .1)))
 
 -- ---- the marks put on, and the bytes put
 
@@ -147,20 +168,20 @@ marked-first m p buffer after count size e =
     (take-at bs (drop (length bs) buffer) count (with-length (p .orientation) (p .side) (lineBytes m p) ∙ size))
     ∙ as-line (alongOf m p)
 
-pub point-put : (m : Map) (p : GivenPoint) {before after : List ℕ} (a : WriteAnswer) → Good m true (ownLeg p) → Puts (givenBytes m p) before after a →
-    WriteAnswered (PointWriteOn m p (length before)) before after a
-unfolding bytesAfter refusalOf
-point-put m p (Written n) g (size, room, e) =
+pub point-put : (m : Map) (p : GivenPoint) {before after : List ℕ} (a : PointWriteAnswer) → Good m true (ownLeg p) →
+    PutsPoint (givenBytes m p) before after a → PointWriteAnswered (PointWriteOn m p (length before)) before after a
+unfolding pointBytesAfter refusalOf
+point-put m p (point.Written n) g (size, room, e) =
     record {
-      outcome = written (givenBytes m p);
+      outcome = PointWriteOutcome.written (givenBytes m p);
       asked = PointWriteOn.accepted g (omega (arith, size, room));
-      answers = subst (λ (k : ℕ). WriteAnswers (Written k) (written (givenBytes m p))) (sym size) WriteAnswers.bytes;
+      answers = subst (λ (k : ℕ). PointWriteAnswers (point.Written k) (PointWriteOutcome.written (givenBytes m p))) (sym size) PointWriteAnswers.bytes;
       buffer-after = e;
     }
-point-put m p (Refused why) g (is, room, e) =
+point-put m p (point.Refused why) g (is, room, e) =
     record {
-      outcome = WriteOutcome.refused (row 11);
+      outcome = PointWriteOutcome.refused (row 11);
       asked = PointWriteOn.no-room g room;
-      answers = subst (λ (r : Refusal). WriteAnswers (Refused r) (WriteOutcome.refused (row 11))) (sym is) WriteAnswers.refusal;
+      answers = subst (λ (r : Refusal). PointWriteAnswers (point.Refused r) (PointWriteOutcome.refused (row 11))) (sym is) PointWriteAnswers.refusal;
       buffer-after = e;
     }

@@ -1,6 +1,7 @@
 // The writer of points along a line (paper 02, W5): `write_point`, and its parts in the order in which they are asked.
 use buffers::bytes::copy;
 use buffers::wide;
+use model::PointWriteAnswer;
 use model::Refusal;
 use model::WriteAnswer;
 use model::limits::GREATEST_MARK;
@@ -18,12 +19,10 @@ ghost use Prim.Native.Nat.{_≤_};
 ghost use lib.ListN.{length};
 ghost use Rattle.model.specs.Map.{Map, decode};
 ghost use Rattle.model.specs.Work.{workLength};
-ghost use Rattle.model.specs.Call.{WriteAnswered};
-ghost use Rattle.model.specs.PointAlong.{pointGiven, PointWriteOn, passes, checkPoint, PointWriteChecked, PointWriteMap, PointWriteCall};
+ghost use Rattle.model.specs.PointAlong.{pointGiven, PointWriteOn, passes, checkPoint, PointWriteChecked, PointWriteMap, PointWriteAnswered, PointWriteCall};
 ghost use Rattle.work_area.specs.Area.{Held};
 ghost use Rattle.search_cells.specs.Area.{Set};
-ghost use Rattle.reference_bytes.specs.Put.{Puts};
-ghost use Rattle.point_writer.specs.PointChecks.{ChecksPoint};
+ghost use Rattle.point_writer.specs.PointChecks.{ChecksPoint, PutsPoint};
 
 // Whether a point is refused as it is given: 7, 9 or 25.
 pub enum Checked {
@@ -53,17 +52,18 @@ fn check(work: &[u32], lines: usize, line: u32, offset: u32, marks: Marks) -> Ch
 }
 
 // Puts bytes first in the buffer, if it has room for them: their count.
-fn put_bytes(from: &[u8], bytes: &mut [u8]) -> WriteAnswer
-    ensures { λ r. ⌜ Puts (now (from .entry)) (now (bytes .entry)) (now (bytes .exit)) r ⌝ }
+fn put_bytes(from: &[u8], bytes: &mut [u8]) -> PointWriteAnswer
+    ensures { λ r. ⌜ PutsPoint (now (from .entry)) (now (bytes .entry)) (now (bytes .exit)) r ⌝ }
 {
     if bytes.len() < from.len() {
-        return WriteAnswer::Refused(Refusal::BytesShort);
+        return PointWriteAnswer::Refused(Refusal::BytesShort);
     }
     copy(from, bytes);
-    WriteAnswer::Written(from.len())
+    PointWriteAnswer::Written(from.len())
 }
 
-// The answer for a point that is not refused as it is given. Its line alone is a stretch, whose reference gets the marks.
+// The answer for a point that is not refused as it is given. Its line alone is a stretch of one leg, which one test settles, and
+// whose reference gets the marks.
 fn on_line(
     work: &mut [u32],
     lines: usize,
@@ -71,20 +71,20 @@ fn on_line(
     offset: u32,
     marks: Marks,
     bytes: &mut [u8],
-) -> WriteAnswer
+) -> PointWriteAnswer
     requires { ⌜ ((m : Map) × Set m lines (now work) × (checkPoint m (pointGiven line offset (marks .orientation) (marks .side)) ≡ passes)) ⌝ }
     ensures { λ r. ⌜ ((m : Map) → Set m lines (now (work .entry)) → checkPoint m (pointGiven line offset (marks .orientation) (marks .side)) ≡ passes
-        → WriteAnswered (PointWriteOn m (pointGiven line offset (marks .orientation) (marks .side)) (length (now (bytes .entry))))
+        → PointWriteAnswered (PointWriteOn m (pointGiven line offset (marks .orientation) (marks .side)) (length (now (bytes .entry))))
         (now (bytes .entry)) (now (bytes .exit)) r) ⌝ }
 {
     let stretch = [line];
     let mut reference: [u8; 17] = [0; Marks::LONGEST];
-    match on_part(work, lines, &stretch, offset, 0, &mut reference) {
-        WriteAnswer::Written(count) => {
+    match on_part(work, lines, &stretch, offset, 0, 1, &mut reference) {
+        WriteAnswer::Written(count, _, _) => {
             put_marks(&mut reference, marks);
             put_bytes(&reference[..count], bytes)
         }
-        WriteAnswer::Refused(why) => WriteAnswer::Refused(why),
+        WriteAnswer::Refused(why) => PointWriteAnswer::Refused(why),
     }
 }
 
@@ -96,16 +96,16 @@ fn on_map(
     offset: u32,
     marks: Marks,
     bytes: &mut [u8],
-) -> WriteAnswer
+) -> PointWriteAnswer
     requires { ⌜ ((m : Map) × Set m lines (now work)) ⌝ }
     ensures { λ r. ⌜ ((m : Map) → Set m lines (now (work .entry))
-        → WriteAnswered (PointWriteChecked m (pointGiven line offset (marks .orientation) (marks .side))
+        → PointWriteAnswered (PointWriteChecked m (pointGiven line offset (marks .orientation) (marks .side))
         (checkPoint m (pointGiven line offset (marks .orientation) (marks .side))) (length (now (bytes .entry))))
         (now (bytes .entry)) (now (bytes .exit)) r) ⌝ }
 {
     match check(work, lines, line, offset, marks) {
         Checked::Passes => on_line(work, lines, line, offset, marks, bytes),
-        Checked::Refused(why) => WriteAnswer::Refused(why),
+        Checked::Refused(why) => PointWriteAnswer::Refused(why),
     }
 }
 
@@ -117,14 +117,14 @@ fn on_area(
     marks: Marks,
     work: &mut [u32],
     bytes: &mut [u8],
-) -> WriteAnswer
+) -> PointWriteAnswer
     requires { ⌜ workLength ≤ length (now work) ⌝ }
-    ensures { λ r. ⌜ WriteAnswered (PointWriteMap (decode (now (map .entry))) (pointGiven line offset (marks .orientation) (marks .side))
+    ensures { λ r. ⌜ PointWriteAnswered (PointWriteMap (decode (now (map .entry))) (pointGiven line offset (marks .orientation) (marks .side))
         (length (now (bytes .entry)))) (now (bytes .entry)) (now (bytes .exit)) r ⌝ }
 {
     match open_map(map, work) {
         Opened::Ready(_, lines) => on_map(work, lines, line, offset, marks, bytes),
-        Opened::Refused(why) => WriteAnswer::Refused(why),
+        Opened::Refused(why) => PointWriteAnswer::Refused(why),
     }
 }
 
@@ -138,12 +138,12 @@ pub fn write_point(
     side: u32,
     work: &mut [u32],
     bytes: &mut [u8],
-) -> WriteAnswer
+) -> PointWriteAnswer
     ensures { λ r. ⌜ PointWriteCall (now (map .entry)) (pointGiven line offset orientation side) (now (work .entry)) (now (bytes .entry)) r
         (now (work .exit)) (now (bytes .exit)) ⌝ }
 {
     if work.len() < WORK_LENGTH {
-        return WriteAnswer::Refused(Refusal::WorkAreaShort);
+        return PointWriteAnswer::Refused(Refusal::WorkAreaShort);
     }
     let marks = Marks { orientation, side };
     let given = on_area(map, line, offset, marks, &mut work[..WORK_LENGTH], bytes);

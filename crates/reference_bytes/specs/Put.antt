@@ -6,9 +6,6 @@ use mathlib.Core.List.{List, [], _∷_, _++_}
 use lib.ListN.{length, getD}
 use lib.Seq.{slice}
 use lib.Dec.{eqb}
-use Rattle.model.specs.declared.Refusal.the-variants.{BytesShort}
-use Rattle.model.specs.declared.WriteAnswer.{WriteAnswer}
-use Rattle.model.specs.declared.WriteAnswer.the-variants.{Written, Refused}
 use Rattle.model.specs.Map.{Map, lonCode, latCode}
 use Rattle.model.specs.Lines.{LineAttributes, lineAt, nodeAt, total, firstOf, lastOf, arriving}
 use Rattle.model.specs.Stretch.{Stretch}
@@ -17,6 +14,8 @@ use Rattle.model.specs.Choice.{good, fromNode, offsetOf}
 use Rattle.model.specs.Work.{placed}
 use Rattle.stretches.specs.Stretch.{Known}
 use Rattle.point_choice.specs.Cuts.{Route, Tested}
+use Rattle.reference_bytes.specs.declared.Stored.{Stored}
+use Rattle.reference_bytes.specs.declared.Stored.the-variants.{Bytes, Short}
 
 -- Where leg `t` starts, by the cuts; and its lines.
 abbrev pub cutAt : List ℕ → ℕ → ℕ
@@ -61,6 +60,6 @@ endBytes m lines first last pos neg =
 
 -- An answer, with what the buffer held before and holds after it, for these bytes: they stand first and the rest is unchanged, or they
 -- need more room than there is and nothing is changed.
-abbrev pub Puts : List ℕ → List ℕ → List ℕ → WriteAnswer → Type 0
-Puts bs before after (Written n) = (n ≡ length bs) × (n ≤ length before) × (after ≡ placed bs before)
-Puts bs before after (Refused why) = (why ≡ BytesShort) × (length before < length bs) × (after ≡ before)
+abbrev pub Puts : List ℕ → List ℕ → List ℕ → Stored → Type 0
+Puts bs before after (Bytes n) = (n ≡ length bs) × (n ≤ length before) × (after ≡ placed bs before)
+Puts bs before after Short = (length before < length bs) × (after ≡ before)

@@ -7,8 +7,6 @@ use fields::coordinate::latitude_code;
 use fields::coordinate::longitude_code;
 use fields::leg::Attributes;
 use fields::offset::offset_byte;
-use model::Refusal;
-use model::WriteAnswer;
 use point::Point;
 use point::point_of;
 use references::reference::Reference;
@@ -41,6 +39,12 @@ mod point;
 const POSITIVE: u32 = 64;
 
 const NEGATIVE: u32 = 32;
+
+// The count of bytes that were put, or that there is too little room for them.
+pub enum Stored {
+    Bytes(usize),
+    Short,
+}
 
 // Puts the status byte and the codes of the first point.
 fn put_start(work: &[u32], lines: usize, stretch: &[u32], bytes: &mut [u8])
@@ -214,7 +218,7 @@ pub fn put(
     pos: u32,
     neg: u32,
     bytes: &mut [u8],
-) -> WriteAnswer
+) -> Stored
     requires { ⌜ legs < length (now cuts) ⌝ }
     requires { ⌜ ((m : Map) × (cs : List ℕ) × Held (now work) lines m × CutInto m (now stretch) (now cuts) legs cs
         × Inside m (stretchOf (now stretch) pos neg)) ⌝ }
@@ -229,10 +233,10 @@ pub fn put(
         + wide(flag(pos, 1))
         + wide(flag(neg, 1));
     if bytes.len() < length {
-        return WriteAnswer::Refused(Refusal::BytesShort);
+        return Stored::Short;
     }
     put_start(work, lines, stretch, bytes);
     put_points(work, lines, stretch, cuts, legs, bytes);
     let n = put_end(work, lines, stretch, cuts, legs, pos, neg, bytes);
-    WriteAnswer::Written(n)
+    Stored::Bytes(n)
 }

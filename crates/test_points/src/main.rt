@@ -13,13 +13,13 @@ use marks::bytes_kept;
 use marks::fill;
 use marks::fill_bytes;
 use marks::is_kept;
+use marks::put_point_written;
 use marks::put_rest;
 use marks::put_work;
-use marks::put_written;
 use model::PointReadAnswer;
+use model::PointWriteAnswer;
 use model::ReadAnswer;
 use model::Span;
-use model::WriteAnswer;
 use point_reader::read_point;
 use point_writer::write_point;
 ghost use Rattle.io.specs.Counts.{Counts};
@@ -71,10 +71,10 @@ fn line_count(answer: PointReadAnswer) -> usize {
 }
 
 // How many bytes an answer hands back.
-fn byte_count(answer: WriteAnswer) -> usize {
+fn byte_count(answer: PointWriteAnswer) -> usize {
     match answer {
-        WriteAnswer::Written(count) => count,
-        WriteAnswer::Refused(_) => 0,
+        PointWriteAnswer::Written(count) => count,
+        PointWriteAnswer::Refused(_) => 0,
     }
 }
 
@@ -107,18 +107,24 @@ fn show_read(map: &[u8], reference: &[u8], work: &mut [u32], lines: &mut [u32]) 
 }
 
 // Prints a row's first part.
-fn show_written(answer: WriteAnswer, work: &[u32], bytes: &[u8]) {
+fn show_written(answer: PointWriteAnswer, work: &[u32], bytes: &[u8]) {
     let mut row = [0; ROW];
     let count = lesser(byte_count(answer), bytes.len());
-    let written = put_written(answer, bytes, &mut row);
+    let written = put_point_written(answer, bytes, &mut row);
     let state = put_work(work, &mut row, written);
     let end = put_rest(bytes_kept(bytes, count), &mut row, state);
     hand_over(&row[..end]);
 }
 
 // Where the writer wrote bytes: reads exactly those.
-fn read_back(map: &[u8], answer: WriteAnswer, bytes: &[u8], work: &mut [u32], lines: &mut [u32]) {
-    let WriteAnswer::Written(count) = answer else {
+fn read_back(
+    map: &[u8],
+    answer: PointWriteAnswer,
+    bytes: &[u8],
+    work: &mut [u32],
+    lines: &mut [u32],
+) {
+    let PointWriteAnswer::Written(count) = answer else {
         return;
     };
     let written = lesser(count, bytes.len());
@@ -126,7 +132,7 @@ fn read_back(map: &[u8], answer: WriteAnswer, bytes: &[u8], work: &mut [u32], li
 }
 
 // Writes the point that the numbers of the case say.
-fn write_given(map: &[u8], words: &[u8], work: &mut [u32], bytes: &mut [u8]) -> WriteAnswer {
+fn write_given(map: &[u8], words: &[u8], work: &mut [u32], bytes: &mut [u8]) -> PointWriteAnswer {
     write_point(
         map,
         word_at(words, 12),

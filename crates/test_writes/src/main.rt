@@ -1,4 +1,4 @@
-// Writes the stretches of cases.bin, each on its own map, and prints a row for each: the answer, a sum over the bytes handed back, what the call left of
+// Writes the stretches of cases.bin, each on its own map, and prints a row for each: the answer with the leg tests made and the excess, a sum over the bytes handed back, what the call left of
 // the work area, and whether the rest of the byte buffer is as it was. Where bytes were written, the row goes on with what the reader answers to exactly
 // those. What it prints is held to what the unrelated implementation says (oracle/pack.py).
 use answer_text::put;
@@ -28,7 +28,7 @@ const ROW: usize = 192;
 // How many bytes an answer hands back.
 fn count_of(answer: WriteAnswer) -> usize {
     match answer {
-        WriteAnswer::Written(count) => count,
+        WriteAnswer::Written(count, _, _) => count,
         WriteAnswer::Refused(_) => 0,
     }
 }
@@ -66,7 +66,7 @@ fn show_read(map: &[u8], reference: &[u8], work: &mut [u32], lines: &mut [u32]) 
 
 // Where the writer wrote bytes: reads exactly those.
 fn read_back(map: &[u8], answer: WriteAnswer, bytes: &[u8], work: &mut [u32], lines: &mut [u32]) {
-    let WriteAnswer::Written(count) = answer else {
+    let WriteAnswer::Written(count, _, _) = answer else {
         return;
     };
     let written = lesser(count, bytes.len());
@@ -79,19 +79,20 @@ fn call(
     stretch: &[u32],
     pos: u32,
     neg: u32,
+    tests: u32,
     work: &mut [u32],
     bytes: &mut [u8],
     lines: &mut [u32],
 ) {
     fill(work);
     fill_bytes(bytes);
-    let answer = write(map, stretch, pos, neg, work, bytes);
+    let answer = write(map, stretch, pos, neg, tests, work, bytes);
     show_call(answer, work, bytes);
     read_back(map, answer, bytes, work, lines);
     hand_over(b"\n");
 }
 
-// Makes the call with the offsets that the numbers of the case say, and with a work area and a byte buffer of the lengths that they say.
+// Makes the call with the offsets and the number of leg tests that the numbers of the case say, and with a work area and a byte buffer of the lengths that they say.
 fn run_case(
     map: &[u8],
     stretch: &[u32],
@@ -100,13 +101,14 @@ fn run_case(
     bytes: &mut [u8],
     lines: &mut [u32],
 ) {
-    let work_length = lesser(word_at(words, 8) as usize, work.len());
-    let byte_room = lesser(word_at(words, 12) as usize, bytes.len());
+    let work_length = lesser(word_at(words, 12) as usize, work.len());
+    let byte_room = lesser(word_at(words, 16) as usize, bytes.len());
     call(
         map,
         stretch,
         word_at(words, 0),
         word_at(words, 4),
+        word_at(words, 8),
         &mut work[..work_length],
         &mut bytes[..byte_room],
         lines,
@@ -122,8 +124,8 @@ fn run_parts(map: &[u8], part: &[u8], words: &[u8], work: &mut [u32]) {
     run_case(map, &stretch[..count], words, work, &mut bytes, &mut lines);
 }
 
-// Each case has three parts: a map, a stretch, and five numbers of four bytes each. These are the two offsets, the lengths of the work area and of the
-// byte buffer, and 1 where the map is that of the case before.
+// Each case has three parts: a map, a stretch, and six numbers of four bytes each. These are the two offsets, the leg tests, the lengths of the work area
+// and of the byte buffer, and 1 where the map is that of the case before.
 fn run(file: &[u8], work: &mut [u32]) {
     let mut at: usize = 0;
     let mut map_from: usize = 0;
@@ -139,7 +141,7 @@ fn run(file: &[u8], work: &mut [u32]) {
             return;
         };
         at = to;
-        if word_at(&file[words..to], 16) == 0 {
+        if word_at(&file[words..to], 20) == 0 {
             map_from = from;
             map_to = middle;
         }

@@ -37,10 +37,10 @@ record Back (m : Map) (c : ℕ) (f : Terminus) (w : List ℕ) (l : ℕ) (r : Lis
   tie : Tie m w pred l
 
 module _ {m : Map} {n c limit : ℕ} {f : Terminus} {w : List ℕ} (s : Searched m n c f limit w) where
-  near : (l : ℕ) → l < n → lengthTo w l ≤ limit → Least m c f (line l) (lengthTo w l)
+  pub near : (l : ℕ) → l < n → lengthTo w l ≤ limit → Least m c f (line l) (lengthTo w l)
   near l l< d = s .found l l< .near d
 
-  short : {l : ℕ} {r : List ℕ} → l < n → Way m c f (line l) r → total m r ≤ limit → lengthTo w l ≤ total m r
+  pub short : {l : ℕ} {r : List ℕ} → l < n → Way m c f (line l) r → total m r ≤ limit → lengthTo w l ≤ total m r
   short {l} {r} l< p t =
       ⊎-elim (λ d. near l l< d .least r p) (λ d. absurd (omega (arith, s .found l l< .far d r p))) (le-or-lt (lengthTo w l) limit)
 
@@ -66,7 +66,7 @@ module _ {m : Map} {n c limit : ℕ} {f : Terminus} {w : List ℕ} (s : Searched
       (record { pred = l; rest = r; is = refl; way = way-of p; sum = z; tie = record { known = from; follows = g; equal = omega arith } })
 
   module _ {l : ℕ} (l< : l < n) (d : lengthTo w l ≤ limit) where
-    tie-near : {p : ℕ} → Tie m w p l → (p < n) × (lengthTo w p < lengthTo w l)
+    pub tie-near : {p : ℕ} → Tie m w p l → (p < n) × (lengthTo w p < lengthTo w l)
     tie-near t =
         let h = s .held in
         let from = t .known in
@@ -76,14 +76,14 @@ module _ {m : Map} {n c limit : ℕ} {f : Terminus} {w : List ℕ} (s : Searched
     alone : {r : List ℕ} → ((p : ℕ) → Tie m w p l → ⊥) → Way m c f (line l) r → total m r ≡ lengthTo w l → r ≡ l ∷ []
     alone none p e = ⊎-elim (λ a. a) (λ b. absurd (none (b .pred) (b .tie))) (back (grown-of p) e d)
 
-    only-alone : ((p : ℕ) → Tie m w p l → ⊥) → OnlyWay m c f (line l) (lengthTo w l) (l ∷ [])
+    pub only-alone : ((p : ℕ) → Tie m w p l → ⊥) → OnlyWay m c f (line l) (lengthTo w l) (l ∷ [])
     only-alone none =
         let q = near l l< d .some in
         let e = alone none (q .way) (q .sum) in
         record { way = subst (Way m c f (line l)) e (q .way); sum = ap (total m) (sym e) ∙ q .sum; only = λ r p z. alone none p z }
 
     -- Where one does, a way is longer than that line.
-    longer : {p : ℕ} → Tie m w p l → lineAt m l .length < lengthTo w l
+    pub longer : {p : ℕ} → Tie m w p l → lineAt m l .length < lengthTo w l
     longer {p} t =
         let a = tie-near t in
         let q = near p (a .0) (omega (arith, a .1)) .some in
@@ -101,7 +101,7 @@ module _ {m : Map} {n c limit : ℕ} {f : Terminus} {w : List ℕ} (s : Searched
           sum = omega (arith, r .sum, t .equal, total-more m (r .list) l);
         }
 
-    only-step : {p : ℕ} {r : List ℕ} → Tie m w p l → ((a : ℕ) → Tie m w a l → a ≡ p) →
+    pub only-step : {p : ℕ} {r : List ℕ} → Tie m w p l → ((a : ℕ) → Tie m w a l → a ≡ p) →
         OnlyWay m c f (line p) (lengthTo w p) r → OnlyWay m c f (line l) (lengthTo w l) (r ++ l ∷ [])
     only-step {p} {r} t alone o =
         let one = onto t (record { list = r; way = o .way; sum = o .sum }) in
@@ -121,7 +121,7 @@ module _ {m : Map} {n c limit : ℕ} {f : Terminus} {w : List ℕ} (s : Searched
     two-step : {p : ℕ} → Tie m w p l → Two m c f (line p) (lengthTo w p) → Two m c f (line l) (lengthTo w l)
     two-step t o = record { one = onto t (o .one); other = onto t (o .other); differ = λ e. o .differ (same-before _ _ l e) }
 
-    two-ties : {a b : ℕ} → Tie m w a l → Tie m w b l → (a ≡ b → ⊥) → Two m c f (line l) (lengthTo w l)
+    pub two-ties : {a b : ℕ} → Tie m w a l → Tie m w b l → (a ≡ b → ⊥) → Two m c f (line l) (lengthTo w l)
     two-ties {a} {b} t u differ =
         let q = near a (tie-near t .0) (omega (arith, tie-near t .1)) .some in
         let r = near b (tie-near u .0) (omega (arith, tie-near u .1)) .some in

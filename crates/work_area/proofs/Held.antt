@@ -1,9 +1,10 @@
 -- The nodes and lines that a work area holds: one by one, and after a change elsewhere.
-use Rattle.work_area.specs.Area.{nodeSize, nodePlace, latitude, lineSize, linePlace}
+use Rattle.work_area.specs.Area.{nodeSize, nodePlace, latitude, lineSize, linePlace, lineNumbers}
 use Rattle.model.specs.Map.{Node, Line}
 use Prim.Native.Nat.{ℕ, zero, suc, _+_, _≤_, _<_}
 use mathlib.Core.Path.{_≡_, refl, ap, ap₂, subst, _∙_}
 use mathlib.Core.List.{List, [], _∷_, _++_}
+use native.Mathlib.Nat.{add-zero}
 use native.Mathlib.Numerals.{add-one}
 use native.Mathlib.Decide.{decLt}
 use native.Mathlib.Omega.{arith}
@@ -50,6 +51,18 @@ pub line-path : {a b c d e f g a′ b′ c′ d′ e′ f′ g′ : ℕ} → a �
     _≡_ {A = Line} (record { start = a; end = b; length = c; frc = d; fow = e; out = f; back = g })
     (record { start = a′; end = b′; length = c′; frc = d′; fow = e′; out = f′; back = g′ })
 line-path p q r s t u v = λ i. record { start = p i; end = q i; length = r i; frc = s i; fow = t i; out = u i; back = v i }
+
+-- The numbers of a line, as they stand in the area.
+pub line-number : (w : List ℕ) (at k : ℕ) → k < lineSize → getD w (at + k) 0 ≡ getD (lineNumbers (lineFrom w at)) k 0
+unfolding lineFrom
+line-number w at zero l = rw add-zero
+line-number w at (suc zero) l = refl
+line-number w at (suc (suc zero)) l = refl
+line-number w at (suc (suc (suc zero))) l = refl
+line-number w at (suc (suc (suc (suc zero)))) l = refl
+line-number w at (suc (suc (suc (suc (suc zero))))) l = refl
+line-number w at (suc (suc (suc (suc (suc (suc zero)))))) l = refl
+line-number w at (suc (suc (suc (suc (suc (suc (suc k))))))) l = absurd (omega arith)
 
 -- ---- a change that leaves them where they stand
 

@@ -4,7 +4,7 @@ use Rattle.model.specs.Lines.{lineAt, turnAmong, banned, Follows}
 use Prim.Native.Nat.{ℕ, suc, _+_, _≤_, _<_}
 use mathlib.Core.Path.{_≡_, refl, sym, ap, ap₂, _∙_}
 use mathlib.Core.Bool.{Bool, true, false, cond, _&&_, _||_, and-comm, or-false, or-assoc}
-use mathlib.Core.List.{List, [], _∷_, _++_}
+use mathlib.Core.List.{List, [], _∷_, _++_, map, map-append}
 use native.Mathlib.Decide.{ℕ-discrete}
 use native.Mathlib.Omega.{arith}
 use lib.ListN.{length, length-append, length-map, List·getD-map}
@@ -95,6 +95,49 @@ behind-among done (t ∷ ts) l k =
 pub turn-mirrored : (ts : List Turn) (l k : ℕ) → turnAmong (mirrorTurns ts) k l ≡ turnAmong ts l k
 unfolding turnAmong
 turn-mirrored ts l k = behind-among [] ts l k
+
+-- ---- the turns mirrored again: none is listed twice, so none is left out
+
+-- A list without repeats, by its last turn.
+data Once : List Turn → Type 0 where
+  none : Once []
+  more : {ts : List Turn} (t : Turn) → Once ts → turnAmong ts (t .first) (t .second) ≡ false → Once (ts ++ t ∷ [])
+
+once-with : (ts : List Turn) (t : Turn) → Once ts → Once (withTurn ts t)
+unfolding withTurn
+once-with ts t once = go (turnAmong ts (t .first) (t .second)) refl
+  where
+    go : (b : Bool) → turnAmong ts (t .first) (t .second) ≡ b → Once (cond b ts (ts ++ t ∷ []))
+    go true there = once
+    go false there = more t once there
+
+once-behind : (done ts : List Turn) → Once done → Once (mirrorBehind done ts)
+unfolding mirrorBehind
+once-behind done [] once = once
+once-behind done (t ∷ ts) once = once-behind (withTurn done (mirrorTurn t)) ts (once-with done (mirrorTurn t) once)
+
+once-mirrored : {ts : List Turn} → Once ts → mirrorTurns ts ≡ map mirrorTurn ts
+unfolding mirrorBehind
+once-mirrored none = refl
+once-mirrored (more {ts} t once new) =
+    turns-more ts t
+    ∙ with-new (mirrorTurns ts) (mirrorTurn t) (turn-mirrored ts (t .first) (t .second) ∙ new)
+    ∙ ap (λ (us : List Turn). us ++ mirrorTurn t ∷ []) (once-mirrored once)
+    ∙ sym (map-append mirrorTurn ts (t ∷ []))
+
+pub turns-twice : (ts : List Turn) → mirrorTurns (mirrorTurns ts) ≡ map mirrorTurn (mirrorTurns ts)
+turns-twice ts = once-mirrored (once-behind [] ts none)
+
+-- What is the other way round twice is as it was.
+twice : {A : Type 0} (f : A → A) → ((x : A) → f (f x) ≡ x) → (xs : List A) → map f (map f xs) ≡ xs
+twice f back [] = refl
+twice f back (x ∷ xs) = ap₂ (λ (y : _) (ys : List _). y ∷ ys) (back x) (twice f back xs)
+
+pub turns-thrice : (ts : List Turn) → mirrorTurns (mirrorTurns (mirrorTurns ts)) ≡ mirrorTurns ts
+turns-thrice ts = turns-twice (mirrorTurns ts) ∙ ap (map mirrorTurn) (turns-twice ts) ∙ twice mirrorTurn (λ t. refl) (mirrorTurns ts)
+
+pub lines-twice : (ls : List Line) → map mirrorLine (map mirrorLine ls) ≡ ls
+lines-twice ls = twice mirrorLine (λ l. refl) ls
 
 -- ---- connected lists
 

@@ -30,12 +30,22 @@ pub struct PointAnswer {
     pub side: u32,
 }
 
-/// `struct openlr_written`, and `struct openlr_point_written`, whose count is called `bytes`.
+/// `struct openlr_written`.
 #[repr(C)]
 #[derive(Clone, Copy, Debug, Default, PartialEq, Eq)]
 pub struct WrittenAnswer {
     pub refusal: u32,
     pub byte_count: u32,
+    pub tests: u32,
+    pub excess: u32,
+}
+
+/// `struct openlr_point_written`.
+#[repr(C)]
+#[derive(Clone, Copy, Debug, Default, PartialEq, Eq)]
+pub struct PointWrittenAnswer {
+    pub refusal: u32,
+    pub bytes: u32,
 }
 
 #[link(name = "openlr", kind = "static")]
@@ -55,6 +65,7 @@ extern "C" {
         stretch_len: usize,
         pos: u32,
         neg: u32,
+        tests: u32,
         byte_buffer: *mut u8,
         byte_buffer_len: usize,
     ) -> WrittenAnswer;
@@ -75,7 +86,7 @@ extern "C" {
         side: u32,
         byte_buffer: *mut u8,
         byte_buffer_len: usize,
-    ) -> WrittenAnswer;
+    ) -> PointWrittenAnswer;
 }
 
 /// Reads the reference that the memory holds beside the map.
@@ -95,7 +106,7 @@ pub fn read(memory: &mut Memory) -> ReadingAnswer {
 }
 
 /// Writes the stretch that the memory holds beside the map.
-pub fn write(memory: &mut Memory, pos: u32, neg: u32) -> WrittenAnswer {
+pub fn write(memory: &mut Memory, pos: u32, neg: u32, tests: u32) -> WrittenAnswer {
     let Memory { map, given, buffer } = memory;
     unsafe {
         openlr_write(
@@ -105,6 +116,7 @@ pub fn write(memory: &mut Memory, pos: u32, neg: u32) -> WrittenAnswer {
             given.len(),
             pos,
             neg,
+            tests,
             buffer.as_mut_ptr(),
             buffer.len(),
         )
@@ -127,7 +139,7 @@ pub fn read_point(memory: &mut Memory) -> PointAnswer {
 }
 
 /// Writes a point on the map that the memory holds.
-pub fn write_point(memory: &mut Memory, point: Point) -> WrittenAnswer {
+pub fn write_point(memory: &mut Memory, point: Point) -> PointWrittenAnswer {
     let Memory { map, buffer, .. } = memory;
     unsafe {
         openlr_write_point(

@@ -3,7 +3,7 @@
 use std::fmt::{self, Debug};
 
 use plain::hexadecimal::{bytes, digits};
-use plain::outcome::{Outcome, Reading, Refusal, WORK_AREA};
+use plain::outcome::{Outcome, Reading, Refusal, Written, WORK_AREA};
 use plain::{reader, writer};
 
 use crate::c_functions::{self, ReadingAnswer, WrittenAnswer};
@@ -27,6 +27,7 @@ pub struct WriteCall<'a> {
     pub stretch: &'a [u8],
     pub pos: u32,
     pub neg: u32,
+    pub tests: u32,
     pub room: usize,
 }
 
@@ -58,16 +59,16 @@ impl ReadCall<'_> {
 
 impl WriteCall<'_> {
     /// The outcome that both agree on, or how they differ.
-    pub fn compare(&self) -> Result<Outcome<Vec<u8>>, String> {
-        let (pos, neg) = (self.pos, self.neg);
+    pub fn compare(&self) -> Result<Outcome<Written>, String> {
+        let (pos, neg, tests) = (self.pos, self.neg, self.tests);
         let lines = line_numbers(self.stretch);
-        let outcome = writer::write(self.map, &lines, pos, neg, WORK_AREA, self.room);
+        let outcome = writer::write(self.map, &lines, pos, neg, tests, WORK_AREA, self.room);
         let (answer, result) = match &outcome {
-            Ok(reference) => (written_answer(reference), reference.as_slice()),
+            Ok(written) => (written_answer(written), written.reference.as_slice()),
             Err(refusal) => (written_refusal(*refusal), [].as_slice()),
         };
         let memory = Memory::new(self.map, self.stretch, self.room);
-        let write = |memory: &mut Memory| c_functions::write(memory, pos, neg);
+        let write = |memory: &mut Memory| c_functions::write(memory, pos, neg, tests);
         compare(write, memory, result, answer)?;
         Ok(outcome)
     }
@@ -81,6 +82,7 @@ impl WriteCall<'_> {
             stretch: &stretch,
             pos: words.next()?.parse().ok()?,
             neg: words.next()?.parse().ok()?,
+            tests: words.next()?.parse().ok()?,
             room: words.next()?.parse().ok()?,
         };
         Some(call.compare().map(drop))
@@ -129,17 +131,19 @@ fn reading_refusal(refusal: Refusal) -> ReadingAnswer {
     }
 }
 
-pub fn written_answer(reference: &[u8]) -> WrittenAnswer {
+fn written_answer(written: &Written) -> WrittenAnswer {
     WrittenAnswer {
         refusal: 0,
-        byte_count: reference.len() as u32,
+        byte_count: written.reference.len() as u32,
+        tests: written.tests,
+        excess: written.excess,
     }
 }
 
-pub fn written_refusal(refusal: Refusal) -> WrittenAnswer {
+fn written_refusal(refusal: Refusal) -> WrittenAnswer {
     WrittenAnswer {
         refusal: refusal.number(),
-        byte_count: 0,
+        ..WrittenAnswer::default()
     }
 }
 
@@ -166,7 +170,13 @@ impl fmt::Display for ReadCall<'_> {
 impl fmt::Display for WriteCall<'_> {
     fn fmt(&self, out: &mut fmt::Formatter<'_>) -> fmt::Result {
         let (map, stretch) = (digits(self.map), digits(self.stretch));
-        let WriteCall { pos, neg, room, .. } = self;
-        write!(out, "write {map} {stretch} {pos} {neg} {room}")
+        let WriteCall {
+            pos,
+            neg,
+            tests,
+            room,
+            ..
+        } = self;
+        write!(out, "write {map} {stretch} {pos} {neg} {tests} {room}")
     }
 }

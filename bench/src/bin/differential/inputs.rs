@@ -1,16 +1,17 @@
 //! Maps, stretches, offsets and references from a random source.
 
-use plain::depot_map::{Ban, DepotMap};
+use plain::depot_map::{Ban, DepotMap, Node};
 use plain::fields::{brought_round, Steps, LONGEST_STEP, STATUS_BYTE};
 use plain::maps::{
     any_steps, chain, grid, nearest_steps, random_graph, random_walk, small_map, Bans, Lengths,
-    MapPlan, Turns, Xorshift,
+    MapPlan, PlannedLine, Turns, Xorshift,
 };
-use plain::writer::{reference_bytes, Stretch, MOST_LINES};
+use plain::writer::{reference_bytes, write_on_map, Stretch, ALL_TESTS, MOST_LINES};
 
 use crate::calls::line_bytes;
 use crate::damages::change_offsets;
 use crate::points::total_length;
+use crate::test_counts::legs_of;
 
 const MOST_LEGS: usize = 64;
 pub const MOST_BANS: usize = 512;
@@ -33,7 +34,10 @@ const EDGE_LENGTHS: [u32; 13] = [
 const EDGE_PARTS: [u32; 4] = [1, 3, 509, 511];
 
 pub fn any_small_plan(rng: &mut Xorshift) -> MapPlan {
-    let mut plan = small_map(rng.draw());
+    let mut plan = match rng.below(8) {
+        0 => zigzag_road(rng),
+        _ => small_map(rng.draw()),
+    };
     if rng.below(4) == 0 {
         make_multiples_of_512(&mut plan);
     }
@@ -53,6 +57,36 @@ pub fn any_small_plan(rng: &mut Xorshift) -> MapPlan {
         _ => {}
     }
     plan.bans = any_bans(rng, &plan);
+    plan
+}
+
+/// A road with a line each way, to and fro over longitudes: the differences of many legs do not fit, and
+/// those of longer ones do. So the fewest points hang on which legs are tested.
+fn zigzag_road(rng: &mut Xorshift) -> MapPlan {
+    const REACH: i32 = 90_000;
+    let mut plan = MapPlan::default();
+    let mut longitude = 0;
+    for node in 0..rng.within(6, 20) as i32 {
+        plan.nodes.push(Node {
+            longitude,
+            latitude: 100 * node,
+        });
+        let way = rng.within(12_000, 32_767) as i32;
+        longitude = (longitude + *rng.pick(&[-way, way])).clamp(-REACH, REACH);
+    }
+    for node in 1..plan.nodes.len() as u32 {
+        for (start, end) in [(node - 1, node), (node, node - 1)] {
+            plan.lines.push(PlannedLine {
+                start,
+                end,
+                length: rng.within(1, 2_000),
+                frc: rng.below(8) as u8,
+                fow: 3,
+                out: any_steps(rng),
+                back: any_steps(rng),
+            });
+        }
+    }
     plan
 }
 
@@ -252,6 +286,63 @@ pub fn any_offsets(rng: &mut Xorshift, map: &DepotMap, lines: &[u32]) -> (u32, u
         18..=24 => (pos, neg),
         _ => (0, 0),
     }
+}
+
+/// How many leg tests may be made for these lines: all for a third of the calls; else often a number that tells
+/// something, if there is one.
+pub fn any_tests(rng: &mut Xorshift, map: &DepotMap, lines: &[u32], offsets: (u32, u32)) -> u32 {
+    let count = lines.len().min(MOST_LINES);
+    let all = legs_of(count);
+    match rng.below(6) {
+        0 | 1 => *rng.pick(&[all, all, all + 1, 2_080, ALL_TESTS]),
+        2 | 3 => telling_tests(map, lines, offsets).unwrap_or_else(|| fewer_tests(rng, count)),
+        _ => fewer_tests(rng, count),
+    }
+}
+
+/// None, one or a few, at and beside the ends of rows of legs from one place, all but one, or anything.
+fn fewer_tests(rng: &mut Xorshift, count: usize) -> u32 {
+    let all = legs_of(count);
+    let beside = rng.below(3);
+    match rng.below(10) {
+        0 => 0,
+        1 => 1,
+        2 => rng.within(2, 5),
+        3 => (count as u32 + beside).saturating_sub(1),
+        4 => all.saturating_sub(1),
+        5..=6 => (legs_of_rows(rng, count) + beside).saturating_sub(1),
+        7..=8 => rng.below(all + 1),
+        _ => rng.draw() as u32,
+    }
+}
+
+/// How many legs there are from some of the first places.
+fn legs_of_rows(rng: &mut Xorshift, count: usize) -> u32 {
+    let rows = rng.below(count as u32 + 1) as usize;
+    legs_of(count) - legs_of(count - rows)
+}
+
+/// The fewest tests at the end of a row with which a short stretch is accepted with an excess, or with more
+/// points than with all tests.
+fn telling_tests(map: &DepotMap, lines: &[u32], (pos, neg): (u32, u32)) -> Option<u32> {
+    const MOST: usize = 16;
+    if lines.len() > MOST {
+        return None;
+    }
+    let write = |tests| write_on_map(map, lines, pos, neg, tests, usize::MAX).ok();
+    let fewest = write(ALL_TESTS)?.reference.len();
+    let mut rows = (1..lines.len()).map(|rows| legs_of(lines.len()) - legs_of(lines.len() - rows));
+    rows.find(|&tests| {
+        write(tests).is_some_and(|written| written.excess > 0 || written.reference.len() > fewest)
+    })
+}
+
+/// For a stretch of so many lines: one more, a row more, all or anything between.
+pub fn more_tests(rng: &mut Xorshift, tests: u32, count: usize) -> u32 {
+    let all = legs_of(count.min(MOST_LINES)).max(tests);
+    let between = rng.within(tests, all);
+    let row = tests.saturating_add(count as u32);
+    *rng.pick(&[tests.saturating_add(1), row, between, all, all, ALL_TESTS])
 }
 
 fn length(map: &DepotMap, line: u32) -> Option<u32> {

@@ -19,6 +19,7 @@ mod point_run;
 mod points;
 mod run;
 mod step_counts;
+mod test_counts;
 
 use std::io;
 use std::process::ExitCode;

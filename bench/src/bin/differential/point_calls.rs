@@ -6,8 +6,8 @@ use plain::hexadecimal::{bytes, digits};
 use plain::outcome::{Outcome, PointReading, Refusal, WORK_AREA};
 use plain::point::{read_point, write_point, Point};
 
-use crate::c_functions::{self, PointAnswer};
-use crate::calls::{compare, line_bytes, line_room, written_answer, written_refusal};
+use crate::c_functions::{self, PointAnswer, PointWrittenAnswer};
+use crate::calls::{compare, line_bytes, line_room};
 use crate::memory::Memory;
 
 #[derive(Clone, Copy)]
@@ -82,6 +82,20 @@ impl WritePointCall<'_> {
             room: number()? as usize,
         };
         Some(call.compare().map(drop))
+    }
+}
+
+fn written_answer(reference: &[u8]) -> PointWrittenAnswer {
+    PointWrittenAnswer {
+        refusal: 0,
+        bytes: reference.len() as u32,
+    }
+}
+
+fn written_refusal(refusal: Refusal) -> PointWrittenAnswer {
+    PointWrittenAnswer {
+        refusal: refusal.number(),
+        bytes: 0,
     }
 }
 

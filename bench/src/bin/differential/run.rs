@@ -2,28 +2,32 @@
 
 use plain::depot_map::DepotMap;
 use plain::maps::{chain, Lengths, MapPlan, Xorshift};
-use plain::outcome::{Outcome, Reading, Refusal, Span, WORK_AREA};
-use plain::writer::{write, Stretch};
+use plain::outcome::{Outcome, Reading, Refusal, Span, Written, WORK_AREA};
+use plain::writer::{write, Stretch, ALL_TESTS};
 
 use crate::calls::{line_numbers, ReadCall, WriteCall, MOST_LINES_READ};
 use crate::counts::{count, print_answers, Answers};
 use crate::damages::{damaged_map, damaged_reference};
 use crate::inputs::{
-    any_offsets, any_reference, any_small_plan, any_stretch, full_size_plan, move_over_meridian,
-    random_bytes, reference_along_chain, room_at_the_edge,
+    any_offsets, any_reference, any_small_plan, any_stretch, any_tests, full_size_plan, more_tests,
+    move_over_meridian, random_bytes, reference_along_chain, room_at_the_edge,
 };
 use crate::meridian::Meridian;
 use crate::offset_counts::StretchOffsets;
 use crate::point_inputs::any_point_reference;
 use crate::point_run::PointRun;
 use crate::step_counts::{self, StepCounts};
+use crate::test_counts::{check_tests_made, check_with_more_tests, TestCounts};
 
 /// Of so many maps one is of full size, and one is for long lists.
 const FULL_SIZE_EVERY: u64 = 10;
 
 pub const ENOUGH_FOR_LINES: usize = 4 * MOST_LINES_READ;
 
-const OF_WRITER: [usize; 13] = [2, 3, 4, 5, 24, 6, 23, 7, 8, 21, 9, 10, 11];
+/// A byte buffer of so many bytes has room for every reference.
+const ENOUGH_FOR_BYTES: usize = 459;
+
+const OF_WRITER: [usize; 14] = [2, 3, 4, 5, 24, 6, 23, 7, 8, 21, 9, 26, 10, 11];
 const OF_READER: [usize; 17] = [
     2, 3, 4, 5, 24, 6, 23, 12, 13, 14, 15, 16, 17, 18, 22, 19, 20,
 ];
@@ -39,6 +43,7 @@ pub struct Run {
     /// Calls with refusal 21 in which all banned turns are in lines skipped whole.
     banned_where_skipped: u64,
     offsets: StretchOffsets,
+    tests: TestCounts,
     meridian: Meridian,
     steps: StepCounts,
     points: PointRun,
@@ -156,6 +161,7 @@ impl Run {
             stretch: given,
             pos: rng.below(2),
             neg: rng.below(2),
+            tests: rng.below(2) * ALL_TESTS,
             room: rng.below(500) as usize,
         };
         let _ = self.write(write)?;
@@ -167,20 +173,25 @@ impl Run {
         self.read(read).map(drop)
     }
 
-    /// A stretch in a buffer of some length; where it is written, then also in one that is just
-    /// long enough or too short, and its reference with changes.
+    /// A stretch with some leg tests, in a buffer of some length, and often with more tests; where it is
+    /// written, then also in a buffer that is just long enough or too short, and its reference with
+    /// changes.
     fn stretch(&mut self, rng: &mut Xorshift, sample: &Sample) -> Result<(), String> {
         let stretch = &any_stretch(rng, &sample.map);
-        let (pos, neg) = any_offsets(rng, &sample.map, &line_numbers(stretch));
+        let lines = line_numbers(stretch);
+        let (pos, neg) = any_offsets(rng, &sample.map, &lines);
+        let tests = any_tests(rng, &sample.map, &lines, (pos, neg));
         let rooms = [459, 459, 459, 460, 500, rng.below(40)];
         let call = WriteCall {
             map: &sample.bytes,
             stretch,
             pos,
             neg,
+            tests,
             room: *rng.pick(&rooms) as usize,
         };
-        let Ok(reference) = self.write_on(sample, call)? else {
+        let (call, outcome) = self.write_with_more_tests(rng, sample, call)?;
+        let Ok(Written { reference, .. }) = outcome else {
             return Ok(());
         };
         let length = reference.len() as u32;
@@ -192,6 +203,31 @@ impl Run {
             self.reference(rng, sample, &damaged)?;
         }
         Ok(())
+    }
+
+    /// The call, and where its tests were too few or may be, and at times else, the same with more: the
+    /// last of both.
+    fn write_with_more_tests<'a>(
+        &mut self,
+        rng: &mut Xorshift,
+        sample: &Sample,
+        call: WriteCall<'a>,
+    ) -> Result<(WriteCall<'a>, Outcome<Written>), String> {
+        let outcome = self.write_on(sample, call)?;
+        let are_too_few = match &outcome {
+            Ok(written) => written.excess > 0,
+            Err(refusal) => *refusal == Refusal::TooFewTests,
+        };
+        if call.room < ENOUGH_FOR_BYTES || !are_too_few && rng.below(3) != 0 {
+            return Ok((call, outcome));
+        }
+        let tests = more_tests(rng, call.tests, line_numbers(call.stretch).len());
+        let more = WriteCall { tests, ..call };
+        let with_more = self.write_on(sample, more)?;
+        self.tests.count_with_more(&outcome, &with_more);
+        check_with_more_tests(&outcome, &with_more)
+            .map_err(|difference| format!("{call}\n{more}\n{difference}"))?;
+        Ok((more, with_more))
     }
 
     /// A reference in a buffer of some length; where it is read, then also in one that is just
@@ -267,7 +303,7 @@ impl Run {
     }
 
     /// What is written is read back.
-    fn write_on(&mut self, sample: &Sample, call: WriteCall) -> Result<Outcome<Vec<u8>>, String> {
+    fn write_on(&mut self, sample: &Sample, call: WriteCall) -> Result<Outcome<Written>, String> {
         let outcome = self.write(call)?;
         let map = &sample.map;
         let lines = line_numbers(call.stretch);
@@ -276,18 +312,24 @@ impl Run {
             positive: call.pos,
             negative: call.neg,
         };
+        self.tests.count(map, &given, call.tests, &outcome);
         match &outcome {
-            Ok(reference) => {
+            Ok(written) => {
+                let reference = &written.reference;
                 self.meridian.count_written(map, reference);
                 let left = given.without_skipped_lines(map);
+                check_tests_made(left.lines.len(), call.tests, written)
+                    .map_err(|difference| format!("{call}\n{difference}"))?;
                 self.offsets.count_written(map, &left, reference);
                 self.read_back(sample, call, reference, &left)?;
             }
             Err(Refusal::NoUsablePoints) => {
                 let left = given.without_skipped_lines(map);
                 let (pos, neg) = (left.positive, left.negative);
-                let is_written =
-                    |map: &[u8]| write(map, left.lines, pos, neg, WORK_AREA, 459).is_ok();
+                let is_written = |map: &[u8]| {
+                    let room = ENOUGH_FOR_BYTES;
+                    write(map, left.lines, pos, neg, ALL_TESTS, WORK_AREA, room).is_ok()
+                };
                 self.meridian
                     .count_too_far(map, &sample.plan, left.lines, is_written);
             }
@@ -300,7 +342,7 @@ impl Run {
         Ok(outcome)
     }
 
-    fn write(&mut self, call: WriteCall) -> Result<Outcome<Vec<u8>>, String> {
+    fn write(&mut self, call: WriteCall) -> Result<Outcome<Written>, String> {
         self.calls += 1;
         let compared = call.compare();
         let outcome = compared.map_err(|difference| format!("{call}\n{difference}"))?;
@@ -308,7 +350,9 @@ impl Run {
         if let Err(Refusal::Step) = outcome {
             self.steps.count_refused(call.map, step_counts::WRITER);
         }
-        let length = outcome.as_ref().map_or(0, Vec::len);
+        let length = outcome
+            .as_ref()
+            .map_or(0, |written| written.reference.len());
         self.longest_reference = self.longest_reference.max(length);
         Ok(outcome)
     }
@@ -343,6 +387,7 @@ impl Run {
         if skipped == 0 {
             return Err("no banned turn was in lines skipped whole alone".to_string());
         }
+        self.tests.report()?;
         self.offsets.report()?;
         self.meridian.report("stretches")?;
         self.steps.report("stretches")?;

@@ -2,7 +2,7 @@
 use borrow.Author.Needs.{needs}
 use mathlib.Core.Path.{refl, sym}
 use lib.Seq.{length-take-le}
-use Rattle.host_trip.proofs.Handed.{wrote, not-written, bytes-fit, handed-back}
+use Rattle.host_trip.proofs.Handed.{wrote-so, wrote, not-written, bytes-fit, handed-back}
 use Rattle.host_trip.proofs.write_and_read.Statement.{statement}
 use Rattle.host_trip.proofs.write_and_read.Tie as tie
 
@@ -19,10 +19,10 @@ cast-openlr-read : tie.Need-cast-openlr-read
 cast-openlr-read c = search needs
 
 slice-reshare-prefix-openlr-read : tie.Need-slice-reshare-prefix-openlr-read
-slice-reshare-prefix-openlr-read c = bytes-fit (wrote _ (c .before .before .before .before .before .openlr-write .ensures) (c .before .if1 .left)) (c .before .before .before .before .before .openlr-write .kept .1 .1 .1 .1 .0)
+slice-reshare-prefix-openlr-read c = bytes-fit (wrote _ (c .before .before .before .before .before .openlr-write .ensures) (c .before .if1 .left)) (c .before .before .before .before .before .openlr-write .kept .1 .1 .1 .1 .1 .0)
 
 slice-aggregate-openlr-read : tie.Need-slice-aggregate-openlr-read
-slice-aggregate-openlr-read c = sym (length-take-le _ _ (bytes-fit (wrote _ (c .before .before .before .before .before .before .openlr-write .ensures) (c .before .before .if1 .left)) (c .before .before .before .before .before .before .openlr-write .kept .1 .1 .1 .1 .0)))
+slice-aggregate-openlr-read c = sym (length-take-le _ _ (bytes-fit (wrote _ (c .before .before .before .before .before .before .openlr-write .ensures) (c .before .before .if1 .left)) (c .before .before .before .before .before .before .openlr-write .kept .1 .1 .1 .1 .1 .0)))
 
 openlr-read-requires : tie.Need-openlr-read-requires
 openlr-read-requires c κs = search needs
@@ -35,8 +35,8 @@ same-length-3 c = search needs
 
 returns-2 : tie.Need-returns-2
 returns-2 c =
-    let call = wrote _ (c .before .before .before .before .before .before .before .before .before .before .openlr-write .ensures) (c .before .before .before .before .before .before .if1 .left) in
-    (call, handed-back call _ refl (c .before .before .openlr-read .ensures))
+    let so = wrote-so _ (c .before .before .before .before .before .before .before .before .before .before .openlr-write .ensures) (c .before .before .before .before .before .before .if1 .left) in
+    (so, handed-back (_, _, so) _ refl (c .before .before .openlr-read .ensures))
 
 pub write-and-read-spec : {M : Type 1} → statement M
 write-and-read-spec =

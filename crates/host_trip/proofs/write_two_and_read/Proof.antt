@@ -33,19 +33,19 @@ cast-same-bytes : tie.Need-cast-same-bytes
 cast-same-bytes c = search needs
 
 slice-reshare-prefix-same-bytes : tie.Need-slice-reshare-prefix-same-bytes
-slice-reshare-prefix-same-bytes c = bytes-fit (wrote _ (c .before .before .before .before .before .before .before .before .before .before .before .openlr-write .ensures) (c .before .before .before .before .before .before .before .if1 .left)) (c .before .before .before .before .before .before .before .before .before .before .before .openlr-write .kept .1 .1 .1 .1 .0)
+slice-reshare-prefix-same-bytes c = bytes-fit (wrote _ (c .before .before .before .before .before .before .before .before .before .before .before .openlr-write .ensures) (c .before .before .before .before .before .before .before .if1 .left)) (c .before .before .before .before .before .before .before .before .before .before .before .openlr-write .kept .1 .1 .1 .1 .1 .0)
 
 slice-aggregate-same-bytes : tie.Need-slice-aggregate-same-bytes
-slice-aggregate-same-bytes c = sym (length-take-le _ _ (bytes-fit (wrote _ (c .before .before .before .before .before .before .before .before .before .before .before .before .openlr-write .ensures) (c .before .before .before .before .before .before .before .before .if1 .left)) (c .before .before .before .before .before .before .before .before .before .before .before .before .openlr-write .kept .1 .1 .1 .1 .0)))
+slice-aggregate-same-bytes c = sym (length-take-le _ _ (bytes-fit (wrote _ (c .before .before .before .before .before .before .before .before .before .before .before .before .openlr-write .ensures) (c .before .before .before .before .before .before .before .before .if1 .left)) (c .before .before .before .before .before .before .before .before .before .before .before .before .openlr-write .kept .1 .1 .1 .1 .1 .0)))
 
 cast-same-bytes-2 : tie.Need-cast-same-bytes-2
 cast-same-bytes-2 c = search needs
 
 slice-reshare-prefix-same-bytes-2 : tie.Need-slice-reshare-prefix-same-bytes-2
-slice-reshare-prefix-same-bytes-2 c = bytes-fit (wrote _ (c .before .before .before .before .before .before .before .openlr-write2 .ensures) (c .before .before .before .if2 .left)) (c .before .before .before .before .before .before .before .openlr-write2 .kept .1 .1 .1 .1 .0)
+slice-reshare-prefix-same-bytes-2 c = bytes-fit (wrote _ (c .before .before .before .before .before .before .before .openlr-write2 .ensures) (c .before .before .before .if2 .left)) (c .before .before .before .before .before .before .before .openlr-write2 .kept .1 .1 .1 .1 .1 .0)
 
 slice-aggregate-same-bytes-2 : tie.Need-slice-aggregate-same-bytes-2
-slice-aggregate-same-bytes-2 c = sym (length-take-le _ _ (bytes-fit (wrote _ (c .before .before .before .before .before .before .before .before .openlr-write2 .ensures) (c .before .before .before .before .if2 .left)) (c .before .before .before .before .before .before .before .before .openlr-write2 .kept .1 .1 .1 .1 .0)))
+slice-aggregate-same-bytes-2 c = sym (length-take-le _ _ (bytes-fit (wrote _ (c .before .before .before .before .before .before .before .before .openlr-write2 .ensures) (c .before .before .before .before .if2 .left)) (c .before .before .before .before .before .before .before .before .openlr-write2 .kept .1 .1 .1 .1 .1 .0)))
 
 same-bytes-requires : tie.Need-same-bytes-requires
 same-bytes-requires c κs = search needs
@@ -65,16 +65,16 @@ cast-openlr-read : tie.Need-cast-openlr-read
 cast-openlr-read c = search needs
 
 slice-reshare-prefix-openlr-read : tie.Need-slice-reshare-prefix-openlr-read
-slice-reshare-prefix-openlr-read c = bytes-fit (wrote _ (c .before .before .before .before .before .before .before .before .before .before .before .before .before .before .before .before .before .openlr-write .ensures) (c .before .before .before .before .before .before .before .before .before .before .before .before .before .if1 .left)) (c .before .before .before .before .before .before .before .before .before .before .before .before .before .before .before .before .before .openlr-write .kept .1 .1 .1 .1 .0)
+slice-reshare-prefix-openlr-read c = bytes-fit (wrote _ (c .before .before .before .before .before .before .before .before .before .before .before .before .before .before .before .before .before .openlr-write .ensures) (c .before .before .before .before .before .before .before .before .before .before .before .before .before .if1 .left)) (c .before .before .before .before .before .before .before .before .before .before .before .before .before .before .before .before .before .openlr-write .kept .1 .1 .1 .1 .1 .0)
 
 slice-aggregate-openlr-read : tie.Need-slice-aggregate-openlr-read
-slice-aggregate-openlr-read c = sym (length-take-le _ _ (bytes-fit (wrote _ (c .before .before .before .before .before .before .before .before .before .before .before .before .before .before .before .before .before .before .openlr-write .ensures) (c .before .before .before .before .before .before .before .before .before .before .before .before .before .before .if1 .left)) (c .before .before .before .before .before .before .before .before .before .before .before .before .before .before .before .before .before .before .openlr-write .kept .1 .1 .1 .1 .0)))
+slice-aggregate-openlr-read c = sym (length-take-le _ _ (bytes-fit (wrote _ (c .before .before .before .before .before .before .before .before .before .before .before .before .before .before .before .before .before .before .openlr-write .ensures) (c .before .before .before .before .before .before .before .before .before .before .before .before .before .before .if1 .left)) (c .before .before .before .before .before .before .before .before .before .before .before .before .before .before .before .before .before .before .openlr-write .kept .1 .1 .1 .1 .1 .0)))
 
 openlr-read-requires : tie.Need-openlr-read-requires
 openlr-read-requires c κs = search needs
 
 same-length-6 : tie.Need-same-length-6
-same-length-6 c = search needs
+same-length-6 c = search (needs, c .before .before .before .before .before .before .before .before .before .before .before .before .before .before .before .before .before .before .before .before .before .before .openlr-write .kept .1 .1 .1 .1 .1 .0)
 
 same-length-7 : tie.Need-same-length-7
 same-length-7 c = search needs
@@ -87,7 +87,7 @@ returns-4 c =
     let first = wrote _ (c .before .before .before .before .before .before .before .before .before .before .before .before .before .before .before .before .before .before .before .before .before .before .openlr-write .ensures) (c .before .before .before .before .before .before .before .before .before .before .before .before .before .before .before .before .before .before .if1 .left) in
     let second = wrote _ (c .before .before .before .before .before .before .before .before .before .before .before .before .before .before .before .before .openlr-write2 .ensures) (c .before .before .before .before .before .before .before .before .before .before .before .before .if2 .left) in
     let same = rw (not-false (c .before .before .before .before .before .before .before .same-bytes .result) (c .before .before .before .before .before .before .if3 .left)) at (c .before .before .before .before .before .before .before .same-bytes .ensures) in
-    let size = same-size _ _ _ _ (bytes-fit first (c .before .before .before .before .before .before .before .before .before .before .before .before .before .before .before .before .before .before .before .before .before .before .openlr-write .kept .1 .1 .1 .1 .0)) (bytes-fit second (c .before .before .before .before .before .before .before .before .before .before .before .before .before .before .before .before .openlr-write2 .kept .1 .1 .1 .1 .0)) same in
+    let size = same-size _ _ _ _ (bytes-fit first (c .before .before .before .before .before .before .before .before .before .before .before .before .before .before .before .before .before .before .before .before .before .before .openlr-write .kept .1 .1 .1 .1 .1 .0)) (bytes-fit second (c .before .before .before .before .before .before .before .before .before .before .before .before .before .before .before .before .openlr-write2 .kept .1 .1 .1 .1 .1 .0)) same in
     let call = c .before .before .openlr-read .ensures in (
       first,
       rw size at second,

@@ -1,8 +1,8 @@
 -- `note_alone` meets its contract: the lines before position `i` are noted.
 use Rattle.leg_tests.specs.Leaving.{Leaving}
-use Rattle.leg_tests.specs.LegTests.{Marks, Alone}
+use Rattle.sole_ways.specs.SoleWays.{mark, Marks}
+use Rattle.leg_tests.specs.LegTests.{Alone, NotesKept}
 use Rattle.buffers.proofs.Kept.{kept-none, kept-then, kept-set}
-use Rattle.buffers.specs.Kept.{Kept}
 use Rattle.work_area.specs.Area.{Held}
 use Rattle.model.specs.Map.{Map}
 use lib.Seq.{getD-set-same, getD-set-other}
@@ -17,7 +17,7 @@ use Rattle.leg_tests.proofs.note_alone.Tie as tie
 
 abbrev Inv-loop : tie.InvT-loop
 Inv-loop work lines stretch table₀ i₀ table i =
-    (i ≤ length stretch) × (length table ≡ length table₀) × Kept 0 (65 * length stretch) table₀ table ×
+    (i ≤ length stretch) × (length table ≡ length table₀) × NotesKept (length stretch) table₀ table ×
     ((m : Map) → Held work lines m → Leaving m lines work → (k : ℕ) → k < i → Marks (Alone m lines stretch k) (getD table (65 * k) 0))
 
 abbrev μ-loop : tie.MeasureT-loop
@@ -35,7 +35,7 @@ note-more P table i x room before here k h = go (decLt k i)
         subst (λ (q : ℕ). P q (getD (set table (65 * i) x) (65 * q) 0)) (sym e) (subst (P i) (sym (getD-set-same table (65 * i) x 0 room)) here)
 
 loop-holds : tie.Need-loop-holds Inv-loop μ-loop
-loop-holds c = (omega arith, refl, kept-none, λ m held lists k h. absurd (omega arith))
+loop-holds c = (omega arith, refl, record { legs = λ i j h l. refl; kept = kept-none }, λ m held lists k h. absurd (omega arith))
 
 alone-mark-requires : tie.Need-alone-mark-requires Inv-loop μ-loop
 alone-mark-requires c κs = let p = c .before .before .before .before .before .pre in ((p .0 .0, c .loop-test .taken), p .1)
@@ -59,7 +59,10 @@ loop-again c =
     let test = c .before .loop-test .taken in (
       omega (arith, test),
       length-set (l .table) _ _ ∙ l .inv .1,
-      kept-then (l .inv .2) (kept-set (65 * l .i) (c .alone-mark .result) (omega arith) (omega (arith, test))),
+      record {
+        legs = λ k j h u. getD-set-other (l .table) (65 * l .i) (65 * k + j) (c .alone-mark .result) 0 (λ e. omega arith) ∙ l .inv .2 .legs k j h u;
+        kept = kept-then (l .inv .2 .kept) (kept-set (65 * l .i) (c .alone-mark .result) (omega arith) (omega (arith, test)));
+      },
       λ m held lists. note-more (λ k x. Marks (Alone m (a .lines) (a .stretch .now) k) x) (l .table) (l .i) (c .alone-mark .result)
           (omega (arith, c .before .before .before .before .before .before .pre .0 .2, test, l .inv .1)) (l .inv .3 m held lists) (c .alone-mark .ensures m held lists),
     )

@@ -1,124 +1,145 @@
--- `test_legs` meets its contract: the columns up to `j` are tested.
-use Rattle.leg_tests.proofs.Walking.{columns-on}
-use Rattle.leg_tests.proofs.Sifting.{worked-then, noted-kept}
-use Rattle.leg_tests.proofs.Trials.{all-known}
-use Rattle.leg_tests.specs.LegTests.{mark, Marks, Noted, Worked}
-use Rattle.point_choice.specs.Cuts.{Tested}
+-- `test_legs` meets its contract: what the rows say on the map turned round, and the columns on the map itself, is said of the legs tested good.
+use Rattle.leg_tests.proofs.ArrivalLists.{arriving}
+use Rattle.leg_tests.proofs.SoleLegs.{good-sole}
+use Rattle.leg_tests.proofs.Straight.{sole-leg-alike, tested-marks, rows-straight}
+use Rattle.leg_tests.proofs.Termini.{own-there}
+use Rattle.leg_tests.proofs.Trials.{all-known, leg-of}
+use Rattle.leg_tests.specs.LegTests.{SoleLegs}
+use Rattle.sole_ways.specs.SoleWays.{mark, Marks, Asked, SoleLeg, Arriving, RowsTested}
+use Rattle.sole_ways.proofs.Marks.{mark-sound}
+use Rattle.turning.specs.Turned.{Turned}
+use Rattle.turning.proofs.Straight.{mirrored-twice, alike-back, connected-alike, set-back}
 use Rattle.search_cells.specs.Area.{Set}
-use Rattle.buffers.proofs.Kept.{kept-none, kept-then, kept-within}
-use Rattle.buffers.specs.Kept.{Kept}
-use Rattle.model.specs.Choice.{good}
+use Rattle.work_area.specs.Mirror.{mirror}
+use Rattle.buffers.proofs.Kept.{kept-then, kept-within}
 use Rattle.model.specs.Lines.{Connected}
 use Rattle.model.specs.Map.{Map}
 use lib.ListN.{length}
-use mathlib.Core.Path.{_≡_, refl, _∙_}
-use Prim.Native.Nat.{ℕ, _*_, _-_, _≤_, _<_}
+use mathlib.Core.Path.{refl, _∙_}
+use Prim.Native.Nat.{ℕ, _≤_, _<_}
 use native.Mathlib.Omega.{arith}
 use borrow.Author.Needs.{needs}
 use Rattle.leg_tests.proofs.test_legs.Statement.{statement}
 use Rattle.leg_tests.proofs.test_legs.Tie as tie
 
-abbrev Inv-loop : tie.InvT-loop
-Inv-loop work₀ lines stretch table₀ reach₀ j₀ work table reach j =
-    (j ≤ length stretch) × (length work ≡ length work₀) × (length table ≡ length table₀) ×
-    ((m : Map) → Set m lines work₀ → Connected m stretch → Noted m lines stretch table₀ →
-    Worked m lines work₀ work × Kept 0 (65 * length stretch) table₀ table × Noted m lines stretch table ×
-    ((i k : ℕ) → i < k → k ≤ j → Marks (Tested (good m) stretch i k) (mark table i k)))
+-- The lists of the lines that arrive are made, and the map is turned round.
+module _ (c : tie.After-turn-round) (m : Map) (set : Set m (c .before .before .before .before .before .before .before .before .before .before .before .before .before .args .lines) (c .before .before .before .before .before .before .before .before .before .before .before .before .before .args .work .now)) where
+  lists : let a = c .before .before .before .before .before .before .before .before .before .before .before .before .before .args in Arriving (mirror m) (a .lines) (a .stretch .now) (c .before .before .before .list-nexts .last .1 .1 .0)
+  lists =
+      let at-list-nexts = c .before .before .before in
+      let start = c .before .before .before .before .before .before .before .before .before .before .before .before .before in
+      arriving (start .args .stretch .now) (start .pre .0 .0) refl (at-list-nexts .before .before .before .before .list-firsts .ensures m set) (at-list-nexts .list-nexts .ensures m set)
 
-abbrev μ-loop : tie.MeasureT-loop
-μ-loop work₀ lines stretch table₀ reach₀ j₀ work table reach j = length stretch - j
+  turned : let a = c .before .before .before .before .before .before .before .before .before .before .before .before .before .args in Turned m (a .lines) (a .work .now) (c .turn-round .last .0)
+  turned = c .turn-round .ensures m set
 
-list-leaving-requires : tie.Need-list-leaving-requires Inv-loop μ-loop
-list-leaving-requires c κs = let q = c .before .before .before .before .pre .1 in (q .0, q .1)
+-- The rows are tested there.
+module _ (c : tie.After-test-rows) (m : Map) (set : Set m (c .before .before .before .before .before .before .before .before .before .before .before .before .before .before .before .before .before .before .before .args .lines) (c .before .before .before .before .before .before .before .before .before .before .before .before .before .before .before .before .before .before .before .args .work .now)) (joint : Connected m (c .before .before .before .before .before .before .before .before .before .before .before .before .before .before .before .before .before .before .before .args .stretch .now)) where
+  rows : let a = c .before .before .before .before .before .before .before .before .before .before .before .before .before .before .before .before .before .before .before .args in
+      RowsTested (mirror m) (a .lines) (a .stretch .now) (c .test-rows .result) (a .table .now) (c .test-rows .last .1 .1 .1 .1 .1 .0) (c .before .before .before .before .before .before .turn-round .last .0) (c .test-rows .last .0)
+  rows =
+      let at-turn-round = c .before .before .before .before .before .before in
+      c .test-rows .ensures .1 (mirror m) (turned at-turn-round m set .set) (connected-alike (alike-back (mirrored-twice m)) joint) (lists at-turn-round m set)
 
-note-alone-requires : tie.Need-note-alone-requires Inv-loop μ-loop
-note-alone-requires c κs =
-    let at-list-leaving = c .before .before .before .before in
-    let p = at-list-leaving .before .before .before .before .before .pre in
-    let q = p .1 in
-    let listed = at-list-leaving .list-leaving .ensures (q .0) (q .1) in
-    ((all-known (q .1) (q .2), p .0 .0, p .0 .1), (q .0, listed .worked .set .held, listed .leaving))
+slice-aggregate-list-firsts : tie.Need-slice-aggregate-list-firsts
+slice-aggregate-list-firsts c = search needs
 
-loop-holds : tie.Need-loop-holds Inv-loop μ-loop
-loop-holds c = (
-  omega arith,
-  refl,
-  refl,
-  λ m set joint noted. (record { set = set; kept = kept-none }, kept-none, noted, λ i k h l. absurd (omega arith)),
-)
+list-firsts-requires : tie.Need-list-firsts-requires
+list-firsts-requires c κs = let p = c .before .before .before .before .before .pre in ((all-known (p .1 .1) (p .1 .2), p .0 .0, refl), (p .1 .0, p .1 .1))
 
-add-j : tie.Need-add-j Inv-loop μ-loop
-add-j c = search needs
+slice-aggregate-list-nexts : tie.Need-slice-aggregate-list-nexts
+slice-aggregate-list-nexts c = search needs
 
-test-to-requires : tie.Need-test-to-requires Inv-loop μ-loop
-test-to-requires c κs =
-    let at-loop = c .before .before .before in
-    let at-note-alone = at-loop .before .before .before in
-    let at-list-leaving = at-note-alone .before .before .before .before .before in
-    let start = at-list-leaving .before .before .before .before .before in
-    let p = start .pre in
-    let q = p .1 in
-    let test = c .before .before .loop-test .taken in
-    let l = at-loop .loop in
-    let listed = at-list-leaving .list-leaving .ensures (q .0) (q .1) in
-    let set = listed .worked .set in
-    let k = l .inv .3 (q .0) set (q .2) (at-note-alone .note-alone .ensures .1 (q .0) (set .held) (listed .leaving)) in
-    ((omega arith, omega (arith, test), p .0 .0, omega (arith, p .0 .1, l .inv .2, at-note-alone .note-alone .kept .1 .1 .1 .0)), (q .0, k .0 .set, q .2, k .2))
+list-nexts-requires : tie.Need-list-nexts-requires
+list-nexts-requires c κs = search needs
 
-loop-less : tie.Need-loop-less Inv-loop μ-loop
-loop-less c = omega (arith, c .before .before .before .before .before .before .before .loop-test .taken)
+turn-round-requires : tie.Need-turn-round-requires
+turn-round-requires c κs = search needs
 
-loop-again : tie.Need-loop-again Inv-loop μ-loop
-loop-again c =
-    let at-test-to = c .before .before .before .before in
-    let at-loop-test = at-test-to .before .before .before in
-    let at-loop = at-loop-test .before in
-    let start = at-loop .before .before .before .before .before .before .before .before .before .before .before .before .before in (
-      omega (arith, at-loop-test .loop-test .taken),
-      at-test-to .test-to .kept .0 ∙ at-loop .loop .inv .1,
-      at-test-to .test-to .kept .1 .1 .1 .1 .1 .0 ∙ at-loop .loop .inv .2,
-      λ m set joint noted.
-          let test = at-loop-test .loop-test .taken in
-          let k = at-loop .loop .inv .3 m set joint noted in
-          let column = at-test-to .test-to .ensures m (k .0 .set) joint (k .2) in (
-            worked-then (k .0) (column .worked),
-            kept-then (k .1) (kept-within (omega arith) (omega (arith, test)) (column .kept .kept)),
-            noted-kept m (start .args .lines) (start .args .stretch .now) (omega arith) (column .kept) (k .2),
-            columns-on (start .args .stretch .now) (start .pre .0 .0) (omega (arith, test)) column (k .3),
-          ),
+slice-aggregate-test-rows : tie.Need-slice-aggregate-test-rows
+slice-aggregate-test-rows c = search needs
+
+test-rows-requires : tie.Need-test-rows-requires
+test-rows-requires c κs =
+    let at-turn-round = c .before .before .before .before .before in
+    let p = at-turn-round .before .before .before .before .before .before .before .before .before .before .before .before .before .pre in
+    let q = p .1 in (
+      (p .0 .0, p .0 .1, all-known (q .1) (q .2), p .0 .2),
+      (mirror (q .0), turned at-turn-round (q .0) (q .1) .set, connected-alike (alike-back (mirrored-twice (q .0))) (q .2), lists at-turn-round (q .0) (q .1)),
     )
 
-same-length : tie.Need-same-length Inv-loop μ-loop
-same-length c = c .before .loop .inv .1 ∙ c .before .before .before .before .before .before .before .before .before .list-leaving .kept .0
+turn-round-requires-2 : tie.Need-turn-round-requires-2
+turn-round-requires-2 c κs =
+    let at-test-rows = c .before .before .before .before .before in
+    let q = at-test-rows .before .before .before .before .before .before .before .before .before .before .before .before .before .before .before .before .before .before .before .pre .1 in
+    (mirror (q .0), rows at-test-rows (q .0) (q .1) (q .2) .worked .set)
 
-same-length-2 : tie.Need-same-length-2 Inv-loop μ-loop
-same-length-2 c = c .before .loop .inv .2 ∙ c .before .before .before .before .note-alone .kept .1 .1 .1 .0
+sift-legs-requires : tie.Need-sift-legs-requires
+sift-legs-requires c κs =
+    let at-test-rows = c .before .before .before .before .before .before .before .before .before .before in
+    let start = at-test-rows .before .before .before .before .before .before .before .before .before .before .before .before .before .before .before .before .before .before .before in
+    let p = start .pre in
+    let q = p .1 in
+    let r = rows at-test-rows (q .0) (q .1) (q .2) in
+    let back = c .before .before .before .before .turn-round2 .ensures (mirror (q .0)) (r .worked .set) in (
+      (p .0 .0, omega (arith, p .0 .1, r .kept .same)),
+      (
+        q .0,
+        set-back (q .1 .held .formed) (back .set),
+        q .2,
+        λ i j h l one. mark-sound _ (rows-straight (q .0) (at-test-rows .test-rows .result) r i j h l) one .1,
+      ),
+    )
 
-returns : tie.Need-returns Inv-loop μ-loop
-returns c m set joint =
-    let at-note-alone = c .before .before .before .before in
-    let listed = at-note-alone .before .before .before .before .before .list-leaving .ensures m set in
-    let noted = at-note-alone .note-alone .ensures in
-    let k = c .before .loop .inv .3 m (listed .worked .set) joint (noted .1 m (listed .worked .set .held) (listed .leaving)) in
-    record {
-      tested = λ i j h l. k .3 i j h (omega (arith, c .loop-test .left));
-      kept = kept-then (noted .0) (k .1);
-      worked = worked-then (listed .worked) (k .0);
-    }
+same-length : tie.Need-same-length
+same-length c = search needs
+
+same-length-2 : tie.Need-same-length-2
+same-length-2 c = search needs
+
+returns : tie.Need-returns
+returns c =
+    let at-test-rows = c .before .before .before .before .before .before .before .before .before .before .before .before .before .before .before in
+    let start = at-test-rows .before .before .before .before .before .before .before .before .before .before .before .before .before .before .before .before .before .before .before in
+    let a = start .args in
+    let p = start .pre .0 in
+    let s = a .stretch .now in
+    let made = at-test-rows .test-rows .result in (
+      at-test-rows .test-rows .ensures .0,
+      λ m set joint.
+          let r = rows at-test-rows m set joint in
+          let there = turned (at-test-rows .before .before .before .before .before .before) m set in
+          let back = c .before .before .before .before .before .before .before .before .before .turn-round2 .ensures (mirror m) (r .worked .set) in
+          let now-set = set-back (set .held .formed) (back .set) in
+          let straight = rows-straight m made r in
+          let k = c .before .before .before .before .sift-legs .ensures m now-set joint (λ i j h l one. mark-sound _ (straight i j h l) one .1) in
+          let known = all-known set joint in
+          record {
+            tested = λ i j h l.
+                tested-marks s made i j h l
+                (λ g. good-sole (leg-of set joint (p .0) h l) (own-there (set .held) s known j (omega arith) l .1) g)
+                (straight i j h l) (k .tested i j h l);
+            kept = kept-then (r .kept) (k .kept);
+            set = k .worked .set;
+            area = kept-then (there .kept)
+                (kept-then (kept-within (omega arith) (omega arith) (r .worked .kept))
+                (kept-then (back .kept) (kept-within (omega arith) (omega arith) (k .worked .kept))));
+          },
+    )
 
 pub test-legs-spec : {M : Type 1} → statement M
 test-legs-spec =
     tie.close
     (tie.spec
-    Inv-loop
-    μ-loop
-    list-leaving-requires
-    note-alone-requires
-    loop-holds
-    add-j
-    test-to-requires
-    loop-less
-    loop-again
+    slice-aggregate-list-firsts
+    list-firsts-requires
+    slice-aggregate-list-nexts
+    list-nexts-requires
+    turn-round-requires
+    slice-aggregate-test-rows
+    test-rows-requires
+    turn-round-requires-2
+    sift-legs-requires
     same-length
     same-length-2
     returns)

@@ -1,7 +1,7 @@
 -- `measured_write_point` meets its contract: what `write_point` answers, as a number.
 use borrow.Author.Needs.{needs}
 use mathlib.Core.Path.{_∙_, ap, sym}
-use Rattle.measured.specs.Refusal.{writtenNumber}
+use Rattle.measured.specs.Refusal.{pointWrittenNumber}
 use Rattle.measured.proofs.measured_write_point.Statement.{statement}
 use Rattle.measured.proofs.measured_write_point.Tie as tie
 
@@ -27,8 +27,8 @@ same-length-2 : tie.Need-same-length-2
 same-length-2 c = search needs
 
 returns : tie.Need-returns
-unfolding writtenNumber
-returns c = record { answer = c .before .before .before .before .before .before .before .write-point .result; call = c .before .before .before .before .before .before .before .write-point .ensures; same = sym (ap writtenNumber (c .before .count .given .1)) }
+unfolding pointWrittenNumber
+returns c = record { answer = c .before .before .before .before .before .before .before .write-point .result; call = c .before .before .before .before .before .before .before .write-point .ensures; same = sym (ap pointWrittenNumber (c .before .count .given .1)) }
 
 same-length-3 : tie.Need-same-length-3
 same-length-3 c = search needs
@@ -37,9 +37,9 @@ same-length-4 : tie.Need-same-length-4
 same-length-4 c = search needs
 
 returns-2 : tie.Need-returns-2
-unfolding writtenNumber
+unfolding pointWrittenNumber
 returns-2 c =
-    record { answer = c .before .before .before .before .before .before .before .before .write-point .result; call = c .before .before .before .before .before .before .before .before .write-point .ensures; same = c .number-of .ensures ∙ sym (ap writtenNumber (c .before .before .why .given .1)) }
+    record { answer = c .before .before .before .before .before .before .before .before .write-point .result; call = c .before .before .before .before .before .before .before .before .write-point .ensures; same = c .number-of .ensures ∙ sym (ap pointWrittenNumber (c .before .before .why .given .1)) }
 
 pub measured-write-point-spec : {M : Type 1} → statement M
 measured-write-point-spec =

@@ -12,7 +12,9 @@ use Rattle.model.specs.Reading.{Leg, any, matching, Allowed, Only, Unrea
 use Rattle.model.specs.Choice.{Good, good, final, Preferred, Chosen}
 use Rattle.model.specs.Refusal.{row}
 use Rattle.model.specs.Span.{unflagged}
-use Rattle.model.specs.Outcome.{LegsRead, ReadOutcome, read, ReadEnd, ReadOn, ReadParsed, Reads, WriteOutcome, written, WriteBy, WriteOn, Writes}
+use Rattle.model.specs.Outcome.{LegsRead, ReadOutcome, read, ReadEnd, ReadOn, ReadParsed, Reads, WriteOutcome, written, WriteOn, Writes}
+use Rattle.model.proofs.LegTests.{good-filled}
+use Rattle.model.proofs.BestFound.{best-of-all}
 use Rattle.model.proofs.Joining.{first-known}
 use Rattle.model.proofs.Cases.Computing.{computing}
 use Rattle.model.proofs.Cases.Encoded.{encoded, encoding}
@@ -94,13 +96,13 @@ north-points =
     chosen northward (0 ∷ 2 ∷ 3 ∷ []) ((0 ∷ 2 ∷ 3 ∷ []) ∷ []) (record { usable = final north-lines; whole = refl })
     (λ c. Preferred.fewer (omega arith), (λ c. Preferred.fewer (omega arith), (λ c. Preferred.fewer (omega arith), (λ c. Preferred.same, tt))))
 
-pub resolved-written : WriteOn barred (stretchOf (0 ∷ 1 ∷ []) 0 0) 16 (written twoPoints)
+pub resolved-written : WriteOn barred (stretchOf (0 ∷ 1 ∷ []) 0 0) 3 16 (written twoPoints 3 0)
 unfolding computing
-resolved-written = WriteBy.accepted two-points (omega arith)
+resolved-written = best-of-all (good-filled barred) two-points (omega arith)
 
-pub north-written : WriteOn northward (stretchOf (0 ∷ 2 ∷ 3 ∷ []) 0 0) 16 (written twoPoints)
+pub north-written : WriteOn northward (stretchOf (0 ∷ 2 ∷ 3 ∷ []) 0 0) 6 16 (written twoPoints 6 0)
 unfolding computing
-north-written = WriteBy.accepted north-points (omega arith)
+north-written = best-of-all (good-filled northward) north-points (omega arith)
 
 pub resolved-read : ReadParsed barred (parse twoPoints) 2 (read (0 ∷ 1 ∷ []) none none)
 unfolding computing
@@ -128,8 +130,8 @@ stretches = record { contains = refl; gap-first = refl; other-turns = refl }
 
 -- Whole calls: 21 before 9, and 23 before what either call asks of a map. The map's last pair is of lines 3 and 0, which do not meet.
 pub record Calls : Type 0 where
-  pub stretch-refused : Writes (encoded barred) (stretchOf (0 ∷ 2 ∷ 3 ∷ []) 1_000 1_000) 14_336 0 (WriteOutcome.refused (row 21))
-  pub map-refused : Writes (encoded (ridgeWith (turn 0 2 ∷ turn 3 0 ∷ []))) (stretchOf [] 0 0) 14_336 0 (WriteOutcome.refused (row 23)) ×
+  pub stretch-refused : Writes (encoded barred) (stretchOf (0 ∷ 2 ∷ 3 ∷ []) 1_000 1_000) 0 14_336 0 (WriteOutcome.refused (row 21))
+  pub map-refused : Writes (encoded (ridgeWith (turn 0 2 ∷ turn 3 0 ∷ []))) (stretchOf [] 0 0) 0 14_336 0 (WriteOutcome.refused (row 23)) ×
       Reads (encoded (ridgeWith (turn 0 2 ∷ turn 3 0 ∷ []))) [] 14_336 0 (ReadOutcome.refused (row 23))
   pub area-short : Reads (encoded barred) twoPoints 14_335 2 (ReadOutcome.refused (row 1))
 

@@ -28,21 +28,21 @@ hosted refusal place lines =
 pub record CallCases : Type 0 where
   -- A work area of 14,335 is refusal 1 for every call, one of 14,336 is not; then the map (2), then the stretch (7) or the reference (12).
   pub short-read : (mb ref : List ℕ) (room : ℕ) → Reads mb ref 14_335 room (ReadOutcome.refused (row 1))
-  pub short-write : (mb : List ℕ) (s : Stretch) (room : ℕ) → Writes mb s 14_335 room (WriteOutcome.refused (row 1))
-  pub map-first : Reads [] [] 14_336 0 (ReadOutcome.refused (row 2)) × Writes [] nowhere 14_336 0 (WriteOutcome.refused (row 2))
-  pub then-the-rest : Reads mapBytes [] 14_336 0 (ReadOutcome.refused (row 12)) × Writes mapBytes nowhere 14_336 0 (WriteOutcome.refused (row 7))
+  pub short-write : (mb : List ℕ) (s : Stretch) (tests room : ℕ) → Writes mb s tests 14_335 room (WriteOutcome.refused (row 1))
+  pub map-first : Reads [] [] 14_336 0 (ReadOutcome.refused (row 2)) × Writes [] nowhere 0 14_336 0 (WriteOutcome.refused (row 2))
+  pub then-the-rest : Reads mapBytes [] 14_336 0 (ReadOutcome.refused (row 12)) × Writes mapBytes nowhere 0 14_336 0 (WriteOutcome.refused (row 7))
   -- "The result stands first in its buffer, the rest unchanged"; "a refusal leaves the byte and line buffers unchanged".
   pub places : placed (1 ∷ 2 ∷ []) (7 ∷ 8 ∷ 9 ∷ []) ≡ 1 ∷ 2 ∷ 9 ∷ []
   pub line-buffers : map (λ o. linesAfter o (7 ∷ 8 ∷ 9 ∷ [])) (read (1 ∷ []) (span 2 3) (span 4 5) ∷ ReadOutcome.refused (row 20) ∷ []) ≡
       (1 ∷ 8 ∷ 9 ∷ []) ∷ (7 ∷ 8 ∷ 9 ∷ []) ∷ []
-  pub byte-buffers : map (λ o. bytesAfter o (7 ∷ 8 ∷ 9 ∷ [])) (written (1 ∷ []) ∷ WriteOutcome.refused (row 11) ∷ []) ≡
+  pub byte-buffers : map (λ o. bytesAfter o (7 ∷ 8 ∷ 9 ∷ [])) (written (1 ∷ []) 3 0 ∷ WriteOutcome.refused (row 11) ∷ []) ≡
       (1 ∷ 8 ∷ 9 ∷ []) ∷ (7 ∷ 8 ∷ 9 ∷ []) ∷ []
   -- "The first 14,336 of the work area are zero and the rest unchanged; refusal 1 changes nothing."
   pub zeroed : cleared (replicate 14_336 7 ++ 8 ∷ 9 ∷ []) ≡ replicate 14_336 0 ++ 8 ∷ 9 ∷ []
   pub not-zeroed : cleared (replicate 14_335 7) ≡ replicate 14_335 7
   -- Answers count.
   pub read-count : ReadAnswers (Reader.Read 2 (span 2 3) (span 4 5)) (read (0 ∷ 1 ∷ []) (span 2 3) (span 4 5))
-  pub write-count : WriteAnswers (Writer.Written 3) (written (7 ∷ 8 ∷ 9 ∷ []))
+  pub write-count : WriteAnswers (Writer.Written 3 9 1) (written (7 ∷ 8 ∷ 9 ∷ []) 9 1)
   -- "Each line number as four bytes, low byte first."
   pub line-numbers : words (0x02 ∷ 0x01 ∷ 0 ∷ 0 ∷ 0x03 ∷ 0 ∷ 0x04 ∷ 0x05 ∷ 9 ∷ 9 ∷ 9 ∷ []) ≡ 258 ∷ 84_148_227 ∷ []
   pub number-bytes : wordBytes (258 ∷ 84_148_227 ∷ []) ≡ 0x02 ∷ 0x01 ∷ 0 ∷ 0 ∷ 0x03 ∷ 0 ∷ 0x04 ∷ 0x05 ∷ []
@@ -58,12 +58,12 @@ pub record CallCases : Type 0 where
       hosted 19 0 0 ∷ hosted 17 3 0 ∷ hosted 0 0 2 ∷ []
   pub host-spans : hostRead (read (7 ∷ []) (span 2 3) (span 4 5)) ≡
       record { refusal = 0; place = 0; lines = 1; posLeast = 2; posGreatest = 3; negLeast = 4; negGreatest = 5 }
-  pub host-written : map hostWritten (WriteOutcome.refused (row 10) ∷ written (7 ∷ 8 ∷ 9 ∷ []) ∷ []) ≡
-      record { refusal = 10; bytes = 0 } ∷ record { refusal = 0; bytes = 3 } ∷ []
+  pub host-written : map hostWritten (WriteOutcome.refused (row 10) ∷ written (7 ∷ 8 ∷ 9 ∷ []) 9 1 ∷ []) ≡
+      record { refusal = 10; bytes = 0; tests = 0; excess = 0 } ∷ record { refusal = 0; bytes = 3; tests = 9; excess = 1 } ∷ []
   pub host-lines : map (λ o. hostLinesAfter o (7 ∷ 7 ∷ 7 ∷ 7 ∷ 7 ∷ []))
       (read (258 ∷ []) (span 2 3) (span 4 5) ∷ ReadOutcome.refused (rowAt 16 0) ∷ []) ≡
       (2 ∷ 1 ∷ 0 ∷ 0 ∷ 7 ∷ []) ∷ (7 ∷ 7 ∷ 7 ∷ 7 ∷ 7 ∷ []) ∷ []
-  pub host-bytes : map (λ o. hostBytesAfter o (7 ∷ 8 ∷ 9 ∷ [])) (written (1 ∷ []) ∷ WriteOutcome.refused (row 11) ∷ []) ≡
+  pub host-bytes : map (λ o. hostBytesAfter o (7 ∷ 8 ∷ 9 ∷ [])) (written (1 ∷ []) 3 0 ∷ WriteOutcome.refused (row 11) ∷ []) ≡
       (1 ∷ 8 ∷ 9 ∷ []) ∷ (7 ∷ 8 ∷ 9 ∷ []) ∷ []
 
 pub call-cases : CallCases
@@ -71,7 +71,7 @@ unfolding computing
 call-cases =
     record {
       short-read = λ mb ref room. refl;
-      short-write = λ mb s room. refl;
+      short-write = λ mb s tests room. refl;
       map-first = (refl, refl);
       then-the-rest = (refl, refl);
       places = refl;

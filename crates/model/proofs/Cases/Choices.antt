@@ -8,7 +8,9 @@ use lib.ListN.{length}
 use Rattle.model.specs.Map.{Map}
 use Rattle.model.specs.Reading.{Leg, Several}
 use Rattle.model.specs.Choice.{legOf, Good, good, Usable, final, before, MoreFirst, Preferred, Chosen, firstLeg}
-use Rattle.model.specs.Outcome.{written, WriteBy, WriteOn}
+use Rattle.model.specs.Outcome.{written, WriteOn}
+use Rattle.model.proofs.LegTests.{good-filled}
+use Rattle.model.proofs.BestFound.{best-of-all}
 use Rattle.model.proofs.Cases.Computing.{computing}
 use Rattle.model.proofs.Cases.Ways.{finding, connects}
 use Rattle.model.proofs.Legs.{not-several}
@@ -116,9 +118,9 @@ bypassBytes =
     0x0B ∷ 0x00 ∷ 0xB6 ∷ 0x0B ∷ 0xFF ∷ 0x49 ∷ 0xF5 ∷ 0x15 ∷ 0x88 ∷ 0x03 ∷ 0x07 ∷ 0xD0 ∷ 0xFE ∷ 0x0C ∷ 0x1E ∷ 0x6C ∷ 0x00 ∷ 0x01 ∷ 0xF4 ∷ 0xFE ∷ 0x0C ∷ 0x1E
     ∷ 0x7A ∷ 0x40 ∷ 0x80 ∷ []
 
-pub bypass-written : WriteOn bypass (record { lines = 0 ∷ 1 ∷ 2 ∷ []; pos = 500; neg = 250 }) 25 (written bypassBytes)
+pub bypass-written : WriteOn bypass (record { lines = 0 ∷ 1 ∷ 2 ∷ []; pos = 500; neg = 250 }) 6 25 (written bypassBytes 6 0)
 unfolding computing
-bypass-written = WriteBy.accepted most-lines-first (omega arith)
+bypass-written = best-of-all (good-filled bypass) most-lines-first (omega arith)
 
 -- "The fewest points": 0, 1 alone takes two.
 both-lines : Good bypass true (0 ∷ 1 ∷ [])

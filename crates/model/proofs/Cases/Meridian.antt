@@ -1,7 +1,7 @@
 -- "No stretch across it can be written, because the longitude difference is taken plainly. .. From 17,999,998 to -18,000,000 the difference is 2" (paper 02,
 -- W2): stretches across the 180th meridian, which were refused with 10, are written and read back.
 use Prim.Native.Nat.{ℕ, _≤_}
-use mathlib.Core.Path.{_≡_, refl}
+use mathlib.Core.Path.{_≡_, refl, sym, subst}
 use mathlib.Core.Bool.{true}
 use mathlib.Core.List.{List, [], _∷_}
 use native.Mathlib.Omega.{arith}
@@ -13,19 +13,23 @@ use Rattle.model.specs.Lines.{lineAt, total}
 use Rattle.model.specs.Stretch.{Stretch, remains, checkStretch, stretchOf}
 use Rattle.model.specs.Reference.{absent, Reference, parsed, parse}
 use Rattle.model.specs.Reading.{Leg, matching, Only, joined, bannedMeeting}
-use Rattle.model.specs.Choice.{Good, good, final, Usable, before, Choice, Preferred, Chosen, stretchBytes}
+use Rattle.model.specs.Choice.{Good, good, final, Usable, before, Preferred, Chosen, stretchBytes}
+use Rattle.model.specs.LegTests.{legsBefore, legCount, NoChoice}
 use Rattle.model.specs.Locate.{located, no-node, locate}
 use Rattle.model.specs.Refusal.{row, rowAt}
 use Rattle.model.specs.Span.{unflagged}
 use Rattle.model.specs.Work.{workLength}
 use Rattle.model.specs.Outcome.{LegsRead, ReadOutcome, read, ReadEnd, ReadOn, Reads, WriteOutcome, written, WriteBy, Writes}
-use Rattle.model.specs.AsBefore.{plainGood, PlainWrites}
+use Rattle.model.specs.AsBefore.{plainGood, plainBytes, PlainWrites}
+use Rattle.model.proofs.Joining.{filled}
 use Rattle.model.proofs.Outcomes.{on-reads}
+use Rattle.model.proofs.LegTests.{Filled, good-filled, tests-all}
+use Rattle.model.proofs.BestFound.{none-of-all, best-of-all, on-all-tests}
 use Rattle.model.proofs.Cases.Computing.{computing}
 use Rattle.model.proofs.Cases.Encoded.{encoded, encoding}
 use Rattle.model.proofs.Cases.Ways.{finding, connects}
 use Rattle.model.proofs.Cases.Legs.{sole}
-use Rattle.model.proofs.Cases.Cuts.{cutting, each-cut, chosen, no-choice, passed}
+use Rattle.model.proofs.Cases.Cuts.{cutting, chosen, no-choice-by, no-choice, passed}
 use Rattle.model.proofs.Cases.Tie.{none}
 use Rattle.model.proofs.Cases.Ridge.{line, road, point, leg}
 use Rattle.model.proofs.Cases.Fields.{equator}
@@ -71,12 +75,14 @@ abbrev pub overBytes : List ℕ
 overBytes = 0x0B ∷ 0x7F ∷ 0xFE ∷ 0x2E ∷ 0xF4 ∷ 0x0D ∷ 0xA7 ∷ 0x1B ∷ 0x68 ∷ 36 ∷ 0x07 ∷ 0xD0 ∷ 0 ∷ 0 ∷ 0x1B ∷ 0x18 ∷ []
 
 -- "No stretch across it can be written, because the longitude difference is taken plainly": some leg goes over the meridian, however the stretch is cut.
-refused-legs : (lss : List (List ℕ)) → Choice (plainGood islands) (0 ∷ 1 ∷ 2 ∷ []) lss → ⊥
+plain-filled : Filled (plainGood islands)
+plain-filled at last ls g = filled (g .only .reading .allowed .connected)
+
+refused-legs : NoChoice (plainGood islands) (0 ∷ 1 ∷ 2 ∷ [])
 unfolding computing cutting
 refused-legs lss c =
-    each-cut islands (plainGood islands) (λ at last ls g. g .only .reading .allowed .connected) (0 ∷ 1 ∷ 2 ∷ [])
-    (λ lss. Choice (plainGood islands) (0 ∷ 1 ∷ 2 ∷ []) lss → ⊥)
-    (λ c. one-by-one (c .usable), (λ c. first (c .usable), (λ c. second (c .usable), (λ c. whole (c .usable), tt)))) lss c c
+    no-choice-by (plainGood islands) plain-filled (0 ∷ 1 ∷ 2 ∷ [])
+    (λ c. one-by-one (c .usable), (λ c. first (c .usable), (λ c. second (c .usable), (λ c. whole (c .usable), tt)))) lss c
   where
     whole : Usable (plainGood islands) 0 ((0 ∷ 1 ∷ 2 ∷ []) ∷ []) → ⊥
     whole u = omega (arith, passed u .fit .lon .back)
@@ -90,9 +96,12 @@ refused-legs lss c =
     one-by-one : Usable (plainGood islands) 0 ((0 ∷ []) ∷ (1 ∷ []) ∷ (2 ∷ []) ∷ []) → ⊥
     one-by-one (before g (before h u)) = omega (arith, h .fit .lon .back)
 
-pub was-refused : (work room : ℕ) → workLength ≤ work → PlainWrites islandBytes road-over work room (WriteOutcome.refused (row 10))
+pub was-refused : (tests work room : ℕ) → 6 ≤ tests → workLength ≤ work → PlainWrites islandBytes road-over tests work room (WriteOutcome.refused (row 10))
 unfolding computing
-was-refused work room full = rw (le-ltb work workLength full) (WriteBy.no-choice refused-legs)
+was-refused tests work room all full =
+    rw (le-ltb work workLength full)
+    (subst (λ (made : ℕ). WriteBy (plainGood islands) (λ lss. plainBytes islands lss road-over) (0 ∷ 1 ∷ 2 ∷ []) made room (WriteOutcome.refused (row 10)))
+    (sym (tests-all 3 tests all)) (none-of-all plain-filled refused-legs))
 
 -- Now it is written with two points.
 abbrev over-leg : Leg
@@ -112,9 +121,11 @@ over-chosen =
     chosen islands (0 ∷ 1 ∷ 2 ∷ []) ((0 ∷ 1 ∷ 2 ∷ []) ∷ []) (record { usable = final over-good; whole = refl })
     (λ c. Preferred.fewer (omega arith), (λ c. Preferred.fewer (omega arith), (λ c. Preferred.fewer (omega arith), (λ c. Preferred.same, tt))))
 
-pub is-written : (work room : ℕ) → workLength ≤ work → 16 ≤ room → Writes islandBytes road-over work room (written overBytes)
+pub is-written : (tests work room : ℕ) → 6 ≤ tests → workLength ≤ work → 16 ≤ room → Writes islandBytes road-over tests work room (written overBytes 6 0)
 unfolding computing
-is-written work room full enough = rw (le-ltb work workLength full) (WriteBy.accepted over-chosen (omega arith))
+is-written tests work room all full enough =
+    on-all-tests islandBytes road-over {m = islands} {r = road-over} tests work room _ full refl refl all
+    (best-of-all (good-filled islands) over-chosen (omega arith))
 
 -- And read back.
 pub is-read : (work room : ℕ) → workLength ≤ work → 3 ≤ room → Reads islandBytes overBytes work room (read (0 ∷ 1 ∷ 2 ∷ []) none none)
@@ -152,7 +163,7 @@ module _ (from to : ℕ) where
       chosen (across from to) (0 ∷ []) ((0 ∷ []) ∷ []) (record { usable = final (record { fit = fit; only = across-only }); whole = refl })
       (λ c. Preferred.same, tt)
 
-  no-choice-across : (DifferencesFit (equator from) (equator to) → ⊥) → (lss : List (List ℕ)) → Choice (good (across from to)) (0 ∷ []) lss → ⊥
+  no-choice-across : (DifferencesFit (equator from) (equator to) → ⊥) → NoChoice (good (across from to)) (0 ∷ [])
   unfolding computing cutting
   no-choice-across far = no-choice (across from to) (0 ∷ []) (λ c. far (passed (c .usable) .fit), tt)
 
@@ -161,12 +172,20 @@ module _ (from to : ℕ) where
   whole-line = refl
 
   module _ (decodes : decode (encoded (across from to)) ≡ whole (across from to)) (work room : ℕ) (full : workLength ≤ work) where
-    across-written : DifferencesFit (equator from) (equator to) → length (stretchBytes (across from to) ((0 ∷ []) ∷ []) line-across) ≤ room →
-        Writes (encoded (across from to)) line-across work room (written (stretchBytes (across from to) ((0 ∷ []) ∷ []) line-across))
-    across-written fit enough = rw (le-ltb work workLength full, decodes, whole-line) (WriteBy.accepted (across-chosen fit) enough)
+    across-written : (tests : ℕ) → 1 ≤ tests → DifferencesFit (equator from) (equator to) →
+        length (stretchBytes (across from to) ((0 ∷ []) ∷ []) line-across) ≤ room →
+        Writes (encoded (across from to)) line-across tests work room (written (stretchBytes (across from to) ((0 ∷ []) ∷ []) line-across) 1 0)
+    unfolding legCount legsBefore
+    across-written tests all fit enough =
+        on-all-tests (encoded (across from to)) line-across tests work room _ full decodes whole-line all
+        (best-of-all (good-filled (across from to)) (across-chosen fit) enough)
 
-    across-refused : (DifferencesFit (equator from) (equator to) → ⊥) → Writes (encoded (across from to)) line-across work room (WriteOutcome.refused (row 10))
-    across-refused far = rw (le-ltb work workLength full, decodes, whole-line) (WriteBy.no-choice (no-choice-across far))
+    across-refused : (tests : ℕ) → 1 ≤ tests → (DifferencesFit (equator from) (equator to) → ⊥) →
+        Writes (encoded (across from to)) line-across tests work room (WriteOutcome.refused (row 10))
+    unfolding legCount legsBefore
+    across-refused tests all far =
+        on-all-tests (encoded (across from to)) line-across tests work room _ full decodes whole-line all
+        (none-of-all (good-filled (across from to)) (no-choice-across far))
 
     across-read : (bytes : List ℕ) (code difference : ℕ) → parse bytes ≡ parsed (acrossReference code difference) →
         locate (across from to) (acrossReference code difference) ≡ located (across-leg ∷ []) → 1 ≤ room →
@@ -193,14 +212,14 @@ westward = across 0 35_999_998
 
 -- It is written so and read back.
 pub record Across (m : Map) (bytes : List ℕ) : Type 0 where
-  pub writes : (work room : ℕ) → workLength ≤ work → 16 ≤ room → Writes (encoded m) line-across work room (written bytes)
+  pub writes : (tests work room : ℕ) → 1 ≤ tests → workLength ≤ work → 16 ≤ room → Writes (encoded m) line-across tests work room (written bytes 1 0)
   pub reads : (work room : ℕ) → workLength ≤ work → 1 ≤ room → Reads (encoded m) bytes work room (read (0 ∷ []) none none)
 
 pub two-eastward : Across eastward (acrossBytes 0x7F 0xFF 0xFF 0x00 0x02)
 unfolding computing encoding
 two-eastward =
     record {
-      writes = λ work room full enough. across-written 35_999_998 0 refl work room full (omega arith) enough;
+      writes = λ tests work room all full enough. across-written 35_999_998 0 refl work room full tests all (omega arith) enough;
       reads = λ work room full enough. across-read 35_999_998 0 refl work room full (acrossBytes 0x7F 0xFF 0xFF 0x00 0x02) 0x7F_FF_FF 2 refl refl enough;
     }
 
@@ -208,7 +227,7 @@ pub two-westward : Across westward (acrossBytes 0x80 0x00 0x00 0xFF 0xFE)
 unfolding computing encoding
 two-westward =
     record {
-      writes = λ work room full enough. across-written 0 35_999_998 refl work room full (omega arith) enough;
+      writes = λ tests work room all full enough. across-written 0 35_999_998 refl work room full tests all (omega arith) enough;
       reads = λ work room full enough. across-read 0 35_999_998 refl work room full (acrossBytes 0x80 0x00 0x00 0xFF 0xFE) 0x80_00_00 0xFFFE refl refl enough;
     }
 
@@ -223,10 +242,10 @@ module _ (work room : ℕ) (full : workLength ≤ work) where
   past-the-node = across-nowhere 35_999_998 0 refl work room full (acrossBytes 0x7F 0xFF 0xFF 0x00 0x03) 0x7F_FF_FF 3 refl refl
 
   -- One past the ends of 16 bits: from 17,999,998 32,768 eastward, and from -17,967,235 32,769 westward.
-  pub too-far-east : Writes (encoded (across 35_999_998 32_766)) line-across work room (WriteOutcome.refused (row 10))
+  pub too-far-east : (tests : ℕ) → 1 ≤ tests → Writes (encoded (across 35_999_998 32_766)) line-across tests work room (WriteOutcome.refused (row 10))
   unfolding computing encoding
-  too-far-east = across-refused 35_999_998 32_766 refl work room full λ f. omega (arith, f .lon .on)
+  too-far-east tests all = across-refused 35_999_998 32_766 refl work room full tests all λ f. omega (arith, f .lon .on)
 
-  pub too-far-west : Writes (encoded (across 32_765 35_999_996)) line-across work room (WriteOutcome.refused (row 10))
+  pub too-far-west : (tests : ℕ) → 1 ≤ tests → Writes (encoded (across 32_765 35_999_996)) line-across tests work room (WriteOutcome.refused (row 10))
   unfolding computing encoding
-  too-far-west = across-refused 32_765 35_999_996 refl work room full λ f. omega (arith, f .lon .back)
+  too-far-west tests all = across-refused 32_765 35_999_996 refl work room full tests all λ f. omega (arith, f .lon .back)

@@ -115,10 +115,10 @@ pub record Pins : Type 0 where
   -- Bytes beyond the last whole four say no line.
   pub whole-fours : map words ((7 ∷ 0 ∷ 0 ∷ 0 ∷ 1 ∷ []) ∷ (7 ∷ 0 ∷ 0 ∷ 0 ∷ 1 ∷ 0 ∷ []) ∷ (7 ∷ 0 ∷ 0 ∷ 0 ∷ 1 ∷ 0 ∷ 0 ∷ []) ∷ []) ≡ replicate 3 (7 ∷ [])
   -- The number of each part is that of the call.
-  pub map-rows : Reads clashing [] 14_336 0 (ReadOutcome.refused (row 6)) × Writes clashing (stretchOf [] 0 0) 14_336 0 (WriteOutcome.refused (row 6))
-  pub stretch-rows : Writes mapBytes (stretchOf (0 ∷ 2 ∷ 1 ∷ []) 0 0) 14_336 0 (WriteOutcome.refused (row 8)) ×
-      Writes mapBytes (stretchOf (3 ∷ 0 ∷ 1 ∷ []) 0 0) 14_336 0 (WriteOutcome.refused (row 8)) ×
-      Writes mapBytes (stretchOf (0 ∷ []) 1_000 0) 14_336 0 (WriteOutcome.refused (row 9))
+  pub map-rows : Reads clashing [] 14_336 0 (ReadOutcome.refused (row 6)) × Writes clashing (stretchOf [] 0 0) 0 14_336 0 (WriteOutcome.refused (row 6))
+  pub stretch-rows : Writes mapBytes (stretchOf (0 ∷ 2 ∷ 1 ∷ []) 0 0) 0 14_336 0 (WriteOutcome.refused (row 8)) ×
+      Writes mapBytes (stretchOf (3 ∷ 0 ∷ 1 ∷ []) 0 0) 0 14_336 0 (WriteOutcome.refused (row 8)) ×
+      Writes mapBytes (stretchOf (0 ∷ []) 1_000 0) 0 14_336 0 (WriteOutcome.refused (row 9))
   pub form-rows : Reads mapBytes (0x0A ∷ replicate 15 0) 14_336 0 (ReadOutcome.refused (row 13))
   -- Six bytes are no multiple of four.
   pub six-bytes : map (λ bs. checkStretch ridge (hostStretch bs 0 0)) (replicate 6 0 ∷ replicate 7 0 ∷ []) ≡ replicate 2 (StretchAnswer.refused (row 7))
@@ -144,11 +144,12 @@ pins =
       points-first = λ room. ReadOn.no-point refl;
     }
 
--- A host writes the ridge's stretch 0, 1 from 500 on into a buffer of 24 bytes, and reads it into one of 8.
-pub host-writes : HostWriteCall mapBytes (0 ∷ 0 ∷ 0 ∷ 0 ∷ 1 ∷ 0 ∷ 0 ∷ 0 ∷ []) 500 0 (replicate 24 7) (record { refusal = 0; bytes = 24 }) threeFrom500
+-- A host writes the ridge's stretch 0, 1 from 500 on with four tests into a buffer of 24 bytes, and reads it into one of 8.
+pub host-writes : HostWriteCall mapBytes (0 ∷ 0 ∷ 0 ∷ 0 ∷ 1 ∷ 0 ∷ 0 ∷ 0 ∷ []) 500 0 4 (replicate 24 7)
+    (record { refusal = 0; bytes = 24; tests = 3; excess = 0 }) threeFrom500
 unfolding computing
 host-writes =
-    record { answered = record { outcome = written threeFrom500; asked = writes-from-500; answers = refl; buffer-after = refl } }
+    record { answered = record { outcome = written threeFrom500 3 0; asked = writes-from-500; answers = refl; buffer-after = refl } }
 
 pub host-reads : HostReadCall mapBytes threeFrom500 (replicate 8 7)
     (record { refusal = 0; place = 0; lines = 2; posLeast = 499; posGreatest = 501; negLeast = 0; negGreatest = 0 }) (0 ∷ 0 ∷ 0 ∷ 0 ∷ 1 ∷ 0 ∷ 0 ∷ 0 ∷ [])

@@ -14,10 +14,10 @@ use Rattle.model.specs.Reference.{absent, byte}
 use Rattle.model.specs.Reading.{Only}
 use Rattle.model.specs.Choice.{legOf, Good}
 use Rattle.model.specs.Span.{SpanRead, unflagged}
-use Rattle.model.specs.Outcome.{LegsRead, SpansRead, ReadEnd, ReadOn, written}
+use Rattle.model.specs.Outcome.{LegsRead, SpansRead, ReadEnd, ReadOn}
 use Rattle.model.specs.Work.{workLength}
-use Rattle.model.specs.Host.{hostPoint, hostPointLinesAfter}
-use Rattle.model.specs.PointAlong.{noOrientation, bothDirections, leftSide, rightSide, PointAlong, pointAlongBytes, PointParse, parsed, parsePoint, lineReference, PointReadOutcome, read, PointReadOn, PointReads, GivenPoint, alongOf, pointGiven, PointCheck, passes, checkPoint, PointWriteOn, PointWrites}
+use Rattle.model.specs.Host.{hostPoint, hostPointLinesAfter, hostPointWritten}
+use Rattle.model.specs.PointAlong.{noOrientation, bothDirections, leftSide, rightSide, PointAlong, pointAlongBytes, PointParse, parsed, parsePoint, lineReference, PointReadOutcome, read, PointReadOn, PointReads, GivenPoint, alongOf, pointGiven, PointCheck, passes, checkPoint, PointWriteOutcome, written, PointWriteOn, PointWrites, pointBytesAfter}
 use Rattle.model.proofs.Cases.Computing.{computing}
 use Rattle.model.proofs.Cases.Ways.{finding, connects}
 use Rattle.model.proofs.Cases.Legs.{sole}
@@ -103,6 +103,10 @@ pub record PointCases : Type 0 where
       record { refusal = 16; place = 1; lines = 0; least = 0; greatest = 0; orientation = 0; side = 0 }
   pub host-lines : hostPointLinesAfter (read (300 ∷ []) (record { least = 0; greatest = 0 }) 0 0) (9 ∷ 9 ∷ 9 ∷ 9 ∷ 9 ∷ []) ≡
       0x2C ∷ 0x01 ∷ 0 ∷ 0 ∷ 9 ∷ []
+  pub host-written : map hostPointWritten (PointWriteOutcome.refused (row 10) ∷ written (7 ∷ 8 ∷ 9 ∷ []) ∷ []) ≡
+      record { refusal = 10; bytes = 0 } ∷ record { refusal = 0; bytes = 3 } ∷ []
+  pub byte-buffers : map (λ o. pointBytesAfter o (7 ∷ 8 ∷ 9 ∷ [])) (written (1 ∷ []) ∷ PointWriteOutcome.refused (row 11) ∷ []) ≡
+      (1 ∷ 8 ∷ 9 ∷ []) ∷ (7 ∷ 8 ∷ 9 ∷ []) ∷ []
   pub taken : map (checkPoint ridge) (pointGiven 2 499 3 3 ∷ pointGiven 3 0 0 0 ∷ []) ≡ passes ∷ passes ∷ []
 
 pub point-cases : PointCases
@@ -126,6 +130,8 @@ point-cases =
       host-told = refl;
       host-refused = refl;
       host-lines = refl;
+      host-written = refl;
+      byte-buffers = refl;
       taken = refl;
     }
 

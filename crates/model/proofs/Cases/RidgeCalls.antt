@@ -4,26 +4,27 @@ use mathlib.Core.Path.{_≡_, refl}
 use mathlib.Core.List.{List, [], _∷_}
 use native.Mathlib.Omega.{arith}
 use lib.ListN.{length}
-use borrow.Author.Tests.{le-ltb}
 use Rattle.model.specs.declared.Span.{Span}
 use Rattle.model.specs.declared.ReadAnswer.{ReadAnswer}
 use Rattle.model.specs.declared.WriteAnswer.{WriteAnswer}
 use Rattle.model.specs.Reference.{absent, byte, Reference}
 use Rattle.model.specs.Reading.{matching, Leg, Only}
 use Rattle.model.specs.Stretch.{Stretch}
-use Rattle.model.specs.Refusal.{rowAt}
-use Rattle.model.specs.Outcome.{LegsRead, ReadOutcome, read, ReadEnd, ReadOn, Reads, written, WriteOutcome, WriteBy, Writes}
+use Rattle.model.specs.Refusal.{row, rowAt}
+use Rattle.model.specs.Outcome.{LegsRead, ReadOutcome, read, ReadEnd, ReadOn, Reads, written, WriteOutcome, Writes}
 use Rattle.model.specs.Span.{unflagged}
 use Rattle.model.specs.Work.{workLength}
 use Rattle.model.specs.Call.{linesAfter, bytesAfter, ReadAnswers, WriteAnswers, ReadCall, WriteCall}
 use Rattle.model.proofs.Once.{reads-once, writes-once}
-use Rattle.model.proofs.Outcomes.{on-reads}
+use Rattle.model.proofs.Outcomes.{on-reads, on-writes}
+use Rattle.model.proofs.LegTests.{tests-within, good-filled}
+use Rattle.model.proofs.BestFound.{best-of-all, on-all-tests}
 use Rattle.model.proofs.Cases.Computing.{computing}
 use Rattle.model.proofs.Cases.Edges.{byte-80}
 use Rattle.model.proofs.Cases.Ways.{finding, connects}
 use Rattle.model.proofs.Cases.Legs.{reading, only, sectors}
 use Rattle.model.proofs.Cases.Ridge.{mapBytes, ridge, threePoints, threeFrom500, twoPoints, road, point, stretch, threeLegs, on-the-ridge}
-use Rattle.model.proofs.Cases.Tie.{tie-several, cut-in-two, none, from-500, legs-read, spans-from-500}
+use Rattle.model.proofs.Cases.Tie.{tie-several, cut-in-two, line-1-untested, none, from-500, legs-read, spans-from-500}
 use Rattle.model.specs.declared.ReadAnswer.the-variants as Reader
 use Rattle.model.specs.declared.WriteAnswer.the-variants as Writer
 
@@ -33,15 +34,16 @@ pub read-as : {mb ref work lines work′ lines′ : List ℕ} {a : ReadAnswer} {
 read-as {mb} {ref} {work} {lines} h c =
     let same = reads-once mb ref (length lines) (length work) (c .called .answered .asked) h in (rw same at (c .called .answered .answers), rw same at (c .called .answered .buffer-after))
 
-pub write-as : {mb work bytes work′ bytes′ : List ℕ} {s : Stretch} {a : WriteAnswer} {o : WriteOutcome} → Writes mb s (length work) (length bytes) o →
-    WriteCall mb s work bytes a work′ bytes′ → WriteAnswers a o × (bytes′ ≡ bytesAfter o bytes)
-write-as {mb} {work} {bytes} {s = s} h c =
-    let same = writes-once mb s (length bytes) (length work) (c .called .answered .asked) h in (rw same at (c .called .answered .answers), rw same at (c .called .answered .buffer-after))
+pub write-as : {mb work bytes work′ bytes′ : List ℕ} {s : Stretch} {tests : ℕ} {a : WriteAnswer} {o : WriteOutcome} →
+    Writes mb s tests (length work) (length bytes) o → WriteCall mb s tests work bytes a work′ bytes′ → WriteAnswers a o × (bytes′ ≡ bytesAfter o bytes)
+write-as {mb} {work} {bytes} {s = s} {tests = tests} h c =
+    let same = writes-once mb s tests (length bytes) (length work) (c .called .answered .asked) h in
+    (rw same at (c .called .answered .answers), rw same at (c .called .answered .buffer-after))
 
 pub read-answer : {a : ReadAnswer} {ls : List ℕ} {pos neg : Span} → ReadAnswers a (read ls pos neg) → a ≡ Reader.Read (length ls) pos neg
 read-answer ReadAnswers.lines = refl
 
-pub write-answer : {a : WriteAnswer} {bs : List ℕ} → WriteAnswers a (written bs) → a ≡ Writer.Written (length bs)
+pub write-answer : {a : WriteAnswer} {bs : List ℕ} {made excess : ℕ} → WriteAnswers a (written bs made excess) → a ≡ Writer.Written (length bs) made excess
 write-answer WriteAnswers.bytes = refl
 
 -- Over the top: from node 1 to node 3 by lines 2 and 3, which leave in sector 0. Longitude 1000 has code 466.
@@ -110,10 +112,21 @@ module _ (work room : ℕ) (full : workLength ≤ work) where
       (ReadOn.every-leg {legs = top ∷ []} refl (LegsRead.only top-only LegsRead.none)
       (ReadEnd.accepted (record { pos-read = unflagged; neg-read = unflagged }) (omega arith) (omega arith)))
 
-  pub stretch-written : 23 ≤ room → Writes mapBytes (stretch 0) work room (written threePoints)
-  unfolding computing
-  stretch-written fits = rw (le-ltb work workLength full) (WriteBy.accepted cut-in-two (omega arith))
+  -- With a test for each of the three legs, or more; and with fewer (W7).
+  module _ (tests : ℕ) where
+    pub stretch-written : 3 ≤ tests → 23 ≤ room → Writes mapBytes (stretch 0) tests work room (written threePoints 3 0)
+    unfolding computing
+    stretch-written all fits =
+        on-all-tests mapBytes (stretch 0) tests work room _ full (on-the-ridge .map) (on-the-ridge .stretch-0) all
+        (best-of-all (good-filled ridge) cut-in-two (omega arith))
 
-  pub stretch-written-from-500 : 24 ≤ room → Writes mapBytes (stretch 500) work room (written threeFrom500)
-  unfolding computing
-  stretch-written-from-500 fits = rw (le-ltb work workLength full) (WriteBy.accepted cut-in-two (omega arith))
+    pub stretch-written-from-500 : 3 ≤ tests → 24 ≤ room → Writes mapBytes (stretch 500) tests work room (written threeFrom500 3 0)
+    unfolding computing
+    stretch-written-from-500 all fits =
+        on-all-tests mapBytes (stretch 500) tests work room _ full (on-the-ridge .map) (on-the-ridge .stretch-500) all
+        (best-of-all (good-filled ridge) cut-in-two (omega arith))
+
+    pub stretch-unfinished : tests ≤ 2 → Writes mapBytes (stretch 0) tests work room (WriteOutcome.refused (row 26))
+    stretch-unfinished few =
+        on-writes mapBytes (stretch 0) tests work room _ full (on-the-ridge .map) (on-the-ridge .stretch-0)
+        (line-1-untested _ room (omega (arith, few, tests-within 2 tests)))

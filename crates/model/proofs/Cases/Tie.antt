@@ -1,5 +1,5 @@
 -- The tie at the ridge (paper 01): stretch 0, 1 is written with three points, and two points are refused as having several readings.
-use Prim.Native.Nat.{ℕ}
+use Prim.Native.Nat.{ℕ, _≤_}
 use mathlib.Core.Path.{_≡_, refl}
 use mathlib.Core.Bool.{true, false}
 use mathlib.Core.List.{[], _∷_}
@@ -8,15 +8,18 @@ use Rattle.model.specs.declared.Span.{Span}
 use Rattle.model.specs.Reference.{byte}
 use Rattle.model.specs.Reading.{any, matching, Only, Several}
 use Rattle.model.specs.Choice.{Good, good, final, before, Preferred, Chosen}
+use Rattle.model.specs.LegTests.{testedGood}
 use Rattle.model.specs.Refusal.{row, rowAt}
-use Rattle.model.specs.Outcome.{every, LegsRead, SpansRead, ReadOutcome, read, ReadEnd, ReadOn, Reads, written, WriteOutcome, WriteBy, Writes}
+use Rattle.model.specs.Outcome.{every, LegsRead, SpansRead, ReadOutcome, read, ReadEnd, ReadOn, Reads, written, WriteOutcome, WriteBy, WriteOn, Writes}
 use Rattle.model.specs.Span.{unflagged}
 use Rattle.model.proofs.Cases.Computing.{computing}
 use Rattle.model.proofs.Cases.Edges.{byte-80}
 use Rattle.model.proofs.Cases.Ways.{finding, connects}
 use Rattle.model.proofs.Legs.{not-several}
+use Rattle.model.proofs.LegTests.{good-filled, tested-filled, good-as-untested}
+use Rattle.model.proofs.BestFound.{short-of-all, best-of-all}
 use Rattle.model.proofs.Cases.Legs.{reading, only, sole, sectors}
-use Rattle.model.proofs.Cases.Cuts.{cutting, chosen, passed}
+use Rattle.model.proofs.Cases.Cuts.{cutting, chosen, no-choice-by, passed, second-passed}
 use Rattle.model.proofs.Cases.Ridge.{mapBytes, ridge, threePoints, threeFrom500, twoPoints, road, three, stretch, cuts, leg, threeLegs, tie, on-the-ridge}
 
 -- From node 0 to node 1 there is line 0 alone; from node 1 to node 3 lines 2, 3 leave in another sector than line 1.
@@ -58,18 +61,38 @@ cut-in-two =
     chosen ridge (0 ∷ 1 ∷ []) cuts (record { usable = before first-good (final last-good); whole = refl })
     (λ c. Preferred.same, (λ c. absurd (not-several (passed (c .usable) .only) tie-several), tt))
 
--- The stretch is written so with a full work area and a byte buffer that is just long enough; in a shorter one it is refusal 11.
-pub writes : Writes mapBytes (stretch 0) 14_336 23 (written threePoints)
+-- The stretch is written so with a full work area, a test for each of its three legs and a byte buffer that is just long enough; in a shorter one it is
+-- refusal 11. A fourth test is not made (W7).
+pub writes : Writes mapBytes (stretch 0) 3 14_336 23 (written threePoints 3 0)
 unfolding computing
-writes = WriteBy.accepted cut-in-two (omega arith)
+writes = best-of-all (good-filled ridge) cut-in-two (omega arith)
 
-pub writes-from-500 : Writes mapBytes (stretch 500) 14_336 24 (written threeFrom500)
+pub writes-from-500 : Writes mapBytes (stretch 500) 4 14_336 24 (written threeFrom500 3 0)
 unfolding computing
-writes-from-500 = WriteBy.accepted cut-in-two (omega arith)
+writes-from-500 = best-of-all (good-filled ridge) cut-in-two (omega arith)
 
-pub too-few-bytes : Writes mapBytes (stretch 0) 14_336 22 (WriteOutcome.refused (row 11))
+pub too-few-bytes : Writes mapBytes (stretch 0) 3 14_336 22 (WriteOutcome.refused (row 11))
 unfolding computing
-too-few-bytes = WriteBy.no-room cut-in-two (omega arith)
+too-few-bytes = short-of-all (good-filled ridge) cut-in-two (omega arith)
+
+-- The leg of line 1 has the third turn. With two tests or fewer it is not tested, and so nothing is written yet: refusal 26 (W7).
+pub line-1-untested : (made room : ℕ) → made ≤ 2 → WriteOn ridge (stretch 0) made room (WriteOutcome.refused (row 26))
+unfolding computing cutting
+line-1-untested made room few =
+    WriteBy.unfinished
+    (no-choice-by (testedGood (good ridge) (0 ∷ 1 ∷ []) made) (tested-filled (good-filled ridge) (0 ∷ 1 ∷ []) made) (0 ∷ 1 ∷ []) (
+      λ c. omega (arith, few, second-passed (c .usable) .tested),
+      (λ c. not-several (passed (c .usable) .good .only) tie-several, tt),
+    ))
+    (good-as-untested (cut-in-two .choice))
+
+pub two-tests : Writes mapBytes (stretch 0) 2 14_336 23 (WriteOutcome.refused (row 26))
+unfolding computing
+two-tests = line-1-untested 2 23 (omega arith)
+
+pub zero-tests : Writes mapBytes (stretch 0) 0 14_336 23 (WriteOutcome.refused (row 26))
+unfolding computing
+zero-tests = line-1-untested 0 23 (omega arith)
 
 -- And it is read so, with a line buffer of 1,024 numbers or of 2; one of 1 is refusal 20.
 abbrev pub none : Span

@@ -4,12 +4,17 @@ use mathlib.Core.Path.{_≡_, refl}
 use mathlib.Core.Bool.{true, false}
 use mathlib.Core.List.{List, [], _∷_}
 use native.Mathlib.Omega.{arith}
+use lib.ListN.{length}
 use Rattle.model.specs.Map.{Map}
 use Rattle.model.specs.Stretch.{Stretch}
 use Rattle.model.specs.Reading.{Leg, Several}
-use Rattle.model.specs.Choice.{legOf, Good, good, Usable, final, before, Choice, Preferred, Chosen}
+use Rattle.model.specs.Choice.{legOf, Good, good, Usable, final, before, Preferred, Chosen}
+use Rattle.model.specs.LegTests.{legCount, NoChoice}
 use Rattle.model.specs.Refusal.{row}
-use Rattle.model.specs.Outcome.{WriteOutcome, WriteBy, WriteOn}
+use Rattle.model.specs.Outcome.{WriteOutcome, WriteOn}
+use Rattle.model.proofs.LegTests.{good-filled}
+use Rattle.model.proofs.Once.{write-on-same}
+use Rattle.model.proofs.BestFound.{none-of-all}
 use Rattle.model.proofs.Cases.Computing.{computing}
 use Rattle.model.proofs.Cases.Ways.{finding, connects}
 use Rattle.model.proofs.Legs.{not-several}
@@ -43,18 +48,14 @@ differences-fit =
     chosen wide (0 ∷ 1 ∷ []) ((0 ∷ []) ∷ (1 ∷ []) ∷ []) (record { usable = before wide-first (final wide-last); whole = refl })
     (λ c. Preferred.same, (λ c. absurd (omega (arith, passed (c .usable) .fit .lon .on)), tt))
 
--- Refusal 10 and nothing else, whatever the byte buffer.
+-- Refusal 10 and nothing else with tests for all legs, whatever the byte buffer.
 pub record Unwritten (m : Map) (s : Stretch) : Type 0 where
-  pub given : (room : ℕ) → WriteOn m s room (WriteOutcome.refused (row 10))
-  pub nothing-else : (room : ℕ) (o : WriteOutcome) → WriteOn m s room o → o ≡ WriteOutcome.refused (row 10)
+  pub given : (room : ℕ) → WriteOn m s (legCount (length (s .lines))) room (WriteOutcome.refused (row 10))
+  pub nothing-else : (room : ℕ) (o : WriteOutcome) → WriteOn m s (legCount (length (s .lines))) room o → o ≡ WriteOutcome.refused (row 10)
 
-unwritten : {m : Map} {s : Stretch} → ((lss : List (List ℕ)) → Choice (good m) (s .lines) lss → ⊥) → Unwritten m s
-unwritten {m} {s} none = record { given = λ room. WriteBy.no-choice none; nothing-else = λ room o. else }
-  where
-    else : {room : ℕ} {o : WriteOutcome} → WriteOn m s room o → o ≡ WriteOutcome.refused (row 10)
-    else (WriteBy.no-choice n) = refl
-    else (WriteBy.no-room c h) = absurd (none _ (c .choice))
-    else (WriteBy.accepted c h) = absurd (none _ (c .choice))
+unwritten : {m : Map} {s : Stretch} → NoChoice (good m) (s .lines) → Unwritten m s
+unwritten {m} {s} none =
+    record { given = λ room. none-of-all (good-filled m) none; nothing-else = λ room o w. write-on-same w (none-of-all (good-filled m) none) }
 
 abbrev alone-leg : Leg
 alone-leg = legOf pair true (0 ∷ [])

@@ -28,20 +28,22 @@ module _ (work lines : List ℕ) (full : workLength ≤ length work) {work′ li
       ReadCall (encoded eastward) (acrossBytes 0x7F 0xFF 0xFF 0x00 0x01) work lines (Reader.Read n pos neg) work′ lines′ → ⊥
   no-shorter-circle c = no-list-where-refused (rowAt 16 1) (at-no-node (length work) (length lines) full) c
 
-module _ (work bytes : List ℕ) (full : workLength ≤ length work) {work′ bytes′ : List ℕ} where
+module _ (tests : ℕ) (work bytes : List ℕ) (full : workLength ≤ length work) {work′ bytes′ : List ℕ} where
   -- A writer that asks whether the plain difference fits: it would refuse with 10.
-  pub no-plain-difference : {a : WriteAnswer} → 16 ≤ length bytes → WriteCall islandBytes road-over work bytes a work′ bytes′ →
-      (a ≡ Writer.Written 16 → ⊥) → ⊥
-  no-plain-difference enough c other = other (Writing.counted overBytes (is-written (length work) (length bytes) full enough) c)
+  pub no-plain-difference : {a : WriteAnswer} → 6 ≤ tests → 16 ≤ length bytes → WriteCall islandBytes road-over tests work bytes a work′ bytes′ →
+      (a ≡ Writer.Written 16 6 0 → ⊥) → ⊥
+  no-plain-difference all enough c other = other (Writing.counted overBytes 6 0 (is-written tests (length work) (length bytes) all full enough) c)
 
   -- One that writes the 16 bits of the plain difference, or those of the way back.
-  pub no-other-way-round : {a : WriteAnswer} → 16 ≤ length bytes → WriteCall islandBytes road-over work bytes a work′ bytes′ →
+  pub no-other-way-round : {a : WriteAnswer} → 6 ≤ tests → 16 ≤ length bytes → WriteCall islandBytes road-over tests work bytes a work′ bytes′ →
       (bytes′ ≡ overBytes ++ drop 16 bytes → ⊥) → ⊥
-  no-other-way-round enough c other = other (left overBytes (is-written (length work) (length bytes) full enough) c)
+  no-other-way-round all enough c other = other (left overBytes 6 0 (is-written tests (length work) (length bytes) all full enough) c)
 
   -- One that takes differences across the meridian that do not fit 16 bits, as if they did.
-  pub none-too-far-east : {n : ℕ} → WriteCall (encoded (across 35_999_998 32_766)) line-across work bytes (Writer.Written n) work′ bytes′ → ⊥
-  none-too-far-east c = no-bytes-where-refused (row 10) (too-far-east (length work) (length bytes) full) c
+  pub none-too-far-east : {n made excess : ℕ} → 1 ≤ tests →
+      WriteCall (encoded (across 35_999_998 32_766)) line-across tests work bytes (Writer.Written n made excess) work′ bytes′ → ⊥
+  none-too-far-east all c = no-bytes-where-refused (row 10) (too-far-east (length work) (length bytes) full tests all) c
 
-  pub none-too-far-west : {n : ℕ} → WriteCall (encoded (across 32_765 35_999_996)) line-across work bytes (Writer.Written n) work′ bytes′ → ⊥
-  none-too-far-west c = no-bytes-where-refused (row 10) (too-far-west (length work) (length bytes) full) c
+  pub none-too-far-west : {n made excess : ℕ} → 1 ≤ tests →
+      WriteCall (encoded (across 32_765 35_999_996)) line-across tests work bytes (Writer.Written n made excess) work′ bytes′ → ⊥
+  none-too-far-west all c = no-bytes-where-refused (row 10) (too-far-west (length work) (length bytes) full tests all) c

@@ -5,17 +5,19 @@ use mathlib.Core.Path.{_≡_, refl, sym, ap}
 use mathlib.Core.List.{List, [], _∷_, _++_}
 use native.Mathlib.Omega.{arith}
 use lib.ListN.{length, take, getD}
-use borrow.Author.Tests.{le-ltb}
 use Rattle.model.specs.declared.Span.{Span}
 use Rattle.model.specs.declared.WriteAnswer.{WriteAnswer}
 use Rattle.model.specs.Stretch.{remains, checkStretch}
 use Rattle.model.specs.Reference.{byte}
 use Rattle.model.specs.Choice.{stretchBytes}
+use Rattle.model.specs.LegTests.{legsBefore, legCount}
 use Rattle.model.specs.Span.{SpanRead, unflagged}
-use Rattle.model.specs.Outcome.{read, ReadEnd, ReadOn, Reads, written, WriteBy, Writes}
+use Rattle.model.specs.Outcome.{read, ReadEnd, ReadOn, Reads, written, Writes}
 use Rattle.model.specs.Work.{workLength}
 use Rattle.model.specs.Call.{ReadCall, WriteCall}
 use Rattle.model.proofs.Outcomes.{on-reads}
+use Rattle.model.proofs.LegTests.{good-filled}
+use Rattle.model.proofs.BestFound.{best-of-all, on-all-tests}
 use Rattle.model.proofs.Cases.Computing.{computing}
 use Rattle.model.proofs.Cases.Edges.{span, spanned}
 use Rattle.model.proofs.Cases.Ridge.{mapBytes, ridge, threePoints, stretch, three, cuts, threeLegs, on-the-ridge}
@@ -29,25 +31,28 @@ abbrev threeWith : ℕ → List ℕ
 threeWith b = take 22 threePoints ++ 0x58 ∷ b ∷ []
 
 -- Where the stretch from an offset on has these bytes, every call leaves the offset's byte behind the others.
-byte-left : (pos b : ℕ) (work bytes : List ℕ) {work′ bytes′ : List ℕ} {a : WriteAnswer} → checkStretch ridge (stretch pos) ≡ remains (stretch pos) →
-    stretchBytes ridge cuts (stretch pos) ≡ threeWith b → workLength ≤ length work → 24 ≤ length bytes → WriteCall mapBytes (stretch pos) work bytes a work′ bytes′ →
-    getD bytes′ 23 0 ≡ b
-byte-left pos b work bytes taken are full enough c =
+byte-left : (pos b tests : ℕ) (work bytes : List ℕ) {work′ bytes′ : List ℕ} {a : WriteAnswer} → checkStretch ridge (stretch pos) ≡ remains (stretch pos) →
+    stretchBytes ridge cuts (stretch pos) ≡ threeWith b → 3 ≤ tests → workLength ≤ length work → 24 ≤ length bytes →
+    WriteCall mapBytes (stretch pos) tests work bytes a work′ bytes′ → getD bytes′ 23 0 ≡ b
+unfolding legCount legsBefore
+byte-left pos b tests work bytes taken are all full enough c =
     let fits : length (stretchBytes ridge cuts (stretch pos)) ≤ length bytes = rw are enough in
-    let outcome : Writes mapBytes (stretch pos) (length work) (length bytes) (written (stretchBytes ridge cuts (stretch pos))) =
-    rw (le-ltb (length work) workLength full, on-the-ridge .map, taken) (WriteBy.accepted cut-in-two fits) in
-    ap (λ (bs : List ℕ). getD bs 23 0) (left (threeWith b) (rw (sym are) outcome) c)
+    let outcome : Writes mapBytes (stretch pos) tests (length work) (length bytes) (written (stretchBytes ridge cuts (stretch pos)) 3 0) =
+    on-all-tests mapBytes (stretch pos) tests (length work) (length bytes) _ full (on-the-ridge .map) taken all
+    (best-of-all (good-filled ridge) cut-in-two fits) in
+    ap (λ (bs : List ℕ). getD bs 23 0) (left (threeWith b) 3 0 (rw (sym are) outcome) c)
 
-module _ (work bytes : List ℕ) {work′ bytes′ : List ℕ} {a : WriteAnswer} (full : workLength ≤ length work) (enough : 24 ≤ length bytes) where
+module _ (tests : ℕ) (work bytes : List ℕ) {work′ bytes′ : List ℕ} {a : WriteAnswer} (all : 3 ≤ tests) (full : workLength ≤ length work)
+    (enough : 24 ≤ length bytes) where
   -- 256 × 499 ÷ 1000 is 127.7: 80, and not 7F.
-  pub no-byte-rounded-down : WriteCall mapBytes (stretch 499) work bytes a work′ bytes′ → (getD bytes′ 23 0 ≡ 0x80 → ⊥) → ⊥
+  pub no-byte-rounded-down : WriteCall mapBytes (stretch 499) tests work bytes a work′ bytes′ → (getD bytes′ 23 0 ≡ 0x80 → ⊥) → ⊥
   unfolding computing
-  no-byte-rounded-down c other = other (byte-left 499 0x80 work bytes refl refl full enough c)
+  no-byte-rounded-down c other = other (byte-left 499 0x80 tests work bytes refl refl all full enough c)
 
   -- 256 × 999 ÷ 1000 is 255.7, nearest to 256: FF, and not 00.
-  pub no-wrapped-byte : WriteCall mapBytes (stretch 999) work bytes a work′ bytes′ → (getD bytes′ 23 0 ≡ 0xFF → ⊥) → ⊥
+  pub no-wrapped-byte : WriteCall mapBytes (stretch 999) tests work bytes a work′ bytes′ → (getD bytes′ 23 0 ≡ 0xFF → ⊥) → ⊥
   unfolding computing
-  no-wrapped-byte c other = other (byte-left 999 0xFF work bytes refl refl full enough c)
+  no-wrapped-byte c other = other (byte-left 999 0xFF tests work bytes refl refl all full enough c)
 
 -- Byte FF on 1000.
 last-span : SpanRead 1_000 (byte 0xFF) (span 995 999)

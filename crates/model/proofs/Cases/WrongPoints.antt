@@ -8,25 +8,25 @@ use lib.ListN.{length, drop, getD}
 use Rattle.model.specs.declared.Refusal.{Refusal}
 use Rattle.model.specs.declared.Span.{Span}
 use Rattle.model.specs.declared.PointReadAnswer.{PointReadAnswer}
-use Rattle.model.specs.declared.WriteAnswer.{WriteAnswer}
+use Rattle.model.specs.declared.PointWriteAnswer.{PointWriteAnswer}
 use Rattle.model.specs.Work.{workLength, placed}
-use Rattle.model.specs.Outcome.{WriteOutcome}
-use Rattle.model.specs.Call.{bytesAfter, WriteAnswers}
-use Rattle.model.specs.PointAlong.{noOrientation, rightSide, PointReadOutcome, read, PointReads, pointLinesAfter, PointReadAnswers, PointReadCall, GivenPoint, PointWrites, PointWriteCall}
+use Rattle.model.specs.PointAlong.{noOrientation, rightSide, PointReadOutcome, read, PointReads, pointLinesAfter, PointReadAnswers, PointReadCall, GivenPoint, PointWriteOutcome, written, PointWrites, pointBytesAfter, PointWriteAnswers, PointWriteCall}
 use Rattle.model.proofs.PointReading.{point-reads-once}
 use Rattle.model.proofs.PointWriting.{point-writes-once}
 use Rattle.model.proofs.Cases.Ridge.{mapBytes}
-use Rattle.model.proofs.Cases.RidgeCalls.{write-answer}
 use Rattle.model.proofs.Cases.Points.{hydrant, hydrantBytes, nextHydrant, hydrantSpan, topPoint, hydrant-written, next-written, hydrant-read, over-the-top-read}
 use Rattle.model.specs.declared.PointReadAnswer.the-variants as Reader
-use Rattle.model.specs.declared.WriteAnswer.the-variants as Writer
+use Rattle.model.specs.declared.PointWriteAnswer.the-variants as Writer
 
 -- A call has one outcome, which says its answer and what it leaves in its buffer.
-write-as : {mb work bytes work′ bytes′ : List ℕ} {p : GivenPoint} {a : WriteAnswer} {o : WriteOutcome} → PointWrites mb p (length work) (length bytes) o →
-    PointWriteCall mb p work bytes a work′ bytes′ → WriteAnswers a o × (bytes′ ≡ bytesAfter o bytes)
+write-as : {mb work bytes work′ bytes′ : List ℕ} {p : GivenPoint} {a : PointWriteAnswer} {o : PointWriteOutcome} →
+    PointWrites mb p (length work) (length bytes) o → PointWriteCall mb p work bytes a work′ bytes′ → PointWriteAnswers a o × (bytes′ ≡ pointBytesAfter o bytes)
 write-as {mb} {work} {bytes} {p = p} h c =
     let same = point-writes-once mb p (length bytes) (length work) (c .called .answered .asked) h in
     (rw same at (c .called .answered .answers), rw same at (c .called .answered .buffer-after))
+
+write-answer : {a : PointWriteAnswer} {bs : List ℕ} → PointWriteAnswers a (written bs) → a ≡ Writer.Written (length bs)
+write-answer PointWriteAnswers.bytes = refl
 
 read-as : {mb ref work lines work′ lines′ : List ℕ} {a : PointReadAnswer} {o : PointReadOutcome} → PointReads mb ref (length work) (length lines) o →
     PointReadCall mb ref work lines a work′ lines′ → PointReadAnswers a o × (lines′ ≡ pointLinesAfter o lines)
@@ -40,8 +40,8 @@ read-answer PointReadAnswers.lines = refl
 
 -- The writer, with a full work area and a byte buffer that is just long enough, or longer.
 module _ (work bytes : List ℕ) (full : workLength ≤ length work) (enough : 17 ≤ length bytes) {work′ bytes′ : List ℕ} where
-  left : {a : WriteAnswer} → PointWriteCall mapBytes hydrant work bytes a work′ bytes′ → bytes′ ≡ hydrantBytes ++ drop 17 bytes
-  unfolding bytesAfter placed
+  left : {a : PointWriteAnswer} → PointWriteCall mapBytes hydrant work bytes a work′ bytes′ → bytes′ ≡ hydrantBytes ++ drop 17 bytes
+  unfolding pointBytesAfter placed
   left c = write-as (hydrant-written (length work) (length bytes) full enough) c .1
 
   -- One that refuses the hydrant, for whatever reason, or answers another count.
@@ -55,18 +55,19 @@ module _ (work bytes : List ℕ) (full : workLength ≤ length work) (enough : 1
   no-other-count c other = other (let e = write-answer (write-as (hydrant-written (length work) (length bytes) full enough) c .0) in cc)
 
   -- One that leaves the status byte of a line reference, puts the side where the orientation belongs, or measures the offset otherwise.
-  pub no-other-status : {a : WriteAnswer} → PointWriteCall mapBytes hydrant work bytes a work′ bytes′ → getD bytes′ 0 0 ≡ 0x0B → ⊥
+  pub no-other-status : {a : PointWriteAnswer} → PointWriteCall mapBytes hydrant work bytes a work′ bytes′ → getD bytes′ 0 0 ≡ 0x0B → ⊥
   no-other-status c e = let z : _≡_ {A = ℕ} 0x0B 0x2B = sym e ∙ ap (λ (bs : List ℕ). getD bs 0 0) (left c) in omega arith
 
-  pub not-swapped : {a : WriteAnswer} → PointWriteCall mapBytes hydrant work bytes a work′ bytes′ → (getD bytes′ 7 0 ≡ 0x5B) × (getD bytes′ 14 0 ≡ 0x1B) → ⊥
+  pub not-swapped : {a : PointWriteAnswer} → PointWriteCall mapBytes hydrant work bytes a work′ bytes′ →
+      (getD bytes′ 7 0 ≡ 0x5B) × (getD bytes′ 14 0 ≡ 0x1B) → ⊥
   not-swapped c e = let z : _≡_ {A = ℕ} 0x5B 0x1B = sym (e .0) ∙ ap (λ (bs : List ℕ). getD bs 7 0) (left c) in omega arith
 
-  pub no-other-offset : {a : WriteAnswer} → PointWriteCall mapBytes hydrant work bytes a work′ bytes′ → (getD bytes′ 16 0 ≡ 0x3D → ⊥) → ⊥
+  pub no-other-offset : {a : PointWriteAnswer} → PointWriteCall mapBytes hydrant work bytes a work′ bytes′ → (getD bytes′ 16 0 ≡ 0x3D → ⊥) → ⊥
   no-other-offset c other = other (ap (λ (bs : List ℕ). getD bs 16 0) (left c))
 
   -- One that rounds the byte of the next hydrant down (W6).
-  pub no-byte-rounded-down : {a : WriteAnswer} → PointWriteCall mapBytes nextHydrant work bytes a work′ bytes′ → getD bytes′ 16 0 ≡ 0x3D → ⊥
-  unfolding bytesAfter placed
+  pub no-byte-rounded-down : {a : PointWriteAnswer} → PointWriteCall mapBytes nextHydrant work bytes a work′ bytes′ → getD bytes′ 16 0 ≡ 0x3D → ⊥
+  unfolding pointBytesAfter placed
   no-byte-rounded-down c e =
       let after = write-as (next-written (length work) (length bytes) full enough) c .1 in
       let z : _≡_ {A = ℕ} 0x3D 0x3E = sym e ∙ ap (λ (bs : List ℕ). getD bs 16 0) after in

@@ -5,14 +5,16 @@ use mathlib.Core.Path.{_≡_, refl, ap, subst}
 use mathlib.Core.List.{List, [], _∷_}
 use native.Mathlib.Omega.{arith}
 use lib.ListN.{length, getD}
-use borrow.Author.Tests.{le-ltb}
 use Rattle.model.specs.declared.WriteAnswer.{WriteAnswer}
 use Rattle.model.specs.Map.{Map, whole, decode}
 use Rattle.model.specs.Reading.{Leg, matching}
 use Rattle.model.specs.Choice.{good, final, Chosen, Preferred, stretchBytes}
 use Rattle.model.specs.Stretch.{Stretch, stretchOf, remains, checkStretch}
 use Rattle.model.specs.Work.{workLength}
-use Rattle.model.specs.Outcome.{written, WriteBy, Writes}
+use Rattle.model.specs.Outcome.{written, Writes}
+use Rattle.model.specs.LegTests.{legsBefore, legCount}
+use Rattle.model.proofs.LegTests.{good-filled}
+use Rattle.model.proofs.BestFound.{best-of-all, on-all-tests}
 use Rattle.model.specs.Call.{WriteCall}
 use Rattle.model.proofs.Cases.Computing.{computing}
 use Rattle.model.proofs.Cases.Ways.{finding, connects}
@@ -76,22 +78,25 @@ module _ (sector : ℕ) (mb : List ℕ) (decodes : decode mb ≡ whole (slanted 
   unfolding computing
   whole-line = refl
 
-  slanted-written : (work room : ℕ) → workLength ≤ work → 16 ≤ room → Writes mb the-line work room (written (slantedReference sector))
-  slanted-written work room full enough =
-      subst (λ bs. Writes mb the-line work room (written bs)) slanted-bytes
-      (rw (le-ltb work workLength full, decodes, whole-line) (WriteBy.accepted slanted-chosen (rw slanted-bytes enough)))
+  slanted-written : (tests work room : ℕ) → 1 ≤ tests → workLength ≤ work → 16 ≤ room →
+      Writes mb the-line tests work room (written (slantedReference sector) 1 0)
+  unfolding legCount legsBefore
+  slanted-written tests work room all full enough =
+      subst (λ bs. Writes mb the-line tests work room (written bs 1 0)) slanted-bytes
+      (on-all-tests mb the-line tests work room _ full decodes whole-line all
+      (best-of-all (good-filled (slanted sector)) slanted-chosen (rw slanted-bytes enough)))
 
   -- A writer whose byte Q has another sector.
-  pub no-other-sector : (work bytes : List ℕ) {a : WriteAnswer} {work′ bytes′ : List ℕ} → workLength ≤ length work → 16 ≤ length bytes →
-      WriteCall mb the-line work bytes a work′ bytes′ → (getD bytes′ 8 0 ≡ 96 + sector → ⊥) → ⊥
-  no-other-sector work bytes full enough c other =
-      other (ap (λ (bs : List ℕ). getD bs 8 0) (left (slantedReference sector) (slanted-written (length work) (length bytes) full enough) c))
+  pub no-other-sector : (tests : ℕ) (work bytes : List ℕ) {a : WriteAnswer} {work′ bytes′ : List ℕ} → 1 ≤ tests → workLength ≤ length work →
+      16 ≤ length bytes → WriteCall mb the-line tests work bytes a work′ bytes′ → (getD bytes′ 8 0 ≡ 96 + sector → ⊥) → ⊥
+  no-other-sector tests work bytes all full enough c other =
+      other (ap (λ (bs : List ℕ). getD bs 8 0) (left (slantedReference sector) 1 0 (slanted-written tests (length work) (length bytes) all full enough) c))
 
 -- One that rounds to the nearest sector, which is 8; and one that gives an edge to the sector before it, which is 3.
-pub no-nearest-sector : (work bytes : List ℕ) {a : WriteAnswer} {work′ bytes′ : List ℕ} → workLength ≤ length work → 16 ≤ length bytes →
-    WriteCall nearlyEast the-line work bytes a work′ bytes′ → (getD bytes′ 8 0 ≡ 0x67 → ⊥) → ⊥
+pub no-nearest-sector : (tests : ℕ) (work bytes : List ℕ) {a : WriteAnswer} {work′ bytes′ : List ℕ} → 1 ≤ tests → workLength ≤ length work →
+    16 ≤ length bytes → WriteCall nearlyEast the-line tests work bytes a work′ bytes′ → (getD bytes′ 8 0 ≡ 0x67 → ⊥) → ⊥
 no-nearest-sector = no-other-sector 7 nearlyEast nearly-east
 
-pub no-sector-before : (work bytes : List ℕ) {a : WriteAnswer} {work′ bytes′ : List ℕ} → workLength ≤ length work → 16 ≤ length bytes →
-    WriteCall northEast the-line work bytes a work′ bytes′ → (getD bytes′ 8 0 ≡ 0x64 → ⊥) → ⊥
+pub no-sector-before : (tests : ℕ) (work bytes : List ℕ) {a : WriteAnswer} {work′ bytes′ : List ℕ} → 1 ≤ tests → workLength ≤ length work →
+    16 ≤ length bytes → WriteCall northEast the-line tests work bytes a work′ bytes′ → (getD bytes′ 8 0 ≡ 0x64 → ⊥) → ⊥
 no-sector-before = no-other-sector 4 northEast north-east

@@ -40,9 +40,9 @@ module _ (work room : ℕ) (full : workLength ≤ work) where
       (ReadOn.every-leg {legs = tie ∷ []} refl (LegsRead.only tie-north LegsRead.none)
       (ReadEnd.accepted (record { pos-read = unflagged; neg-read = unflagged }) (omega arith) (omega arith)))
 
-  skipped-refused : Writes (encoded barred) (stretchOf (0 ∷ 2 ∷ 3 ∷ []) 1_000 0) work room (WriteOutcome.refused (row 21))
+  skipped-refused : (tests : ℕ) → Writes (encoded barred) (stretchOf (0 ∷ 2 ∷ 3 ∷ []) 1_000 0) tests work room (WriteOutcome.refused (row 21))
   unfolding computing encoding
-  skipped-refused = rw (le-ltb work workLength full) refl
+  skipped-refused tests = rw (le-ltb work workLength full) refl
 
 module _ (work lines : List ℕ) (full : workLength ≤ length work) {work′ lines′ : List ℕ} where
   -- A reader that does not ask where two legs meet.
@@ -55,6 +55,6 @@ module _ (work lines : List ℕ) (full : workLength ≤ length work) {work′ li
   no-other-way enough c other = other (counted (0 ∷ 2 ∷ 3 ∷ []) none none (north-read (length work) (length lines) full enough) c)
 
 -- A writer that looks for bans in what an offset leaves: it would write lines 2, 3.
-pub no-skipped-ban : (work bytes : List ℕ) {work′ bytes′ : List ℕ} {n : ℕ} → workLength ≤ length work →
-    WriteCall (encoded barred) (stretchOf (0 ∷ 2 ∷ 3 ∷ []) 1_000 0) work bytes (Writer.Written n) work′ bytes′ → ⊥
-no-skipped-ban work bytes full c = no-bytes-where-refused (row 21) (skipped-refused (length work) (length bytes) full) c
+pub no-skipped-ban : (tests : ℕ) (work bytes : List ℕ) {work′ bytes′ : List ℕ} {n made excess : ℕ} → workLength ≤ length work →
+    WriteCall (encoded barred) (stretchOf (0 ∷ 2 ∷ 3 ∷ []) 1_000 0) tests work bytes (Writer.Written n made excess) work′ bytes′ → ⊥
+no-skipped-ban tests work bytes full c = no-bytes-where-refused (row 21) (skipped-refused (length work) (length bytes) full tests) c

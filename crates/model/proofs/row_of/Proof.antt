@@ -79,6 +79,9 @@ enum-told-21 c = search needs
 enum-told-22 : tie.Need-enum-told-22
 enum-told-22 c = search needs
 
+enum-told-23 : tie.Need-enum-told-23
+enum-told-23 c = search needs
+
 returns : tie.Need-returns
 unfolding numberOf placeOf refusalOf
 returns c = (simp (c .enum-told .given .1), simp (c .enum-told .given .1))
@@ -179,6 +182,10 @@ returns-25 : tie.Need-returns-25
 unfolding numberOf placeOf refusalOf
 returns-25 c = (simp (c .enum-told22 .given .1), simp (c .enum-told22 .given .1))
 
+returns-26 : tie.Need-returns-26
+unfolding numberOf placeOf refusalOf
+returns-26 c = (simp (c .enum-told23 .given .1), simp (c .enum-told23 .given .1))
+
 pub row-of-spec : {M : Type 1} → statement M
 row-of-spec =
     tie.close
@@ -208,6 +215,7 @@ row-of-spec =
     enum-told-20
     enum-told-21
     enum-told-22
+    enum-told-23
     returns
     returns-2
     returns-3
@@ -232,4 +240,5 @@ row-of-spec =
     returns-22
     returns-23
     returns-24
-    returns-25)
+    returns-25
+    returns-26)

@@ -8,7 +8,7 @@ write-from-requires : tie.Need-write-from-requires
 write-from-requires c κs = search needs
 
 told-requires : tie.Need-told-requires
-told-requires c κs count e = count-small _ _ (c .before .before .write-from .ensures) count e
+told-requires c κs count made excess e = count-small _ _ _ (c .before .before .write-from .ensures) count made excess e
 
 same-length : tie.Need-same-length
 same-length c = search needs
@@ -17,7 +17,7 @@ returns : tie.Need-returns
 returns c stretch taken =
     let a = c .before .before .before .before .before .before .before .before .args in
     let d = c .before .before .before .write-from .ensures in
-    host-call (a .map .now) (a .numbers .now) (a .pos) (a .neg) d stretch taken (c .told .ensures (d .outcome) (d .answers))
+    host-call (a .map .now) (a .numbers .now) (a .pos) (a .neg) (a .tests) d stretch taken (c .told .ensures (d .outcome) (d .answers))
 
 pub write-taken-spec : {M : Type 1} → statement M
 write-taken-spec = tie.close (tie.spec write-from-requires told-requires same-length returns)

@@ -32,7 +32,7 @@ put-marks-requires c κs =
     let t = taken _ _ (q .2) in
     let k = own-written (q .0) _ (c .before .before .before .before .before .before .before .on-part .ensures (q .0) (q .1) (own-connected t) (own-inside t)) (c .before .before .count .given .1) in
     let free = unmarked (q .1 .held .formed) t (replicate 17 0) in
-    ((omega (arith, c .before .before .before .before .before .before .before .on-part .kept .1 .1 .1 .1 .1 .0), rw (k .first) (free .0), rw (k .first) (free .1)), (t .orientation, t .side))
+    ((omega (arith, c .before .before .before .before .before .before .before .on-part .kept .1 .1 .1 .1 .1 .1 .0), rw (k .first) (free .0), rw (k .first) (free .1)), (t .orientation, t .side))
 
 array-share-prefix-reference : tie.Need-array-share-prefix-reference
 array-share-prefix-reference c =
@@ -40,7 +40,7 @@ array-share-prefix-reference c =
     let q = c .before .before .before .before .before .before .before .before .before .before .before .before .before .before .before .pre in
     let t = taken _ _ (q .2) in
     let k = own-written (q .0) (pointGiven (a .line) (a .offset) (a .marks .orientation) (a .marks .side)) (c .before .before .before .before .before .before .before .before .before .on-part .ensures (q .0) (q .1) (own-connected t) (own-inside t)) (c .before .before .before .before .count .given .1) in
-    omega (arith, k .few, c .before .put-marks .kept .0, c .before .before .before .before .before .before .before .before .before .on-part .kept .1 .1 .1 .1 .1 .0)
+    omega (arith, k .few, c .before .put-marks .kept .0, c .before .before .before .before .before .before .before .before .before .on-part .kept .1 .1 .1 .1 .1 .1 .0)
 
 slice-aggregate-put-bytes : tie.Need-slice-aggregate-put-bytes
 slice-aggregate-put-bytes c =
@@ -48,7 +48,7 @@ slice-aggregate-put-bytes c =
     let q = c .before .before .before .before .before .before .before .before .before .before .before .before .before .before .before .before .pre in
     let t = taken _ _ (q .2) in
     let k = own-written (q .0) (pointGiven (a .line) (a .offset) (a .marks .orientation) (a .marks .side)) (c .before .before .before .before .before .before .before .before .before .before .on-part .ensures (q .0) (q .1) (own-connected t) (own-inside t)) (c .before .before .before .before .before .count .given .1) in
-    sym (length-take-le _ _ (omega (arith, k .few, c .before .before .put-marks .kept .0, c .before .before .before .before .before .before .before .before .before .before .on-part .kept .1 .1 .1 .1 .1 .0)))
+    sym (length-take-le _ _ (omega (arith, k .few, c .before .before .put-marks .kept .0, c .before .before .before .before .before .before .before .before .before .before .on-part .kept .1 .1 .1 .1 .1 .1 .0)))
 
 put-bytes-requires : tie.Need-put-bytes-requires
 put-bytes-requires c κs = search needs

@@ -45,7 +45,7 @@ add-length-4 c = omega (arith, cut-few (c .before .before .before .before .befor
 returns : tie.Need-returns
 returns c m cs h k =
     let a = c .before .before .before .before .before .before .before .before .before .args in
-    (refl, omega (arith, c .if1 .taken, needed (c .before), whole-length k (a .pos) (a .neg)), refl)
+    (omega (arith, c .if1 .taken, needed (c .before), whole-length k (a .pos) (a .neg)), refl)
 
 put-start-requires : tie.Need-put-start-requires
 put-start-requires c κs =

@@ -16,10 +16,10 @@ enum-known-count : tie.Need-enum-known-count
 enum-known-count c = search needs
 
 slice-reshare-prefix-read : tie.Need-slice-reshare-prefix-read
-slice-reshare-prefix-read c = bytes-fit (wrote (rw (c .before .count .given .1) at (c .before .before .before .before .before .before .before .write .ensures))) (c .before .before .before .before .before .before .before .write .kept .1 .1 .1 .1 .1 .0)
+slice-reshare-prefix-read c = bytes-fit (wrote (rw (c .before .count .given .1) at (c .before .before .before .before .before .before .before .write .ensures))) (c .before .before .before .before .before .before .before .write .kept .1 .1 .1 .1 .1 .1 .0)
 
 slice-aggregate-read : tie.Need-slice-aggregate-read
-slice-aggregate-read c = sym (length-take-le _ _ (bytes-fit (wrote (rw (c .before .before .count .given .1) at (c .before .before .before .before .before .before .before .before .write .ensures))) (c .before .before .before .before .before .before .before .before .write .kept .1 .1 .1 .1 .1 .0)))
+slice-aggregate-read c = sym (length-take-le _ _ (bytes-fit (wrote (rw (c .before .before .count .given .1) at (c .before .before .before .before .before .before .before .before .write .ensures))) (c .before .before .before .before .before .before .before .before .write .kept .1 .1 .1 .1 .1 .1 .0)))
 
 read-requires : tie.Need-read-requires
 read-requires c κs = search needs

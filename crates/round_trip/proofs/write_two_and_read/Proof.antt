@@ -27,16 +27,16 @@ enum-known-size : tie.Need-enum-known-size
 enum-known-size c = search needs
 
 slice-reshare-prefix-same-bytes : tie.Need-slice-reshare-prefix-same-bytes
-slice-reshare-prefix-same-bytes c = bytes-fit (wrote (rw (c .before .before .before .before .before .before .before .before .before .before .before .count .given .1) at (c .before .before .before .before .before .before .before .before .before .before .before .before .before .before .before .before .before .write .ensures))) (c .before .before .before .before .before .before .before .before .before .before .before .before .before .before .before .before .before .write .kept .1 .1 .1 .1 .1 .0)
+slice-reshare-prefix-same-bytes c = bytes-fit (wrote (rw (c .before .before .before .before .before .before .before .before .before .before .before .count .given .1) at (c .before .before .before .before .before .before .before .before .before .before .before .before .before .before .before .before .before .write .ensures))) (c .before .before .before .before .before .before .before .before .before .before .before .before .before .before .before .before .before .write .kept .1 .1 .1 .1 .1 .1 .0)
 
 slice-aggregate-same-bytes : tie.Need-slice-aggregate-same-bytes
-slice-aggregate-same-bytes c = sym (length-take-le _ _ (bytes-fit (wrote (rw (c .before .before .before .before .before .before .before .before .before .before .before .before .count .given .1) at (c .before .before .before .before .before .before .before .before .before .before .before .before .before .before .before .before .before .before .write .ensures))) (c .before .before .before .before .before .before .before .before .before .before .before .before .before .before .before .before .before .before .write .kept .1 .1 .1 .1 .1 .0)))
+slice-aggregate-same-bytes c = sym (length-take-le _ _ (bytes-fit (wrote (rw (c .before .before .before .before .before .before .before .before .before .before .before .before .count .given .1) at (c .before .before .before .before .before .before .before .before .before .before .before .before .before .before .before .before .before .before .write .ensures))) (c .before .before .before .before .before .before .before .before .before .before .before .before .before .before .before .before .before .before .write .kept .1 .1 .1 .1 .1 .1 .0)))
 
 slice-reshare-prefix-same-bytes-2 : tie.Need-slice-reshare-prefix-same-bytes-2
-slice-reshare-prefix-same-bytes-2 c = bytes-fit (wrote (rw (c .before .before .size .given .1) at (c .before .before .before .before .before .before .before .before .write2 .ensures))) (c .before .before .before .before .before .before .before .before .write2 .kept .1 .1 .1 .1 .1 .0)
+slice-reshare-prefix-same-bytes-2 c = bytes-fit (wrote (rw (c .before .before .size .given .1) at (c .before .before .before .before .before .before .before .before .write2 .ensures))) (c .before .before .before .before .before .before .before .before .write2 .kept .1 .1 .1 .1 .1 .1 .0)
 
 slice-aggregate-same-bytes-2 : tie.Need-slice-aggregate-same-bytes-2
-slice-aggregate-same-bytes-2 c = sym (length-take-le _ _ (bytes-fit (wrote (rw (c .before .before .before .size .given .1) at (c .before .before .before .before .before .before .before .before .before .write2 .ensures))) (c .before .before .before .before .before .before .before .before .before .write2 .kept .1 .1 .1 .1 .1 .0)))
+slice-aggregate-same-bytes-2 c = sym (length-take-le _ _ (bytes-fit (wrote (rw (c .before .before .before .size .given .1) at (c .before .before .before .before .before .before .before .before .before .write2 .ensures))) (c .before .before .before .before .before .before .before .before .before .write2 .kept .1 .1 .1 .1 .1 .1 .0)))
 
 same-bytes-requires : tie.Need-same-bytes-requires
 same-bytes-requires c κs = search needs
@@ -55,13 +55,13 @@ returns c =
     let one = (rw (c .before .before .before .before .before .before .before .before .before .before .before .before .before .before .before .count .given .1) at (c .before .before .before .before .before .before .before .before .before .before .before .before .before .before .before .before .before .before .before .before .before .write .ensures)) in
     let other = (rw (c .before .before .before .before .before .size .given .1) at (c .before .before .before .before .before .before .before .before .before .before .before .write2 .ensures)) in
     let differ = rw (not-true (c .before .same-bytes .result) (c .if1 .taken)) at (c .before .same-bytes .ensures) in
-    ((_, _, record { between = _; first = one; second = other }, differ), refl, refl)
+    ((_, _, record { between = _; first = (_, _, one); second = (_, _, other) }, differ), refl, refl)
 
 slice-reshare-prefix-read : tie.Need-slice-reshare-prefix-read
-slice-reshare-prefix-read c = bytes-fit (wrote (rw (c .before .before .before .before .before .before .before .before .before .before .before .before .before .before .before .count .given .1) at (c .before .before .before .before .before .before .before .before .before .before .before .before .before .before .before .before .before .before .before .before .before .write .ensures))) (c .before .before .before .before .before .before .before .before .before .before .before .before .before .before .before .before .before .before .before .before .before .write .kept .1 .1 .1 .1 .1 .0)
+slice-reshare-prefix-read c = bytes-fit (wrote (rw (c .before .before .before .before .before .before .before .before .before .before .before .before .before .before .before .count .given .1) at (c .before .before .before .before .before .before .before .before .before .before .before .before .before .before .before .before .before .before .before .before .before .write .ensures))) (c .before .before .before .before .before .before .before .before .before .before .before .before .before .before .before .before .before .before .before .before .before .write .kept .1 .1 .1 .1 .1 .1 .0)
 
 slice-aggregate-read : tie.Need-slice-aggregate-read
-slice-aggregate-read c = sym (length-take-le _ _ (bytes-fit (wrote (rw (c .before .before .before .before .before .before .before .before .before .before .before .before .before .before .before .before .count .given .1) at (c .before .before .before .before .before .before .before .before .before .before .before .before .before .before .before .before .before .before .before .before .before .before .write .ensures))) (c .before .before .before .before .before .before .before .before .before .before .before .before .before .before .before .before .before .before .before .before .before .before .write .kept .1 .1 .1 .1 .1 .0)))
+slice-aggregate-read c = sym (length-take-le _ _ (bytes-fit (wrote (rw (c .before .before .before .before .before .before .before .before .before .before .before .before .before .before .before .before .count .given .1) at (c .before .before .before .before .before .before .before .before .before .before .before .before .before .before .before .before .before .before .before .before .before .before .write .ensures))) (c .before .before .before .before .before .before .before .before .before .before .before .before .before .before .before .before .before .before .before .before .before .before .write .kept .1 .1 .1 .1 .1 .1 .0)))
 
 read-requires : tie.Need-read-requires
 read-requires c κs = search needs
@@ -85,7 +85,7 @@ same-length-8 : tie.Need-same-length-8
 same-length-8 c = search needs
 
 returns-3 : tie.Need-returns-3
-returns-3 c = ((_, _, (rw (c .before .before .before .before .before .before .before .before .before .before .before .count .given .1) at (c .before .before .before .before .before .before .before .before .before .before .before .before .before .before .before .before .before .write .ensures)), rw (c .before .why2 .given .1) at (c .before .before .before .before .before .before .before .write2 .ensures)), refl, refl)
+returns-3 c = ((_, _, (_, _, rw (c .before .before .before .before .before .before .before .before .before .before .before .count .given .1) at (c .before .before .before .before .before .before .before .before .before .before .before .before .before .before .before .before .before .write .ensures)), rw (c .before .why2 .given .1) at (c .before .before .before .before .before .before .before .write2 .ensures)), refl, refl)
 
 same-length-9 : tie.Need-same-length-9
 same-length-9 c = search needs
@@ -107,9 +107,9 @@ returns-4 c =
     let one = (rw (c .before .before .before .before .before .before .before .before .before .before .before .before .before .before .before .before .before .before .before .before .before .before .before .count .given .1) at (c .before .before .before .before .before .before .before .before .before .before .before .before .before .before .before .before .before .before .before .before .before .before .before .before .before .before .before .before .before .write .ensures)) in
     let other = (rw (c .before .before .before .before .before .before .before .before .before .before .before .before .before .size .given .1) at (c .before .before .before .before .before .before .before .before .before .before .before .before .before .before .before .before .before .before .before .write2 .ensures)) in
     let same = rw (not-false (c .before .before .before .before .before .before .before .before .before .same-bytes .result) (c .before .before .before .before .before .before .before .before .if1 .left)) at (c .before .before .before .before .before .before .before .before .before .same-bytes .ensures) in
-    let size = same-size _ _ _ _ (bytes-fit (wrote one) (c .before .before .before .before .before .before .before .before .before .before .before .before .before .before .before .before .before .before .before .before .before .before .before .before .before .before .before .before .before .write .kept .1 .1 .1 .1 .1 .0)) (bytes-fit (wrote other) (c .before .before .before .before .before .before .before .before .before .before .before .before .before .before .before .before .before .before .before .write2 .kept .1 .1 .1 .1 .1 .0)) same in
+    let size = same-size _ _ _ _ (bytes-fit (wrote one) (c .before .before .before .before .before .before .before .before .before .before .before .before .before .before .before .before .before .before .before .before .before .before .before .before .before .before .before .before .before .write .kept .1 .1 .1 .1 .1 .1 .0)) (bytes-fit (wrote other) (c .before .before .before .before .before .before .before .before .before .before .before .before .before .before .before .before .before .before .before .write2 .kept .1 .1 .1 .1 .1 .1 .0)) same in
     let call = c .before .before .before .before .read .ensures in (
-      record { between = _; first = one; second = rw size at other },
+      record { between = _; first = (_, _, one); second = (_, _, rw size at other) },
       rw size at same,
       alike (wrote one) (wrote other) same,
       handed-back (wrote one) call,

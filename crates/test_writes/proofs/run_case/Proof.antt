@@ -30,17 +30,20 @@ word-at-requires-3 c κs = search needs
 word-at-requires-4 : tie.Need-word-at-requires-4
 word-at-requires-4 c κs = search needs
 
+word-at-requires-5 : tie.Need-word-at-requires-5
+word-at-requires-5 c κs = search needs
+
 slice-relend-prefix-call : tie.Need-slice-relend-prefix-call
 slice-relend-prefix-call c = search needs
 
 slice-aggregate-call : tie.Need-slice-aggregate-call
-slice-aggregate-call c = sym (length-take-le _ _ (omega (arith, c .before .before .before .before .before .lesser .ensures)))
+slice-aggregate-call c = sym (length-take-le _ _ (omega (arith, c .before .before .before .before .before .before .lesser .ensures)))
 
 slice-relend-prefix-call-2 : tie.Need-slice-relend-prefix-call-2
 slice-relend-prefix-call-2 c = search needs
 
 slice-aggregate-call-2 : tie.Need-slice-aggregate-call-2
-slice-aggregate-call-2 c = sym (length-take-le _ _ (omega (arith, c .before .before .before .before .lesser2 .ensures)))
+slice-aggregate-call-2 c = sym (length-take-le _ _ (omega (arith, c .before .before .before .before .before .lesser2 .ensures)))
 
 call-requires : tie.Need-call-requires
 call-requires c κs = search needs
@@ -69,6 +72,7 @@ run-case-spec =
     lesser-requires-2
     word-at-requires-3
     word-at-requires-4
+    word-at-requires-5
     slice-relend-prefix-call
     slice-aggregate-call
     slice-relend-prefix-call-2

@@ -1,5 +1,4 @@
 -- `on_area` meets its contract: bytes that are no map, or the answer on the map.
-use native.Mathlib.Omega.{arith}
 use borrow.Author.Needs.{needs}
 use Rattle.model.proofs.Answering.{answered-by}
 use Rattle.opening.proofs.Told.{opened-ready, opened-refused}
@@ -36,7 +35,7 @@ same-length-3 : tie.Need-same-length-3
 same-length-3 c = search needs
 
 returns-2 : tie.Need-returns-2
-returns-2 c = map-refused _ _ _ _ (opened-refused (c .before .before .before .before .before .open-map .ensures) (c .before .why .given .1))
+returns-2 c = map-refused _ _ _ _ _ (opened-refused (c .before .before .before .before .before .open-map .ensures) (c .before .why .given .1))
 
 pub on-area-spec : {M : Type 1} → statement M
 on-area-spec =

@@ -71,9 +71,10 @@ same-length-3 c = search needs
 
 returns-2 : tie.Need-returns-2
 returns-2 c m set =
-    let a = c .before .before .before .before .before .before .before .before .args in
+    let checked = c .before .before .before in
+    let a = checked .before .before .before .before .before .args in
     let s = stretchOf (a .stretch .now) (a .pos) (a .neg) in
-    stretch-refused m s _ _ (check-refuses m s (c .before .before .before .check .result) (c .before .before .before .check .ensures m (set .held)) (c .before .why .given .1))
+    stretch-refused m s _ _ _ (check-refuses m s (checked .check .result) (checked .check .ensures m (set .held)) (c .before .why .given .1))
 
 pub on-map-spec : {M : Type 1} → statement M
 on-map-spec =

@@ -11,7 +11,9 @@ use Rattle.writer.proofs.write.Statement.{statement}
 use Rattle.writer.proofs.write.Tie as tie
 
 returns : tie.Need-returns
-returns c = let a = c .before .before .before .before .before .args in area-short (a .map .now) (stretchOf (a .stretch .now) (a .pos) (a .neg)) (a .bytes .now) (a .work .now) (c .if1 .taken)
+returns c =
+    let a = c .before .before .before .before .before .args in
+    area-short (a .map .now) (stretchOf (a .stretch .now) (a .pos) (a .neg)) (a .tests) (a .bytes .now) (a .work .now) (c .if1 .taken)
 
 slice-relend-prefix-on-area : tie.Need-slice-relend-prefix-on-area
 slice-relend-prefix-on-area c = search needs
@@ -33,10 +35,14 @@ same-length-2 c = search needs
 
 returns-2 : tie.Need-returns-2
 returns-2 c =
-    let a = c .before .before .before .before .before .before .before .before .before .before .before .before .before .before .before .before .args in
-    let large = c .before .before .before .before .before .before .before .before .before .before .before .if1 .left in
-    called (a .map .now) (stretchOf (a .stretch .now) (a .pos) (a .neg)) (a .bytes .now) (omega (arith, large)) (c .before .before .before .before .before .before .before .before .on-area .ensures)
-    (c .before .before .clear .ensures ∙ cleared-same (a .work .now) (c .before .before .before .before .before .before .before .before .on-area .last .1 .1 .1 .1 .0) (omega (arith, large)) (c .before .before .before .before .before .before .before .before .on-area .kept .1 .1 .1 .1 .0))
+    let area = c .before .before .before .before .before .before .before .before in
+    let asked = area .before .before .before in
+    let a = asked .before .before .before .before .before .args in
+    let large = asked .if1 .left in
+    let on-area = area .on-area in
+    called (a .map .now) (stretchOf (a .stretch .now) (a .pos) (a .neg)) (a .tests) (a .bytes .now) (omega (arith, large)) (on-area .ensures)
+    (c .before .before .clear .ensures
+    ∙ cleared-same (a .work .now) (on-area .last .1 .1 .1 .1 .1 .0) (omega (arith, large)) (on-area .kept .1 .1 .1 .1 .1 .0))
 
 pub write-spec : {M : Type 1} → statement M
 write-spec =

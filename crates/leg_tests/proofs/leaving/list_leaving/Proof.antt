@@ -1,7 +1,7 @@
 -- `list_leaving` meets its contract: after `l` turns the lines below `l` are on their lists.
 use Rattle.leg_tests.specs.Leaving.{Listed}
 use Rattle.leg_tests.proofs.LeavingLists.{listed-none, listed-again, listed-more, start-small}
-use Rattle.leg_tests.proofs.Sifting.{worked-then}
+use Rattle.sole_ways.proofs.Working.{worked-then}
 use Rattle.work_area.specs.Area.{linePlace, startNode}
 use Rattle.work_area.proofs.Holding.{few}
 use Rattle.model.specs.Map.{greatestLineCount, greatestNodeCount, Map}

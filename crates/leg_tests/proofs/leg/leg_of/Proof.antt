@@ -10,7 +10,8 @@ use Rattle.model.specs.Reading.{any, matching}
 use Rattle.model.specs.Choice.{arrivalOf, legOf}
 use Rattle.fields.specs.Leg.{legIn}
 use Rattle.stretches.specs.Attributes.{attributesBy}
-use Rattle.leg_tests.proofs.Slices.{first-of-slice, last-of-slice, from-of-slice, to-of-slice}
+use Rattle.sole_ways.proofs.Slices.{first-of-slice, last-of-slice}
+use Rattle.leg_tests.proofs.Slices.{from-of-slice, to-of-slice}
 use borrow.Author.Needs.{needs}
 use native.Mathlib.Omega.{arith}
 use Rattle.leg_tests.proofs.leg.leg_of.Statement.{statement}

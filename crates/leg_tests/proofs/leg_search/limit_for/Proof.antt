@@ -10,8 +10,11 @@ shorter : (a b : ℕ) → a ≤ b → distance a ≤ distance b
 unfolding distance
 shorter a b h = omega arith
 
+add-goal-for : tie.Need-add-goal-for
+add-goal-for c = search needs
+
 goal-for-requires : tie.Need-goal-for-requires
-goal-for-requires c κs = c .before .before .pre .0 .2
+goal-for-requires c κs = search needs
 
 look-ahead-requires : tie.Need-look-ahead-requires
 look-ahead-requires c κs = let p = c .before .before .before .pre in ((p .0 .0, p .0 .1, omega (arith, c .goal-for .ensures)), p .1)
@@ -37,6 +40,7 @@ pub limit-for-spec : {M : Type 1} → statement M
 limit-for-spec =
     tie.close
     (tie.spec
+    add-goal-for
     goal-for-requires
     look-ahead-requires
     returns

@@ -1,7 +1,7 @@
 -- `look_ahead` meets its contract: a length only grows, and one that is summed up further is no longer than a leg can be.
 use lib.ListN.{length}
 use Prim.Native.Nat.{_-_, _≤_}
-use Rattle.leg_tests.proofs.Sums.{no-overflow}
+use Rattle.sole_ways.proofs.Sums.{no-overflow}
 use native.Mathlib.Omega.{arith}
 use borrow.Author.Needs.{needs}
 use Rattle.leg_tests.proofs.leg_search.look_ahead.Statement.{statement}

@@ -1,7 +1,7 @@
 -- `openlr_write_point` meets its contract: what the writer of points answers, told to the host.
 use borrow.Author.Needs.{needs}
 use Rattle.model.specs.PointAlong.{pointGiven}
-use Rattle.openlr.proofs.HostWriting.{point-count-small, host-point-call}
+use Rattle.openlr.proofs.PointWriting.{point-count-small, host-point-call}
 use Rattle.openlr.proofs.point.openlr_write_point.Statement.{statement}
 use Rattle.openlr.proofs.point.openlr_write_point.Tie as tie
 

@@ -1,0 +1,3 @@
+-- What it is to turn the map in the work area round.
+pub mod Bans
+pub mod Turned

@@ -1,0 +1,2 @@
+-- What the parts of the writer promise one another.
+pub mod Found
