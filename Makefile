@@ -52,14 +52,17 @@ target/staticlib/lib%.a: $(SOURCES)
 	rt check $$(sed -n 's/^$*://p' crates.txt) >&2
 	rt staticlib $* >&2
 
+# Lines 0 and 1 without the first 50 m. Offsets are in centimetres.
+STRETCH = examples/ridge/map.bin 5000 0 0 1
+
 host: $(ARCHIVE)
 	mkdir -p target/host
 	$(CC) $(C_FLAGS) -O2 -o target/host/host examples/host.c $(ARCHIVE)
-	target/host/host examples/ridge/map.bin 500 0 0 1
+	target/host/host $(STRETCH)
 	target/host/host examples/islands/map.bin 0 0 0 1 2
 
 # Line 2, 12 m along it, without orientation, on the right side.
-HYDRANT = examples/ridge/map.bin 2 120 0 1
+HYDRANT = examples/ridge/map.bin 2 1200 0 1
 
 hydrant: $(ARCHIVE)
 	mkdir -p target/host
@@ -82,7 +85,7 @@ test-host: $(ARCHIVE) target/bin/openlr_show target/host/stack
 	target/host/stack
 	if command -v $(CXX) >/dev/null; then $(CXX) $(CXX_FLAGS) -o target/host/cpp tests/host.cpp $(ARCHIVE) && target/host/cpp; \
 	else echo "no C++ compiler: openlr.h is not tried in C++"; fi
-	target/host/host examples/ridge/map.bin 500 0 0 1 >target/host/printed
+	target/host/host $(STRETCH) >target/host/printed
 	diff target/host/printed tests/host_ridge.txt
 	target/host/host examples/islands/map.bin 0 0 0 1 2 >target/host/printed
 	diff target/host/printed tests/host_islands.txt

@@ -24,9 +24,10 @@ def stored_cases(name):
 def counts():
     """What is counted, and how many there are."""
     written, points_told = stored_cases("test_writes"), stored_cases("test_points")
-    before = lines_of("model/specs/AsBefore.antt")
+    before = sum(lines_of(f"model/specs/{name}.antt") for name in ("AsBefore", "Tenfold"))
     points = sum(lines_of(f"model/specs/{name}.antt") for name in ("PointAlong", "PointTrip", "HostPointTrip"))
-    yield "lines of definitions that demand 3 rests on (crates/model/specs without AsBefore and points)", lines_of("model/specs/**/*.antt") - before - points
+    promises = lines_of("model/specs/**/*.antt")
+    yield "lines of definitions that demand 3 rests on (crates/model/specs without AsBefore, Tenfold and points)", promises - before - points
     yield "lines of definitions that the claim of points needs besides (PointAlong, PointTrip, HostPointTrip)", points
     yield "lines of all definitions (crates/*/specs)", lines_of("*/specs/**/*.antt")
     yield "lines of code (crates/*/src)", lines_of("*/src/**/*.rt")

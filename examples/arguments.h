@@ -4,6 +4,9 @@
 
 #include "openlr.h"
 
+/* Both hosts take their offsets in centimetres, and do not build with a header of another unit. */
+_Static_assert(OPENLR_UNITS_PER_METRE == 100, "lengths and offsets are in centimetres");
+
 #include <errno.h>
 #include <stdio.h>
 #include <stdlib.h>

@@ -1,8 +1,8 @@
-/* A host: writes a reference for a stretch of lines on a map, reads it back, and prints both.
+/* A host: writes a reference for a stretch of lines on a map, reads it back, and prints both. Lengths, offsets and spans are in centimetres.
 
      host MAP POS NEG LINE ..
 
-   MAP is the name of a map's file, POS and NEG are the offsets in decimetres, and the rest are line numbers. It tests every leg, which gives the fewest
+   MAP is the name of a map's file, POS and NEG are the offsets, 100 for a metre, and the rest are line numbers. It tests every leg, which gives the fewest
    points. */
 #include "arguments.h"
 
@@ -14,7 +14,7 @@ int main(int argc, char **argv) {
     static uint8_t map[OPENLR_LONGEST_MAP], stretch[4 * OPENLR_MOST_LINES], reference[OPENLR_LONGEST_REFERENCE], line_buffer[4 * OPENLR_MOST_LINES];
     uint32_t pos, neg;
     if (argc < 4 || argc - 4 > OPENLR_MOST_LINES || !number(argv[2], &pos) || !number(argv[3], &neg)) {
-        fprintf(stderr, "usage: host MAP POS NEG LINE ..\n");
+        fprintf(stderr, "usage: host MAP POS NEG LINE .., with POS and NEG in centimetres\n");
         return 2;
     }
     size_t map_len = load(argv[1], map, sizeof map);

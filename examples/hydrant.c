@@ -1,8 +1,10 @@
-/* A host that marks a single thing, such as a hydrant: writes a reference for a point along a line of a map, reads it back, and prints both.
+/* A host that marks a single thing, such as a hydrant: writes a reference for a point along a line of a map, reads it back, and prints both. Lengths, offsets
+   and spans are in centimetres.
 
      hydrant MAP LINE OFFSET ORIENTATION SIDE
 
-   MAP is the name of a map's file, OFFSET is in decimetres from where the line starts, and ORIENTATION and SIDE are numbers of the header's enums. */
+   MAP is the name of a map's file, OFFSET is counted from where the line starts, 100 for a metre, and ORIENTATION and SIDE are numbers of the header's
+   enums. */
 #include "arguments.h"
 
 static const char *const orientations[] = {"none or unknown", "from the first point to the second", "from the second point to the first", "both directions"};
@@ -17,7 +19,7 @@ int main(int argc, char **argv) {
     static uint8_t map[OPENLR_LONGEST_MAP], reference[OPENLR_LONGEST_POINT], line_buffer[4 * OPENLR_MOST_LINES];
     uint32_t line, offset, orientation, side;
     if (argc != 6 || !number(argv[2], &line) || !number(argv[3], &offset) || !number(argv[4], &orientation) || !number(argv[5], &side)) {
-        fprintf(stderr, "usage: hydrant MAP LINE OFFSET ORIENTATION SIDE\n");
+        fprintf(stderr, "usage: hydrant MAP LINE OFFSET ORIENTATION SIDE, with OFFSET in centimetres\n");
         return 2;
     }
     size_t map_len = load(argv[1], map, sizeof map);

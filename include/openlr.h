@@ -1,5 +1,13 @@
 /* OpenLR binary references to stretches of road and to points along a line, on a depot map, for C and C++ on x86-64 Linux. Link with libopenlr.a.
-   docs/FORMAT.md has the bytes of a map and of a reference.
+
+   LENGTHS, OFFSETS AND SPANS ARE IN CENTIMETRES from version 8 on, in the map's bytes as in the calls. Up to version 7 they were in decimetres. Coming from
+   there, multiply each length in a map and each offset by 10, but not a line's steps: they stay in decimetres. Nothing in the bytes marks the unit, and so a
+   map or an offset in decimetres is taken for centimetres without a complaint. A host should have this line beside its include, in C++ with static_assert; then
+   it does not build with a header of another unit:
+
+     _Static_assert(OPENLR_UNITS_PER_METRE == 100, "lengths and offsets are in centimetres");
+
+   docs/FORMAT.md has the bytes of a map and of a reference, and how a map in decimetres is converted.
 
    What the functions promise is proved, for all bytes that they can be given: they read no memory but their input slices, write none but the output buffer and
    the stack, and return. Nothing checks what the caller owes:
@@ -10,8 +18,7 @@
 
    The functions keep nothing between calls and may run in several threads at once, as long as no output buffer is shared.
 
-   Lines and nodes of a map count from 0, and so do the points and the legs of a reference. Lengths and offsets are in decimetres. A line number takes four
-   bytes, low byte first. */
+   Lines and nodes of a map count from 0, and so do the points and the legs of a reference. A line number takes four bytes, low byte first. */
 #ifndef OPENLR_H
 #define OPENLR_H
 
@@ -23,7 +30,8 @@ extern "C" {
 #endif
 
 /* Goes up by 1 with each change that a host has to know of: of the map's bytes, of a refusal's number or condition, of a struct or a function, or of the unit.
-   Version 1: lengths and offsets are in decimetres, in the map's bytes as in the calls. A version with another unit has another OPENLR_UNITS_PER_METRE too.
+   Version 1: lengths and offsets are in decimetres, in the map's bytes as in the calls, up to version 7. A version with another unit has another
+   OPENLR_UNITS_PER_METRE too.
    Version 2: banned turns. Every map has a count of bans after its lines, and so a map of version 1 is refused with 2; refusals 21 to 23 are new.
    Version 3: longitude differences go round the globe, and so a stretch across the 180th meridian is written and read; before, it was refused with 10, and its
    bytes with 16. A stretch whose nodes lie less than 180 degrees of longitude apart, taken plainly, has the bytes of version 2.
@@ -37,12 +45,16 @@ extern "C" {
    Version 5: points along a line, for single things such as signs and hydrants: openlr_write_point, openlr_read_point and refusal 25 are new. The rest is as
    in version 4.
    Version 6: an offset byte is the nearest 256th of its leg, an exact half upwards, and 255 where that gives 256; before, it was rounded down. So an offset may
-   have another byte, and a byte another span, than in version 5; office and box must have the same version. Refusal 19 follows: on a leg of up to 512
-   decimetres no offset gives byte 0.
+   have another byte, and a byte another span, than in version 5; office and box must have the same version. Refusal 19 follows: on a leg of length
+   up to 512 no offset gives byte 0.
    Version 7: openlr_write is given how many leg tests it may make. It answers how many it made, and by how many points at most the reference exceeds the
-   fewest. Refusal 26 is new. With OPENLR_MOST_TESTS it writes and refuses as in version 6. Maps, references and the other functions are as in version 6. */
-#define OPENLR_VERSION 7
-#define OPENLR_UNITS_PER_METRE 10
+   fewest. Refusal 26 is new. With OPENLR_MOST_TESTS it writes and refuses as in version 6. Maps, references and the other functions are as in version 6.
+   Version 8: lengths, offsets and spans are in centimetres. A line is 1 to 1,500,000 long, a leg at most 1,500,000, and D is the leg's length divided by 5,860.
+   Steps are in decimetres as before. A map of version 7 is not refused, but each of its lines is then ten times too short: multiply the lengths by 10. On a map
+   so converted the same stretch or point, its offsets tenfold, has the bytes of version 7, and what version 7 wrote is read as the same lines, with spans in
+   centimetres. What it refused with 19 may be read now. Office and box must have the same version. */
+#define OPENLR_VERSION 8
+#define OPENLR_UNITS_PER_METRE 100
 
 /* The most that there can be: for buffers that are never too short, and for a test of every leg. */
 #define OPENLR_LONGEST_MAP 23558     /* Bytes of a map that is not refused: 512 nodes of 8, 1,024 lines of 17, 512 bans of 4, and three counts of 2. */
@@ -109,7 +121,7 @@ struct openlr_reading {
     uint32_t refusal;      /* 0: the reference is read. Else the number of the refusal; then every field but `refusal` and `place` is 0. */
     uint32_t place;        /* For refusals 16 to 18 the first point or leg concerned. Else 0. */
     uint32_t line_count;   /* How many lines were read. Their numbers are the first 4 * line_count bytes of the line buffer. */
-    uint32_t pos_least;    /* The positive offset's span: the least offset that its byte may stand for, in decimetres, .. */
+    uint32_t pos_least;    /* The positive offset's span: the least offset that its byte may stand for, in centimetres, .. */
     uint32_t pos_greatest; /* .. and the greatest. 0 and 0 where the reference has no positive offset. */
     uint32_t neg_least;    /* Likewise the negative offset's span. */
     uint32_t neg_greatest;
@@ -131,8 +143,8 @@ struct openlr_written {
 struct openlr_reading openlr_read(const uint8_t *map, size_t map_len, const uint8_t *reference, size_t reference_len, uint8_t *line_buffer,
                                   size_t line_buffer_len);
 
-/* Writes a reference for a stretch: the line numbers in the `stretch_len` bytes of `stretch`, each line ending where the next starts, less `pos` decimetres at
-   its start and `neg` decimetres at its end. `tests` is how many leg tests it may make, any number. With OPENLR_MOST_TESTS, or more, every leg is tested.
+/* Writes a reference for a stretch: the line numbers in the `stretch_len` bytes of `stretch`, each line ending where the next starts, less `pos` centimetres
+   at its start and `neg` centimetres at its end. `tests` is how many leg tests it may make, any number. With OPENLR_MOST_TESTS, or more, every leg is tested.
 
    A byte buffer of OPENLR_LONGEST_REFERENCE bytes is long enough for every reference. Where the reference is written, it stands first in the buffer and the
    bytes after it are as before. Where it is refused, all of the buffer is as before.
@@ -176,7 +188,7 @@ struct openlr_point {
     uint32_t refusal;     /* 0: the reference is read. Else the number of the refusal; then every field but `refusal` and `place` is 0. */
     uint32_t place;       /* For refusal 16 the point, 0 or 1. Else 0: there is one leg only. */
     uint32_t lines;       /* How many lines lie between the two points. Their numbers are the first 4 * lines bytes of the line buffer. */
-    uint32_t least;       /* How far along them the point is: the least offset that the byte may stand for, in decimetres, .. */
+    uint32_t least;       /* How far along them the point is: the least offset that the byte may stand for, in centimetres, .. */
     uint32_t greatest;    /* .. and the greatest. 0 and 0 where the reference has no offset. */
     uint32_t orientation; /* enum openlr_orientation */
     uint32_t side;        /* enum openlr_side */
@@ -193,7 +205,7 @@ struct openlr_point_written {
 struct openlr_point openlr_read_point(const uint8_t *map, size_t map_len, const uint8_t *reference, size_t reference_len, uint8_t *line_buffer,
                                       size_t line_buffer_len);
 
-/* Writes a reference for a point along a line: `offset` decimetres from where the line starts, with its orientation and side.
+/* Writes a reference for a point along a line: `offset` centimetres from where the line starts, with its orientation and side.
 
    A byte buffer of OPENLR_LONGEST_POINT bytes is long enough. Where the reference is written, it stands first in the buffer and the bytes after it are as
    before. Where it is refused, all of the buffer is as before.

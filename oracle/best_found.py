@@ -26,9 +26,9 @@ from outcome import Refused, StretchWritten
 from reference import LONGEST_REFERENCE
 
 PENTAGON_NODES = (Node(0, 0), Node(30_000, 0), Node(40_000, 30_000), Node(-10_000, 30_000), Node(20_000, 50_000))
-# Legs of 1000, 1000 and 2000. D is 1, 1 and 3. Differences: 30,000 is 7530, 10,000 is 2710, -20,000 is B1E0, 20,000 is 4E20.
+# Legs of 10,000, 10,000 and 20,000. D is 1, 1 and 3. Differences: 30,000 is 7530, 10,000 is 2710, -20,000 is B1E0, 20,000 is 4E20.
 PENTAGON_FOUR_POINTS = bytes.fromhex("0B 000000 000000 1B 68 01 7530 0000 1B 68 01 2710 7530 1B 68 03 B1E0 4E20 1B 18")
-# Legs of 3000 and 1000. D is 5 and 1. Differences: -10,000 is D8F0.
+# Legs of 30,000 and 10,000. D is 5 and 1. Differences: -10,000 is D8F0.
 PENTAGON_THREE_POINTS = bytes.fromhex("0B 000000 000000 1B 68 05 D8F0 7530 1B 68 01 7530 4E20 1B 18")
 
 
@@ -45,7 +45,7 @@ class WorkedCase(NamedTuple):
         return map_to_bytes(self.depot_map)
 
 
-def line(start, end, length=1_000):
+def line(start, end, length=10_000):
     """FRC 3, FOW 3, drawn from west to east."""
     return Line(start, end, length, 3, 3, EASTWARD, WESTWARD)
 
@@ -97,7 +97,7 @@ def long_leg_last():
     With 4 tests 1-3 is not tested. It counts as good although it is too long, and 26 is given.
     """
     depot_map = DepotMap(tuple(Node(1_000 * number, 0) for number in range(4)),
-                         (line(0, 1, 100_000), line(1, 2, 100_000), line(2, 3, 100_000), line(1, 2, 100_000)))
+                         (line(0, 1, 1_000_000), line(1, 2, 1_000_000), line(2, 3, 1_000_000), line(1, 2, 1_000_000)))
     return WorkedCase(depot_map, (0, 1, 2), LONGEST_REFERENCE, ((0, 1), (2, 3)), (Refused(26),) * 5 + (Refused(10), Refused(10)))
 
 

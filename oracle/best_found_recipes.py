@@ -4,7 +4,9 @@ from dataclasses import replace
 from math import cos, pi, sin
 
 from best_found import WORKED_CASES
-from depot_map import GREATEST_LATITUDE, GREATEST_LONGITUDE, Node, map_to_bytes, read_map
+from depot_map import GREATEST_LATITUDE, GREATEST_LONGITUDE, LONGEST_LINE, Node, map_to_bytes, read_map
+from fields import DISTANCE_STEP, LONGEST_LEG
+from lengths import ANOTHER_DISTANCE, HALF_LEG
 from numbers_of_tests import any_tests, first_decided, leg_count, lines_left
 from outcome import Refused, StretchWritten
 from recipes import sample_with_free_stretch, until_found
@@ -31,11 +33,11 @@ def scattered_row(rng, line_count, lead=()):
     builder = MapBuilder()
     shift = rng.choice([0, 0, -1_000_000, 1_000_000])
     nodes = [builder.node(shift + UNIT * east, shift + UNIT * north) for east, north in places]
-    lengths = [*lead, *(rng.choice([1, 586, 1_000, 40_000]) for _ in range(line_count))]
+    lengths = [*lead, *(rng.choice([1, DISTANCE_STEP, 10_003, 400_001]) for _ in range(line_count))]
     lines = tuple(builder.line(start, end, length) for start, end, length in zip(nodes, nodes[1:], lengths))
     for line in lines[len(lead):]:
         if rng.random() < 0.1:
-            builder.line(builder.lines[line].start_node, builder.lines[line].end_node, lengths[line] + rng.choice([0, 1, 700]))
+            builder.line(builder.lines[line].start_node, builder.lines[line].end_node, lengths[line] + rng.choice([0, 1, ANOTHER_DISTANCE]))
     return WriteInput(map_to_bytes(builder.build()), lines, pos=sum(lead))
 
 
@@ -94,15 +96,15 @@ def excess_of_several_points(rng, turn):
     *places, end, before_end = ring_places(along + 3)
     builder = MapBuilder()
     nodes = [builder.node(*place) for place in (*places, before_end, end)]
-    lines = tuple(builder.line(start, end, 1_000) for start, end in zip(nodes, nodes[1:]))
+    lines = tuple(builder.line(start, end, 10_003) for start, end in zip(nodes, nodes[1:]))
     tests = leg_count(len(lines)) - (1, 0, 1, 2)[turn // 4 % 4]
-    pos, neg = rng.choice([(0, 0), (999, 0), (0, 999), (500, 500)])
+    pos, neg = rng.choice([(0, 0), (10_002, 0), (0, 10_002), (5_001, 5_002)])
     return f"{tests} tests of {leg_count(len(lines))}", WriteInput(map_to_bytes(builder.build()), lines, pos, neg, tests=tests)
 
 
 def excess_with_skipped_lines(rng, turn):
     """Lines come before that an offset covers whole. They have no legs to be tested."""
-    lead = [rng.choice([1, 1_000, 150_000]) for _ in range(1 + turn % 3)]
+    lead = [rng.choice([1, 10_003, LONGEST_LINE]) for _ in range(1 + turn % 3)]
     given = until_found(lambda: found_before_all(rng, any_row(rng, lead), lambda outcome, _: outcome.excess > 0))
     return f"{len(lead)} lines skipped", given
 
@@ -129,7 +131,7 @@ def row_ends(rng, turn):
     count = (5, 17, 63, MOST_STRETCH_LINES)[turn % 4]
     builder = MapBuilder()
     nodes = builder.row_of_nodes(count + 1)
-    length = (1, 150_000 // (count // 2 + 1), 75_001)[turn // 4 % 3]
+    length = (1, LONGEST_LEG // (count // 2 + 1), HALF_LEG + 1)[turn // 4 % 3]
     lines = tuple(builder.line(start, end, length) for start, end in zip(nodes, nodes[1:]))
     rows = rng.choice([1, 2, count // 2, count - 1, count])
     tests = sum(range(count, count - rows, -1)) + rng.choice([-1, 0, 0, 1])
@@ -170,7 +172,7 @@ def untested_leg_too_long(rng, turn):
     lead = turn % 4
     builder = MapBuilder()
     nodes = builder.row_of_nodes(lead + 3)
-    lengths = [rng.choice([1_000, 100_000]) for _ in range(lead)] + [rng.choice([75_001, 150_000]), 75_000]
+    lengths = [rng.choice([10_003, 1_000_001]) for _ in range(lead)] + [rng.choice([HALF_LEG + 1, LONGEST_LINE]), HALF_LEG]
     lines = tuple(builder.line(start, end, length) for start, end, length in zip(nodes, nodes[1:], lengths))
     builder.line(nodes[lead], nodes[lead + 1], lengths[lead])
     given = WriteInput(map_to_bytes(builder.build()), lines)
@@ -182,7 +184,7 @@ def ruled_out_early(rng, turn):
     builder = MapBuilder()
     count = (2, 3, 5, MOST_STRETCH_LINES)[turn % 4]
     nodes = builder.row_of_nodes(count + 1)
-    lines = tuple(builder.line(start, end, rng.choice([1, 586])) for start, end in zip(nodes, nodes[1:]))
+    lines = tuple(builder.line(start, end, rng.choice([1, DISTANCE_STEP])) for start, end in zip(nodes, nodes[1:]))
     builder.line(nodes[0], nodes[1], builder.lines[0].length)
     tests = (count, leg_count(count) - 1, rng.randrange(count, leg_count(count)))[turn // 4 % 3]
     return f"{tests} tests of {leg_count(count)}", WriteInput(map_to_bytes(builder.build()), lines, byte_room=AMPLE_BYTES * (turn % 2), tests=tests)

@@ -18,8 +18,8 @@ from point_write_recipes import (MERIDIAN_POINT_WRITE_RECIPES, POINT_WRITE_EDGES
                                  point_write_outcome)
 from read_recipes import READ_RECIPES, read_outcome
 from recipes import any_sample
-from sample_maps import (FIRST_BEHIND, LAST_BEFORE, MapBuilder, Sample, across_meridian, chain_of_blocks, chain_of_ties, edge_sample, full_size_sample,
-                         other_first_line_sample, other_way, pairs_of, random_walk, sample_across)
+from sample_maps import (CENTIMETRE_SAMPLES, FIRST_BEHIND, LAST_BEFORE, MapBuilder, Sample, across_meridian, centimetre_sample, chain_of_blocks,
+                         chain_of_ties, edge_sample, full_size_sample, other_first_line_sample, other_way, pairs_of, random_walk, sample_across)
 from write_recipes import WRITE_RECIPES, write_outcome
 
 
@@ -115,7 +115,7 @@ def nodes_at_meridian(rng, turn):
     builder = MapBuilder()
     latitude = rng.choice([0, 9_000_000])
     nodes = [builder.node(longitude, latitude) for longitude in rng.sample(pairs[turn % len(pairs)], 2)]
-    builder.line(*nodes, 1_000)
+    builder.line(*nodes, 10_003)
     return f"{pairs[turn % len(pairs)]}", map_to_bytes(builder.build())
 
 
@@ -128,7 +128,7 @@ MERIDIAN_MAP_RECIPES = {
 
 
 def stretch_leg(rng, sample):
-    """A leg from part of a stretch or from a walk; up to 150,001 decimetres, and so perhaps one too long."""
+    """A leg from part of a stretch or from a walk; up to one centimetre over the longest leg, and so perhaps too long."""
     walk = sample.stretch if rng.random() < 0.6 else random_walk(rng, sample.depot_map, rng.randrange(1, 7))
     start = rng.randrange(len(walk))
     lines = walk[start:start + rng.randrange(1, 6)]
@@ -197,6 +197,12 @@ def leg_around_the_block(rng, turn):
     return Sample("block", depot_map, legs[0]), describe_leg(depot_map, legs[0], rng.random() < 0.5)
 
 
+def leg_to_the_centimetre(rng, turn):
+    """Each sample as a last leg, and as another."""
+    sample = centimetre_sample(rng, turn)
+    return sample, describe_leg(sample.depot_map, sample.stretch, turn // CENTIMETRE_SAMPLES % 2 == 1)
+
+
 def leg_at_an_edge(rng, turn):
     sample = edge_sample(rng, turn)
     return sample, describe_leg(sample.depot_map, sample.stretch, True)
@@ -212,6 +218,7 @@ LEG_RECIPES = {
     "turn banned": leg_with_other_way_banned,
     "around the block": leg_around_the_block,
     "sides of an edge": leg_at_an_edge,
+    "to the centimetre": leg_to_the_centimetre,
 }
 
 

@@ -10,15 +10,15 @@ import tempfile
 from dataclasses import replace
 from pathlib import Path
 
-from depot_map import (GREATEST_LATITUDE, GREATEST_LONGITUDE, LARGEST_NUMBER, MOST_BANS, MOST_LINES, MOST_NODES, DepotMap, Line, Node, Steps,
+from depot_map import (GREATEST_LATITUDE, GREATEST_LONGITUDE, LARGEST_NUMBER, LONGEST_LINE, MOST_BANS, MOST_LINES, MOST_NODES, DepotMap, Line, Node, Steps,
                        map_numbers, map_to_bytes, numbers_to_bytes)
-from fields import GREATEST_STEP
+from fields import DISTANCE_STEP, GREATEST_STEP
 from read_recipes import around, bytes_of_legs, longest_reference
 from sample_maps import ridge_map
 from show import shown
 from test_meridian import RIDGE_ACROSS, from_the_ridge_across
 from test_points import HYDRANT
-from test_scope_paper import RIDGE, THREE_POINTS, THREE_POINTS_OFFSET_500, TWO_POINTS
+from test_scope_paper import RIDGE, THREE_POINTS, THREE_POINTS_HALF_WAY, TWO_POINTS
 
 # Each takes two bytes.
 LONGEST_STEPS = Steps(GREATEST_STEP, GREATEST_STEP)
@@ -39,7 +39,7 @@ def longest_map():
     """Every number as long as it can be in a map that is accepted. Up to three lines join the same two nodes; D tells them apart."""
     nodes = tuple(Node(GREATEST_LONGITUDE - 100 * number, GREATEST_LATITUDE) for number in range(MOST_NODES))
     ring = 384
-    lines = tuple(Line(128 + number % ring, 128 + (number + 1) % ring, 150_000 - 586 * (number // ring), 7, 7, LONGEST_STEPS, LONGEST_STEPS)
+    lines = tuple(Line(128 + number % ring, 128 + (number + 1) % ring, LONGEST_LINE - DISTANCE_STEP * (number // ring), 7, 7, LONGEST_STEPS, LONGEST_STEPS)
                   for number in range(MOST_LINES))
     bans = tuple((first, first + 1) for first in range(128, 128 + MOST_BANS))
     return DepotMap(nodes, lines, bans)
@@ -71,7 +71,7 @@ def longest():
 
 def folders():
     """For each folder a name and its files."""
-    yield "the ridge, positive offset 500", {"map.bin": RIDGE, "ref.bin": THREE_POINTS_OFFSET_500}
+    yield "the ridge, positive offset 5000", {"map.bin": RIDGE, "ref.bin": THREE_POINTS_HALF_WAY}
     yield "the ridge, two points", {"map.bin": RIDGE, "ref.bin": TWO_POINTS}
     yield "a point along a line", {"map.bin": RIDGE, "ref.bin": HYDRANT}
     yield "no files", {}
@@ -88,7 +88,7 @@ def folders():
     yield "a step out of range", {"map.bin": ridge_with_last_steps(50, 501), "ref.bin": THREE_POINTS}
     yield "both steps zero", {"map.bin": ridge_with_last_steps(250, 250), "ref.bin": THREE_POINTS}
     yield "steps of another sector, two points", {"map.bin": ridge_with_last_steps(50, 290), "ref.bin": TWO_POINTS}
-    yield "the ridge across the meridian", {"map.bin": RIDGE_ACROSS, "ref.bin": from_the_ridge_across(THREE_POINTS_OFFSET_500)}
+    yield "the ridge across the meridian", {"map.bin": RIDGE_ACROSS, "ref.bin": from_the_ridge_across(THREE_POINTS_HALF_WAY)}
     yield "a point at 17,999,999", {"map.bin": RIDGE_ACROSS, "ref.bin": from_the_ridge_across(THREE_POINTS).replace(b"\x03\xe8", b"\x03\xe7")}
     yield from longest_maps()
     for length in (459, 460, 511, 512, 513, FAR):

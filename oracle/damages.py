@@ -4,7 +4,7 @@ from dataclasses import dataclass, field, replace
 from itertools import product
 from typing import Optional
 
-from depot_map import (GREATEST_LATITUDE, GREATEST_LONGITUDE, LARGEST_NUMBER, LATITUDE_SHIFT, LONGITUDE_SHIFT, MOST_BANS, MOST_LINES,
+from depot_map import (GREATEST_LATITUDE, GREATEST_LONGITUDE, LARGEST_NUMBER, LATITUDE_SHIFT, LONGEST_LINE, LONGITUDE_SHIFT, MOST_BANS, MOST_LINES,
                        STEP_SHIFT, joins, map_numbers, numbers_to_bytes, write_number)
 from fields import GREATEST_STEP, coordinate_code, differences
 from legs import Marks, marks_arriving, marks_leaving
@@ -168,7 +168,7 @@ def two_step_damages(depot_map):
 
 def line_damages(depot_map):
     node_count = len(depot_map.nodes)
-    wrong_values = {"start node": (node_count,), "end node": (node_count,), "length": (0, 150_001),
+    wrong_values = {"start node": (node_count,), "end node": (node_count,), "length": (0, LONGEST_LINE + 1),
                     "FRC": (8,), "FOW": (8,)}
     damages = []
     for place, line in ends_of_lines(depot_map):

@@ -1,6 +1,6 @@
 """The depot map: its bytes and refusals 2 to 6, 23 and 24.
 
-Scope paper, "The depot map", "Refused, by place"; paper 02, "Banned turns", "Bearings from the drawing".
+Scope paper, "The depot map", "Refused, by place"; paper 02, "Banned turns", "Bearings from the drawing", "Centimetres".
 """
 
 from dataclasses import dataclass
@@ -19,6 +19,8 @@ GREATEST_LATITUDE = 9_000_000
 FEWEST_NODES, MOST_NODES = 2, 512
 FEWEST_LINES, MOST_LINES = 1, 1_024
 MOST_BANS = 512
+# A line may be as long as a leg.
+LONGEST_LINE = LONGEST_LEG
 
 
 @dataclass(frozen=True)
@@ -36,7 +38,7 @@ class Steps(NamedTuple):
 
 @dataclass(frozen=True)
 class Line:
-    """A line runs one way only, from its start node to its end node. The length is in decimetres.
+    """A line runs one way only, from its start node to its end node. The length is in centimetres.
 
     The steps out are those from the start node along the line, the steps back those from the end node back along it.
     """
@@ -149,7 +151,7 @@ def _take_line(numbers, node_count):
     end_node = numbers.take(0, node_count - 1, 5)
     if end_node == start_node:
         raise RefusedCall(5)
-    length = numbers.take(1, LONGEST_LEG, 5)
+    length = numbers.take(1, LONGEST_LINE, 5)
     frc = numbers.take(0, 7, 5)
     fow = numbers.take(0, 7, 5)
     steps_out = _take_steps(numbers)

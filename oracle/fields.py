@@ -1,6 +1,7 @@
 """The fields of a reference, as the scope paper's paragraph "The bytes" words them.
 
 Longitude differences are paper 02's, "Depots on the 180th meridian". So are sectors, "Bearings from the drawing", and offset bytes, "Offsets to the nearest".
+Lengths and offsets are in centimetres, by its "Centimetres"; steps stay in decimetres.
 """
 
 from bisect import bisect_right
@@ -8,7 +9,9 @@ from fractions import Fraction
 from functools import lru_cache
 from math import ceil, floor, isqrt, trunc
 
-LONGEST_LEG = 150_000
+LONGEST_LEG = 1_500_000
+# D counts these, 58.6 m each.
+DISTANCE_STEP = 5_860
 # 360 degrees, in hundred-thousandths.
 WHOLE_CIRCLE = 36_000_000
 # A step leads 250 decimetres at most, east or west, north or south.
@@ -90,8 +93,8 @@ def sector(steps):
 
 
 def distance_byte(leg_length):
-    """Byte D, the distance to the next point, of a leg length in decimetres."""
-    return leg_length // 586
+    """Byte D, the distance to the next point, of a leg length in centimetres."""
+    return leg_length // DISTANCE_STEP
 
 
 def offset_byte(offset, leg_length):

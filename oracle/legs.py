@@ -1,4 +1,7 @@
-"""A leg's readings (scope paper, "What counts as a reading"; paper 02, "Banned turns", "Bearings from the drawing"), by counting and by enumeration."""
+"""A leg's readings, by counting and by enumeration.
+
+Scope paper, "What counts as a reading"; paper 02, "Banned turns", "Bearings from the drawing", "Centimetres".
+"""
 
 import heapq
 from dataclasses import dataclass

@@ -6,7 +6,7 @@ What the other recipes make is shifted there; and recipes of its own have the ed
 from dataclasses import replace
 
 from damages import replaced
-from depot_map import GREATEST_LATITUDE, map_to_bytes, read_map
+from depot_map import GREATEST_LATITUDE, LONGEST_LINE, map_to_bytes, read_map
 from drawn_steps import EASTWARD, WESTWARD
 from fields import brought_round, code_pair, coordinate_code
 from numbers_of_tests import all_with_all_tests
@@ -22,6 +22,7 @@ ACROSS = ", across the meridian"
 DIFFERENCES_ACROSS = (2, 3, 1_000, 32_766, 32_767, -2, -3, -1_000, -32_767, -32_768)
 # How far off a node is that is only there for a line to go to.
 ASIDE = 5_000
+ROAD_LENGTH = 10_003
 
 
 def map_across(map_bytes):
@@ -85,7 +86,7 @@ def two_longitudes(rng, difference, place):
     return (before, behind) if difference > 0 else (behind, before)
 
 
-def lines_there_and_back(builder, start, end, length=1_000):
+def lines_there_and_back(builder, start, end, length=ROAD_LENGTH):
     """A line from a node to another and one back, with different marks."""
     there = builder.line(start, end, length)
     return there, builder.line(end, start, length, steps_out=WESTWARD, steps_back=EASTWARD)
@@ -116,7 +117,7 @@ def point_across(rng, turn):
     depot_map = map_of_two_nodes(rng, difference, turn // len(DIFFERENCES_ACROSS) % 3)
     # The way back from -32,768 does not fit.
     legs = [(0,)] if difference == -32_768 else rng.choice([[(0,)], [(0,), (1,)], [(0,), (1,), (0,)]])
-    return f"difference {difference}", ReadInput(map_to_bytes(depot_map), bytes_of_legs(depot_map, legs, pos=rng.choice([0, 1, 999])))
+    return f"difference {difference}", ReadInput(map_to_bytes(depot_map), bytes_of_legs(depot_map, legs, pos=rng.choice([0, 1, ROAD_LENGTH - 1])))
 
 
 def node_unless_taken(builder, longitude, latitude):
@@ -188,7 +189,7 @@ def legs_back_and_forth(rng, turn):
     leg_count = (1, 2, 5, 64)[turn % 4]
     builder = MapBuilder()
     nodes = row_back_and_forth(rng, builder, leg_count + 1)
-    legs = [(builder.line(start, end, rng.choice([1, 1_000])),) for start, end in zip(nodes, nodes[1:])]
+    legs = [(builder.line(start, end, rng.choice([1, ROAD_LENGTH])),) for start, end in zip(nodes, nodes[1:])]
     depot_map = builder.build()
     return f"{leg_count} legs", ReadInput(map_to_bytes(depot_map), bytes_of_legs(depot_map, legs), line_room=leg_count)
 
@@ -223,7 +224,7 @@ def differences_at_ends_across(rng, turn):
     if turn // 8 % 2:
         half_way = brought_round(longitudes[0] + difference // 2)
         nodes.insert(1, builder.node(min(half_way, LAST_BEFORE), ASIDE))
-    lines = tuple(builder.line(start, end, rng.choice([1, 1_000])) for start, end in zip(nodes, nodes[1:]))
+    lines = tuple(builder.line(start, end, rng.choice([1, ROAD_LENGTH])) for start, end in zip(nodes, nodes[1:]))
     return f"difference {difference}", WriteInput(map_to_bytes(builder.build()), lines)
 
 
@@ -232,7 +233,7 @@ def stretch_back_and_forth(rng, turn):
     count = (1, 2, 5, 64)[turn % 4]
     builder = MapBuilder()
     nodes = row_back_and_forth(rng, builder, count + 1)
-    lengths = [[1], [1_000], [149_999, 150_000]][turn // 4 % 3]
+    lengths = [[1], [ROAD_LENGTH], [LONGEST_LINE - 1, LONGEST_LINE]][turn // 4 % 3]
     lines = tuple(builder.line(start, end, rng.choice(lengths)) for start, end in zip(nodes, nodes[1:]))
     pos, neg = rng.choice([(0, 0), (lengths[0] - 1, 0), (0, lengths[0] - 1)])
     return f"{count} lines", WriteInput(map_to_bytes(builder.build()), lines, pos, neg)
@@ -242,8 +243,8 @@ def far_line_skipped(rng, turn):
     """A line over the meridian that is too far for 16 bits, and that an offset covers whole. What remains is on one side, or crosses it too."""
     far = (33_200, 40_000, 65_536, 1_000_000)[turn % 4] * (1, -1)[turn // 4 % 2]
     outer, middle = two_longitudes(rng, far, 1 if far > 0 else 0)
-    longitudes, lengths = [outer, middle, brought_round(middle + (-400, 400)[turn // 8 % 2])], [1_000, 300]
-    pos, neg = 1_000, rng.choice([0, 1, 299])
+    longitudes, lengths = [outer, middle, brought_round(middle + (-400, 400)[turn // 8 % 2])], [ROAD_LENGTH, 3_001]
+    pos, neg = ROAD_LENGTH, rng.choice([0, 1, 3_000])
     if rng.random() < 0.5:
         longitudes, lengths, pos, neg = longitudes[::-1], lengths[::-1], neg, pos
     builder = MapBuilder()

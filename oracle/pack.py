@@ -151,7 +151,7 @@ def full_map_legs(plain, across, legs):
 
 def test_legs():
     parts, rows = full_map_legs(plain=12, across=0, legs=40)
-    for case in [*leg_cases(seed=1, count=1_440, left_out=FULL_SIZE), *leg_cases_across(seed=1, count=72, left_out=FULL_SIZE_ACROSS)]:
+    for case in [*leg_cases(seed=1, count=1_600, left_out=FULL_SIZE), *leg_cases_across(seed=1, count=80, left_out=FULL_SIZE_ACROSS)]:
         parts += [case.map_bytes, leg_words(case.leg)]
         rows.append(leg_row(case.depot_map, case.expected))
     return packed(parts), rows
@@ -221,8 +221,8 @@ def packed_calls(calls, subject, numbers, row):
 
 def test_reads():
     """The subject is a reference; the numbers are the lengths of the work area and of the line buffer."""
-    calls = [*on_small_maps(read_cases, 3_100), *full_map_reads(plain=8, across=1, references=49),
-             *on_small_maps(read_cases_across, 100, FULL_SIZE_ACROSS), *on_small_maps(meridian_read_cases, 120),
+    calls = [*on_small_maps(read_cases, 3_120), *full_map_reads(plain=8, across=1, references=49),
+             *on_small_maps(read_cases_across, 104, FULL_SIZE_ACROSS), *on_small_maps(meridian_read_cases, 120),
              *on_small_maps(points_for_stretches_cases, 22)]
     check_room(calls, lambda given: given.line_room <= READS_LINE_ROOM)
     return packed_calls(calls, lambda given: given.reference,
@@ -262,8 +262,8 @@ def few_of_large_maps(made):
 def test_writes():
     """The subject is a stretch, four bytes a line; the numbers are the offsets, the number of tests, and the lengths of the work area and of the byte
     buffer."""
-    made = [*few_of_large_maps(write_cases(seed=1, count=2_652, left_out=FULL_SIZE)),
-            *write_cases_across(seed=1, count=102, left_out=FULL_SIZE_ACROSS), *meridian_write_cases(seed=1, count=128)]
+    made = [*few_of_large_maps(write_cases(seed=1, count=2_730, left_out=FULL_SIZE)),
+            *write_cases_across(seed=1, count=105, left_out=FULL_SIZE_ACROSS), *meridian_write_cases(seed=1, count=128)]
     made += [*with_other_tests("other tests", 1, made), *best_found_cases(seed=1, count=405)]
     calls = [*((case.given, case.expected) for case in made), *full_map_writes(plain=8, across=2, stretches=24)]
     check_room(calls, lambda given: len(given.lines) <= WRITES_LINE_ROOM and given.byte_room <= WRITES_BYTE_ROOM)
@@ -303,9 +303,9 @@ def point_row(given, outcome):
 
 def test_points():
     """The subject is the reference to be read, empty where a point is written."""
-    calls = [*on_small_maps(point_read_cases, 820), *on_small_maps(point_read_edge_cases, 400), *on_small_maps(point_write_cases, 624),
-             *on_small_maps(point_write_edge_cases, 280), *full_map_points(plain=5, across=1, points=40),
-             *on_small_maps(point_read_cases_across, 82, FULL_SIZE_ACROSS), *on_small_maps(point_write_cases_across, 78, FULL_SIZE_ACROSS),
+    calls = [*on_small_maps(point_read_cases, 840), *on_small_maps(point_read_edge_cases, 480), *on_small_maps(point_write_cases, 648),
+             *on_small_maps(point_write_edge_cases, 320), *full_map_points(plain=5, across=1, points=40),
+             *on_small_maps(point_read_cases_across, 84, FULL_SIZE_ACROSS), *on_small_maps(point_write_cases_across, 81, FULL_SIZE_ACROSS),
              *on_small_maps(meridian_point_read_cases, 120), *on_small_maps(meridian_point_write_cases, 72)]
     check_room(calls, point_fits)
     return packed_calls(calls, lambda given: b"" if is_written(given) else given.reference, point_numbers, point_row)

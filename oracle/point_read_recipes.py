@@ -13,10 +13,11 @@ from point_along_line import bytes_of_point, read_point
 from point_write_recipes import accepted_point, any_marks, point_write_outcome
 from read_recipes import (AMPLE_LINES, OFFSET_EDGES, ReadInput, around, around_the_block, around_twice, changed_byte, changed_leg_field, changed_offset_byte,
                           closed_loop, composed_legs, damaged_map, damaged_reference, full_size, leg_with_ways_around, legs_can_be_written,
-                          lines_exactly_enough, lines_too_few, row_of_lines, sides_of_an_edge, tie_that_a_ban_decides, two_faults, written_input)
+                          lines_exactly_enough, lines_too_few, row_of_lines, sides_of_an_edge, tie_that_a_ban_decides, to_the_centimetre, two_faults,
+                          written_input)
 from recipes import any_sample, until_found, work_area_exactly_enough, work_area_too_short
 from reference import LONGEST_POINT_ALONG_LINE, NEGATIVE_FLAG, POINT_STATUS, POSITIVE_FLAG, SHORTEST_REFERENCE, p_byte_positions
-from sample_maps import MapBuilder, chain_of_ties, random_walk, ridge_map
+from sample_maps import CENTIMETRE_SAMPLES, MapBuilder, chain_of_ties, random_walk, ridge_map
 
 # P, Q and D of the first point, P and R of the last.
 FIELD_POSITIONS = (7, 8, 9, 14, 15)
@@ -121,7 +122,7 @@ def offset_byte_at_edges(rng, turn):
 
     Each of five bytes on each of 16 lengths has its turn.
     """
-    lengths = (1, 2, 100, *OFFSET_EDGES, 1_000, LONGEST_LEG - 1, LONGEST_LEG)
+    lengths = (1, 2, 100, *OFFSET_EDGES, 10_003, LONGEST_LEG - 1, LONGEST_LEG)
     byte, length = (0, 1, 128, 254, 255)[turn % 5], lengths[turn % len(lengths)]
     parts = [length] if length < 3 or rng.random() < 0.5 else [1, length - 2, 1]
     depot_map = row_of_lines(parts)
@@ -161,20 +162,20 @@ def tied_leg(rng, turn):
     """The ridge, a tie of two ways, and two lines that join the same nodes. The line buffer is too short as well every other time."""
     room = AMPLE_LINES * (turn // 3 % 2)
     if turn % 3 == 0:
-        return "ridge", point_along(rng, ridge_map(), (0, 1), rng.choice([0, 500]), line_room=room)
+        return "ridge", point_along(rng, ridge_map(), (0, 1), rng.choice([0, 5_000]), line_room=room)
     if turn % 3 == 1:
         depot_map, (lines,) = chain_of_ties(1, (0,))
-        return "two ways", point_along(rng, depot_map, lines, rng.choice([0, 299]), line_room=room)
+        return "two ways", point_along(rng, depot_map, lines, rng.choice([0, list_length(depot_map, lines) - 1]), line_room=room)
     builder = MapBuilder()
     builder.row_of_nodes(2)
-    for length in (300, 400):
+    for length in (3_001, 4_003):
         builder.line(0, 1, length)
     return "parallel lines", point_along(rng, builder.build(), (0,), rng.choice([0, 1]), line_room=room)
 
 
 def other_distance(rng, turn):
     """D of no way. There may be an offset's byte 0, which no offset gives on 200: 19 stands below."""
-    depot_map = row_of_lines([100, 100])
+    depot_map = row_of_lines([101, 99])
     given = point_along(rng, depot_map, (0, 1), turn % 2)
     reference = replaced(given.reference, FIELD_POSITIONS[2], bytes([(1, 2, 255)[turn % 3]]))
     return "D", replace(given, reference=reference[:16] + bytes(len(reference) - 16))
@@ -200,6 +201,7 @@ POINT_READ_RECIPES = {
     "around the block": each_fourth_of_one_leg(around_the_block),
     "full size": of_one_leg(full_size),
     "sides of an edge": of_one_leg(sides_of_an_edge),
+    "to the centimetre": of_one_leg(lambda rng, turn: to_the_centimetre(rng, CENTIMETRE_SAMPLES + turn % CENTIMETRE_SAMPLES)),
     "reference to a stretch": written_input,
     "two faults": two_faults(written_point, point_along_line_damages),
     "refusal 1": work_area_too_short(written_point, {"map_bytes": b""}, {"reference": b""}, {"line_room": 0}),
@@ -226,7 +228,7 @@ POINT_READ_RECIPES = {
 
 # Those with many edges on small maps.
 POINT_READ_EDGES = {name: POINT_READ_RECIPES[name] for name in (
-    "each orientation and side", "each bit", "each length and flag", "offset byte at its edges", "sides of an edge")}
+    "each orientation and side", "each bit", "each length and flag", "offset byte at its edges", "sides of an edge", "to the centimetre")}
 
 MERIDIAN_POINT_READ_RECIPES = {
     "point across the meridian": of_one_leg(point_across),

@@ -4,9 +4,10 @@ from dataclasses import dataclass, replace
 from functools import lru_cache
 
 from damages import map_damage
-from depot_map import LARGEST_NUMBER, MOST_LINES, Line, map_to_bytes, read_map
+from depot_map import LARGEST_NUMBER, LONGEST_LINE, MOST_LINES, Line, map_to_bytes, read_map
 from drawn_steps import EASTWARD, NORTHWARD, WESTWARD
-from fields import LONGEST_LEG
+from fields import DISTANCE_STEP
+from lengths import DISTANCE_EDGES
 from meridian_recipes import all_across, differences_at_ends_across, half_a_circle, stretch_back_and_forth, writing_across
 from outcome import PointWritten
 from point_along_line import GREATEST_ORIENTATION, GREATEST_SIDE, write_point
@@ -120,8 +121,10 @@ def many_points_on_a_map(rng, depot_map, count):
 
 
 # A line and what its twin, which joins the same nodes, has of its own. The first two are not told apart: D is 1 for both.
-TWIN = Line(0, 1, 1_000, 3, 3, EASTWARD, WESTWARD)
-TWINS = ({}, {"length": 1_171}, {"length": 1_172}, {"length": 585}, {"frc": 2}, {"frc": 4}, {"fow": 2}, {"steps_out": NORTHWARD}, {"steps_back": NORTHWARD})
+TWIN = Line(0, 1, 10_003, 3, 3, EASTWARD, WESTWARD)
+SHORTER_TWIN = DISTANCE_STEP - 1
+TWINS = ({}, {"length": 2 * DISTANCE_STEP - 1}, {"length": 2 * DISTANCE_STEP}, {"length": SHORTER_TWIN}, {"frc": 2}, {"frc": 4}, {"fow": 2},
+         {"steps_out": NORTHWARD}, {"steps_back": NORTHWARD})
 
 
 def map_of_twins(own, own_last):
@@ -136,7 +139,7 @@ def parallel_lines(rng, turn):
     """Two lines that join the same nodes and are equal in all fields but one, or in all."""
     own = TWINS[turn % len(TWINS)]
     depot_map = map_of_twins(own, rng.random() < 0.5)
-    return f"other {' '.join(own) or 'number'}", PointInput(map_to_bytes(depot_map), rng.randrange(2), rng.choice([0, 1, 584]), **any_marks(rng))
+    return f"other {' '.join(own) or 'number'}", PointInput(map_to_bytes(depot_map), rng.randrange(2), rng.choice([0, 1, SHORTER_TWIN - 1]), **any_marks(rng))
 
 
 def line_and_way_around(rng, turn):
@@ -146,14 +149,28 @@ def line_and_way_around(rng, turn):
     aside = ("tie", "turn banned", "other D", "other sector out", "other sector back")[turn % 5]
     builder = MapBuilder()
     start, middle, end = builder.row_of_nodes(3)
-    length = rng.choice([586, 1_000, 140_000])
+    length = rng.choice([DISTANCE_STEP, 10_003, 1_400_001])
     half = rng.randrange(1, length)
     line = builder.line(start, end, length)
     there = builder.line(start, middle, half, steps_out=NORTHWARD if aside == "other sector out" else EASTWARD)
-    onward = builder.line(middle, end, length - half + (586 if aside == "other D" else 0), steps_back=NORTHWARD if aside == "other sector back" else WESTWARD)
+    onward = builder.line(middle, end, length - half + (DISTANCE_STEP if aside == "other D" else 0),
+                          steps_back=NORTHWARD if aside == "other sector back" else WESTWARD)
     if aside == "turn banned":
         builder.ban(there, onward)
     return aside, PointInput(map_to_bytes(builder.build()), line, rng.choice([0, length - 1]), **any_marks(rng))
+
+
+def to_the_centimetre(rng, turn):
+    """A line at an edge of D or of the longest leg, and a way of two lines that is shorter by one, as long, or longer by one: only D may tell them apart."""
+    lengths = (*DISTANCE_EDGES, LONGEST_LINE - 1, LONGEST_LINE)
+    length, more = lengths[turn % len(lengths)], (-1, 0, 1)[turn // len(lengths) % 3]
+    builder = MapBuilder()
+    start, middle, end = builder.row_of_nodes(3)
+    half = rng.randrange(1, length + more)
+    line = builder.line(start, end, length)
+    builder.line(start, middle, half)
+    builder.line(middle, end, length + more - half)
+    return f"{length} and {length + more}", PointInput(map_to_bytes(builder.build()), line, rng.choice([0, 1, length - 1]), **any_marks(rng))
 
 
 def side_of_an_edge(rng, turn):
@@ -177,7 +194,7 @@ def too_far(rng, turn):
     builder = MapBuilder()
     builder.node(0, 0)
     builder.node(*((difference, 0) if turn // 10 % 2 else (0, difference)))
-    line = builder.line(0, 1, rng.choice([1, 1_000, LONGEST_LEG]))
+    line = builder.line(0, 1, rng.choice([1, 10_003, LONGEST_LINE]))
     return f"difference {difference}", PointInput(map_to_bytes(builder.build()), line, **any_marks(rng), byte_room=LONGEST_POINT_ALONG_LINE * rng.randrange(2))
 
 
@@ -233,6 +250,7 @@ POINT_WRITE_RECIPES = {
     "line and way around": line_and_way_around,
     "differences at the ends of 16 bits": of_a_line(differences_at_ends),
     "sides of an edge": side_of_an_edge,
+    "to the centimetre": to_the_centimetre,
     "refusal 1": work_area_too_short(accepted_point, {"map_bytes": b""}, {"line": LARGEST_NUMBER}, {"orientation": 4}, {"byte_room": 0}),
     "refusal 2": damaged_map(2),
     "refusal 3": damaged_map(3),
@@ -252,7 +270,8 @@ POINT_WRITE_RECIPES = {
 
 # Those with many edges on small maps.
 POINT_WRITE_EDGES = {name: POINT_WRITE_RECIPES[name] for name in (
-    "orientation and side", "offset at a half", "parallel lines", "line and way around", "sides of an edge", "refusal 25", "refusal 10, too far")}
+    "orientation and side", "offset at a half", "parallel lines", "line and way around", "sides of an edge", "to the centimetre", "refusal 25",
+    "refusal 10, too far")}
 
 MERIDIAN_POINT_WRITE_RECIPES = {
     "differences at the ends of 16 bits, across the meridian": of_a_line(differences_at_ends_across),

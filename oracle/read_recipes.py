@@ -4,13 +4,15 @@ from dataclasses import dataclass, replace
 from functools import lru_cache
 
 from damages import map_damage, reference_damages, replaced
-from depot_map import map_to_bytes, read_map
-from fields import LONGEST_LEG, differences_fit, offset_byte, offset_span_by_trying
+from depot_map import Line, map_to_bytes, read_map
+from drawn_steps import EASTWARD, WESTWARD
+from fields import GREATEST_BYTE, LONGEST_LEG, differences_fit, distance_byte, offset_byte, offset_span_by_trying
 from legs import list_length
 from reader import LEAST_WORK_LENGTH, read
 from recipes import any_sample, until_found, work_area_exactly_enough, work_area_too_short
 from reference import NEGATIVE_FLAG, POSITIVE_FLAG, last_point_position, p_byte_positions, put_together
-from sample_maps import SMALL_SAMPLES, MapBuilder, chain_of_blocks, chain_of_ties, edge_sample, full_size_sample, other_way, pairs_of, random_walk
+from sample_maps import (CENTIMETRE_SAMPLES, SMALL_SAMPLES, MapBuilder, centimetre_sample, chain_of_blocks, chain_of_ties, edge_sample, full_size_sample,
+                         other_way, pairs_of, random_walk)
 from write_recipes import accepted_input, write_outcome
 from writer import reference_of_legs
 
@@ -56,10 +58,10 @@ def cut_into_legs(rng, walk, most_lines):
 
 
 def legs_can_be_written(depot_map, legs):
-    """Whether the differences fit 16 bits and D fits a byte. A leg may still be over 150,000."""
+    """Whether the differences fit 16 bits and D fits a byte. A leg may still be too long."""
     return all(differences_fit(depot_map.nodes[depot_map.lines[lines[0]].start_node],
                                depot_map.nodes[depot_map.lines[lines[-1]].end_node])
-               and list_length(depot_map, lines) < 256 * 586 for lines in legs)
+               and distance_byte(list_length(depot_map, lines)) <= GREATEST_BYTE for lines in legs)
 
 
 def bytes_of_legs(depot_map, legs, pos=0, neg=0):
@@ -186,7 +188,8 @@ def longest_reference(rng, turn):
     """459 bytes: 64 legs and two offsets. Ties on legs that are asked for make it a refusal 18."""
     tied = [(), (0,), (63,), (0, 63)][turn % 4]
     depot_map, legs = chain_of_ties(64, tied)
-    reference = bytes_of_legs(depot_map, legs, rng.randrange(1, 300), rng.randrange(1, 300))
+    pos, neg = (rng.randrange(1, list_length(depot_map, leg)) for leg in (legs[0], legs[-1]))
+    reference = bytes_of_legs(depot_map, legs, pos, neg)
     return f"tied legs {list(tied)}", ReadInput(map_to_bytes(depot_map), reference)
 
 
@@ -287,9 +290,9 @@ def offset_at_leg_end(rng, turn):
 
     On legs of their own both may be flagged; the other byte is then one that an offset gives.
     """
-    edge_lengths = (2, 100, *OFFSET_EDGES, 1_000, LONGEST_LEG - 1, LONGEST_LEG)
+    edge_lengths = (2, 100, *OFFSET_EDGES, 10_003, LONGEST_LEG - 1, LONGEST_LEG)
     length = edge_lengths[turn % len(edge_lengths)]
-    lengths = rng.choice([[length], [length, length], [length, 1_000, length]])
+    lengths = rng.choice([[length], [length, length], [length, 10_003, length]])
     depot_map = row_of_lines(lengths)
     good = bytes_of_legs(depot_map, [(line,) for line in range(len(lengths))])
     given = (offset_byte(1, length), offset_byte(length - 1, length))
@@ -354,7 +357,7 @@ def tie_that_a_ban_decides(rng, turn):
     """Legs with ties, on each of which the other way is banned."""
     leg_count = (1, 2, 5, 64)[turn % 4]
     depot_map, legs = chain_of_ties(leg_count, range(leg_count))
-    pos = rng.choice([0, rng.randrange(300)])
+    pos = rng.choice([0, rng.randrange(list_length(depot_map, legs[0]))])
     return f"{leg_count} legs", ReadInput(map_to_bytes(banned_other_ways(rng, depot_map, legs)), bytes_of_legs(depot_map, legs, pos))
 
 
@@ -366,7 +369,8 @@ def around_the_block(rng, turn):
     ways_around[place] = (1, 0, 2, 1)[turn // 4 % 4]
     depot_map, legs = chain_of_blocks(ways_around)
     detail = f"{ways_around[place]} ways on leg {place} of {leg_count}"
-    return detail, ReadInput(map_to_bytes(depot_map), bytes_of_legs(depot_map, legs, neg=rng.choice([0, 1, 199])))
+    neg = rng.choice([0, 1, list_length(depot_map, legs[-1]) - 1])
+    return detail, ReadInput(map_to_bytes(depot_map), bytes_of_legs(depot_map, legs, neg=neg))
 
 
 def leg_with_ways_around(count):
@@ -390,7 +394,7 @@ def banned_joint(rng, turn):
     Every other time the positive offset's byte is given by no offset, or the line buffer is too short: both stand below.
     """
     leg_count = (2, 3, rng.randrange(4, 9), 64)[turn // 4 % 4]
-    depot_map, legs = row_of_legs(rng, [100] + [1_000] * (leg_count - 1))
+    depot_map, legs = row_of_legs(rng, [100] + [10_003] * (leg_count - 1))
     places = [[0], [leg_count - 2], [rng.randrange(leg_count - 1)], range(leg_count - 1)][turn % 4]
     reference = bytes_of_legs(depot_map, legs, pos=1)
     if turn // 2 % 2:
@@ -429,6 +433,18 @@ def sides_of_an_edge(rng, turn):
     return sample.label, ReadInput(map_to_bytes(sample.depot_map), bytes_of_legs(sample.depot_map, [sample.stretch], pos=rng.choice([0, 1])))
 
 
+def to_the_centimetre(rng, turn):
+    """Two ways of which the one is a centimetre longer or as long, at an edge of D or of the longest leg, with a leg more behind or as the only leg."""
+    sample = centimetre_sample(rng, turn)
+    depot_map, legs = sample.depot_map, [sample.stretch]
+    if turn // CENTIMETRE_SAMPLES % 2 == 0:
+        end = depot_map.lines[sample.stretch[-1]].end_node
+        depot_map = replace(depot_map, lines=depot_map.lines + (Line(end, 0, 10_003, 3, 3, EASTWARD, WESTWARD),))
+        legs.append((len(sample.depot_map.lines),))
+    pos = rng.choice([0, 1, list_length(depot_map, sample.stretch) - 1])
+    return sample.label, ReadInput(map_to_bytes(depot_map), bytes_of_legs(depot_map, legs, pos))
+
+
 def row_of_lines(lengths):
     builder = MapBuilder()
     nodes = builder.row_of_nodes(len(lengths) + 1)
@@ -455,7 +471,7 @@ def offset_without_span(rng, turn):
     length = (1, 2, 100, 170, 171, 255, 256, 257, 511, 512, rng.randrange(1, 513))[turn // 2 % 11]
     free = [byte for byte in range(256) if offset_span_by_trying(byte, length) is None]
     byte = (free[0], free[-1], rng.choice(free))[turn % 3]
-    lengths, flag = (([length, 3_000], 0x40), ([3_000, length], 0x20))[turn % 2]
+    lengths, flag = (([length, 30_007], 0x40), ([30_007, length], 0x20))[turn % 2]
     depot_map = row_of_lines(lengths)
     good = bytes_of_legs(depot_map, [(0,), (1,)])
     reference = good[:-1] + bytes([good[-1] | flag, byte])
@@ -464,7 +480,7 @@ def offset_without_span(rng, turn):
 
 
 def offsets_reach_total(rng, turn):
-    """One leg with both offsets; up to 256 decimetres a byte belongs to one offset at most, since the next is a 256th further or more."""
+    """One leg with both offsets; up to a length of 256 a byte belongs to one offset at most, since the next is a 256th further or more."""
     length = rng.choice([2, 3, 100, 170, 171, 255, 256])
     pos = rng.choice([1, length - 1, rng.randrange(1, length)])
     depot_map = row_of_lines([length])
@@ -473,7 +489,7 @@ def offsets_reach_total(rng, turn):
 
 
 def offsets_next_to_total(rng, turn):
-    length = rng.choice([3, 100, 256, 511, 512, 513, 1_000, 1_024, 150_000])
+    length = rng.choice([3, 100, 256, 511, 512, 513, 1_024, 10_003, LONGEST_LEG])
     pos = rng.choice([1, length - 2, rng.randrange(1, length - 1)])
     depot_map = row_of_lines([length])
     return f"length {length}", ReadInput(map_to_bytes(depot_map),
@@ -500,6 +516,7 @@ READ_RECIPES = {
     "around the block": around_the_block,
     "full size": full_size,
     "sides of an edge": sides_of_an_edge,
+    "to the centimetre": to_the_centimetre,
     "two faults": two_faults(written_input, reference_damages),
     "refusal 1": work_area_too_short(written_input, {"map_bytes": b""}, {"reference": b""}, {"line_room": 0}),
     "refusal 2": damaged_map(2),

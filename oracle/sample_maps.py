@@ -3,11 +3,15 @@
 import random
 from dataclasses import dataclass, replace
 
-from depot_map import GREATEST_LONGITUDE, LATITUDE_SHIFT, LONGITUDE_SHIFT, MOST_BANS, DepotMap, Line, Node, Steps, map_to_bytes
+from depot_map import GREATEST_LONGITUDE, LATITUDE_SHIFT, LONGEST_LINE, LONGITUDE_SHIFT, MOST_BANS, DepotMap, Line, Node, Steps, map_to_bytes
 from drawn_steps import EASTWARD, ENDS_OF_RANGE, NORTHWARD, SOUTHWARD, WESTWARD, any_steps, around_an_edge, redrawn, sides_of_edge, steps_of_sector
-from fields import brought_round
+from fields import DISTANCE_STEP, LONGEST_LEG, brought_round
+from lengths import ANOTHER_DISTANCE, DISTANCE_EDGES, HALF_LEG, LONGEST_WITH_HALVES, any_digit, next_to
 
 NODE_STEP = 400
+# Totals of a leg at the edges of D and at the longest leg. Another way is shorter by one, as long, or longer by one.
+TOTALS_AT_EDGES = (*DISTANCE_EDGES, *next_to(LONGEST_LEG))
+CENTIMETRE_SAMPLES = 3 * len(TOTALS_AT_EDGES)
 # The last longitude before the 180th meridian, going east, and the first behind it. They are 2 apart.
 LAST_BEFORE, FIRST_BEHIND = GREATEST_LONGITUDE, -LONGITUDE_SHIFT
 
@@ -118,22 +122,22 @@ def sample_across(sample):
 
 
 def ridge_map(*bans):
-    """The map of the scope paper's "The tie at the ridge", with steps of the same sectors for its bearings, and with bans where they are given."""
+    """The map of the scope paper's "The tie at the ridge", with lengths tenfold, steps of the same sectors for its bearings, and bans where they are given."""
     builder = MapBuilder()
     builder.bans += bans
     for longitude, latitude in ((0, 0), (1000, 0), (1000, 1000), (2000, 0)):
         builder.node(longitude, latitude)
-    builder.line(0, 1, 1000)
-    builder.line(1, 3, 1000)
-    builder.line(1, 2, 500, steps_out=NORTHWARD, steps_back=SOUTHWARD)
-    builder.line(2, 3, 500, steps_out=Steps(141, -141), steps_back=Steps(-200, 7))
+    builder.line(0, 1, 10_000)
+    builder.line(1, 3, 10_000)
+    builder.line(1, 2, 5_000, steps_out=NORTHWARD, steps_back=SOUTHWARD)
+    builder.line(2, 3, 5_000, steps_out=Steps(141, -141), steps_back=Steps(-200, 7))
     return builder.build()
 
 
 def smallest_sample(rng):
     builder = MapBuilder()
     start, end = builder.row_of_nodes(2)
-    length = rng.choice([1, 2, 170, 171, 255, 256, 257, 511, 512, 513, 514, 585, 586, 587, 149_504, 149_999, 150_000])
+    length = rng.choice([1, 2, 170, 171, 255, 256, 257, 511, 512, 513, 514, *DISTANCE_EDGES, LONGEST_WITH_HALVES, LONGEST_LINE - 1, LONGEST_LINE])
     builder.line(start, end, length, frc=rng.randrange(8), fow=rng.randrange(8), steps_out=any_steps(rng), steps_back=any_steps(rng))
     return Sample("smallest map", builder.build(), (0,))
 
@@ -151,23 +155,38 @@ def tied_ways(rng, label, total):
     detour_lines = (builder.line(fork, detour, half, steps_out=rng.choice([EASTWARD, NORTHWARD])),
                     builder.line(detour, join, other - half))
     if rng.random() < 0.4:
-        builder.line(start, fork, min(150_000, first_length + rng.choice([0, 1, 600])))
-    onward = (builder.line(join, beyond, rng.choice([1, 585, 586, 1000])),)
+        builder.line(start, fork, min(LONGEST_LINE, first_length + rng.choice([0, 1, ANOTHER_DISTANCE])))
+    onward = (builder.line(join, beyond, rng.choice([1, DISTANCE_STEP - 1, DISTANCE_STEP, 10_003])),)
     stretch = rng.choice([(first, direct), (first,) + detour_lines]) + rng.choice([(), onward])
     return Sample(label, builder.build(), stretch)
 
 
 def tie_sample(rng):
-    return tied_ways(rng, "tie of two ways", rng.choice([10, 100, 1000, 2000]))
+    return tied_ways(rng, "tie of two ways", any_digit(rng, rng.choice([10, 1_000, 10_000, 20_000])))
 
 
 def long_leg_sample(rng):
-    return tied_ways(rng, "leg near 150,000", rng.choice([149_999, 150_000, 150_001]))
+    return tied_ways(rng, "leg near the longest", rng.choice(next_to(LONGEST_LEG)))
 
 
 def distance_edge_sample(rng):
-    totals = [585, 586, 587, 1171, 1172, 1173, 149_429, 149_430, 149_431]
-    return tied_ways(rng, "leg at an edge of D", rng.choice(totals))
+    return tied_ways(rng, "leg at an edge of D", rng.choice(DISTANCE_EDGES))
+
+
+def centimetre_sample(rng, turn):
+    """A first line, then two ways with equal marks of which the other is shorter by one, as long, or longer by one.
+
+    Each of these has its turn with each total at an edge. The stretch is the first line and the one way, which make the total.
+    """
+    total, more = TOTALS_AT_EDGES[turn % len(TOTALS_AT_EDGES)], (-1, 0, 1)[turn // len(TOTALS_AT_EDGES) % 3]
+    builder = MapBuilder()
+    start, fork, detour, join = builder.row_of_nodes(4)
+    rest = rng.randrange(3, total)
+    half = rng.randrange(1, rest + more)
+    stretch = builder.line(start, fork, total - rest), builder.line(fork, join, rest)
+    builder.line(fork, detour, half)
+    builder.line(detour, join, rest + more - half)
+    return Sample(f"{total} and {total + more}", builder.build(), stretch)
 
 
 def parallel_sample(rng):
@@ -176,10 +195,10 @@ def parallel_sample(rng):
     nodes = builder.row_of_nodes(rng.randrange(2, 7))
     stretch = []
     for start, end in zip(nodes, nodes[1:]):
-        length = rng.choice([100, 300, 586])
+        length = rng.choice([1_003, 3_007, DISTANCE_STEP])
         hop = [builder.line(start, end, length)]
         for _ in range(rng.choice([0, 0, 1, 2])):
-            hop.append(builder.line(start, end, length + rng.choice([0, 1, 5, 700])))
+            hop.append(builder.line(start, end, length + rng.choice([0, 1, 5, ANOTHER_DISTANCE])))
         stretch.append(hop[0] if rng.random() < 0.8 else rng.choice(hop))
     return Sample("parallel lines with equal marks", builder.build(), tuple(stretch))
 
@@ -188,7 +207,7 @@ def ring_sample(rng):
     """A closed stretch, up to several times around, sometimes with lines both ways."""
     builder = MapBuilder()
     nodes = builder.row_of_nodes(rng.randrange(2, 6))
-    length = rng.choice([1, 293, 1000, 40_000])
+    length = rng.choice([1, DISTANCE_STEP // 2, 10_007, 400_003])
     around = [builder.line(start, end, length) for start, end in zip(nodes, nodes[1:] + nodes[:1])]
     if rng.random() < 0.4:
         for start, end in zip(nodes, nodes[1:] + nodes[:1]):
@@ -209,8 +228,8 @@ def far_sample(rng):
     for number, difference in enumerate(far):
         aside = 3 + 3 * number
         spoke = builder.node(*((aside, difference) if turned else (difference, aside)))
-        builder.line(hub, spoke, 1000 + number)
-        builder.line(spoke, hub, 1000 + number)
+        builder.line(hub, spoke, 10_003 + number)
+        builder.line(spoke, hub, 10_003 + number)
     stretch = rng.choice([(2 * chosen,), (2 * chosen + 1,), (2 * chosen + 1, 2 * (chosen + 1) % 12)])
     return Sample("differences at the ends of 16 bits", builder.build(), stretch)
 
@@ -225,7 +244,7 @@ def range_end_sample(rng):
     for number in range(4):
         builder.node(longitude + step * number, latitude + rise * (number % 2))
     for start, end in ((0, 1), (1, 2), (2, 3), (3, 0)):
-        builder.line(start, end, rng.choice([1, 10, 149_999, 150_000]), rng.choice([0, 7]),
+        builder.line(start, end, rng.choice([1, 10, LONGEST_LINE - 1, LONGEST_LINE]), rng.choice([0, 7]),
                      rng.choice([0, 7]), rng.choice(ENDS_OF_RANGE), rng.choice(ENDS_OF_RANGE))
     depot_map = builder.build()
     return Sample("values at their range ends", depot_map, random_walk(rng, depot_map, 4))
@@ -238,19 +257,30 @@ def short_first_leg_sample(rng):
     """
     builder = MapBuilder()
     nodes = builder.row_of_nodes(5)
-    lengths = rng.choice([(100_000, 40_000, 30_000, 1_000), (149_414, 586, 1, 1), (75_000, 75_000, 10, 10)])
+    lengths = rng.choice([(1_000_003, 400_009, 300_007, 10_001), (LONGEST_LEG - DISTANCE_STEP, DISTANCE_STEP, 1, 1), (HALF_LEG, HALF_LEG, 13, 11)])
     stretch = tuple(builder.line(start, end, length) for start, end, length in zip(nodes, nodes[1:], lengths))
     builder.line(nodes[2], nodes[3], lengths[2] + 1)
     return Sample("first leg shorter than it could be", builder.build(), stretch)
 
 
-def chain_sample(rng):
-    """64 lines in a row; the long ones need a point each, the short ones need two in all."""
+def row_of_64(rng, label, lengths):
+    """64 lines in a row, each with any of the lengths."""
     builder = MapBuilder()
     nodes = builder.row_of_nodes(65)
-    lengths = rng.choice([[75_001, 150_000], [150_000], [1, 100], [2_343], [2_344]])
-    stretch = [builder.line(start, end, rng.choice(lengths)) for start, end in zip(nodes, nodes[1:])]
-    return Sample("chain of 64 lines", builder.build(), tuple(stretch))
+    stretch = tuple(builder.line(start, end, rng.choice(lengths)) for start, end in zip(nodes, nodes[1:]))
+    return Sample(label, builder.build(), stretch)
+
+
+def chain_sample(rng):
+    """64 lines in a row; the long ones need a point each, the short ones need two in all."""
+    # 64 of the last but one are just one leg, and of the last they are not.
+    lengths = rng.choice([[HALF_LEG + 1, LONGEST_LINE], [LONGEST_LINE], [1, 101], [LONGEST_LEG // 64], [LONGEST_LEG // 64 + 1]])
+    return row_of_64(rng, "chain of 64 lines", lengths)
+
+
+def longest_lines(rng):
+    """64 lines in a row that are as long as can be, and need a point each."""
+    return row_of_64(rng, "64 longest lines", [LONGEST_LINE])
 
 
 def chain_of_ties(leg_count, tied_legs):
@@ -265,12 +295,12 @@ def chain_of_ties(leg_count, tied_legs):
     for number in range(leg_count):
         fork = builder.node(NODE_STEP * number, 1_000)
         aside = builder.node(NODE_STEP * number, 2_000)
-        legs.append((builder.line(row[number], fork, 100), builder.line(fork, row[number + 1], 200)))
-        builder.line(fork, aside, 100)
+        legs.append((builder.line(row[number], fork, 1_003), builder.line(fork, row[number + 1], 2_009)))
+        builder.line(fork, aside, 1_002)
         if number in tied_legs:
-            builder.line(aside, row[number + 1], 100)
+            builder.line(aside, row[number + 1], 1_007)
         else:
-            builder.line(aside, row[number + 1], 101, steps_back=NORTHWARD)
+            builder.line(aside, row[number + 1], 1_008, steps_back=NORTHWARD)
     return builder.build(), legs
 
 
@@ -291,12 +321,12 @@ def chain_of_blocks(ways_around):
     legs = []
     for number, count in enumerate(ways_around):
         turn = builder.node(NODE_STEP * number, 1_000)
-        first, last = builder.line(row[number], turn, 100), builder.line(turn, row[number + 1], 100)
+        first, last = builder.line(row[number], turn, 1_003), builder.line(turn, row[number + 1], 1_001)
         builder.ban(first, last)
         legs.append((first, last))
         for way in range(count):
             corner = builder.node(NODE_STEP * number, 2_000 + 1_000 * way)
-            legs[-1] = (first, builder.line(turn, corner, 100), builder.line(corner, turn, 100), last)
+            legs[-1] = (first, builder.line(turn, corner, 1_001), builder.line(corner, turn, 1_009), last)
     return builder.build(), legs
 
 
@@ -307,9 +337,10 @@ def other_first_line_sample(rng):
     """
     builder = MapBuilder()
     start, end, turn, corner = builder.row_of_nodes(4)
-    around = rng.choice([200, 293, 1_000])
-    builder.line(start, end, 200 + 2 * around)
-    first, last = builder.line(start, turn, 100), builder.line(turn, end, 100)
+    around = rng.choice([2_001, DISTANCE_STEP // 2, 10_003])
+    first_length, last_length = 1_003, 1_009
+    builder.line(start, end, first_length + 2 * around + last_length)
+    first, last = builder.line(start, turn, first_length), builder.line(turn, end, last_length)
     builder.line(turn, corner, around)
     builder.line(corner, turn, around)
     builder.ban(first, last)
@@ -328,11 +359,11 @@ def edge_sample(rng, turn):
     before, beyond = sides_of_edge(rng, edge)
     drawn = rng.sample([steps_of_sector(rng, edge) if one_sector else before, beyond], 2)
     if (edge + edge // 32) % 2:
-        twins = [builder.line(start, middle, 300, steps_out=steps) for steps in drawn]
-        stretch = (rng.choice(twins),) + rng.choice([(), (builder.line(middle, end, 300),)])
+        twins = [builder.line(start, middle, 3_001, steps_out=steps) for steps in drawn]
+        stretch = (rng.choice(twins),) + rng.choice([(), (builder.line(middle, end, 3_001),)])
     else:
-        twins = [builder.line(middle, end, 300, steps_back=steps) for steps in drawn]
-        stretch = rng.choice([(), (builder.line(start, middle, 300),)]) + (rng.choice(twins),)
+        twins = [builder.line(middle, end, 3_001, steps_back=steps) for steps in drawn]
+        stretch = rng.choice([(), (builder.line(start, middle, 3_001),)]) + (rng.choice(twins),)
     return Sample("two lines of one sector" if one_sector else "two lines of neighbouring sectors", builder.build(), stretch)
 
 
@@ -343,8 +374,8 @@ def random_sample(rng):
     cells = [(column, row) for column in range(3) for row in range(3)]
     for column, row in rng.sample(cells, rng.randrange(2, 7)):
         builder.node((column - 1) * step, (row - 1) * step)
-    lengths = rng.choice([[100, 200, 300], [1, 2, 3], [292, 293, 294, 585, 586, 587],
-                          [49_999, 50_000, 50_001, 75_000, 75_001, 149_999, 150_000], range(1, 150_001)])
+    lengths = rng.choice([[1_001, 2_002, 3_003], [1, 2, 3], [*next_to(DISTANCE_STEP // 2), *next_to(DISTANCE_STEP)],
+                          [*next_to(LONGEST_LEG // 3), HALF_LEG, HALF_LEG + 1, LONGEST_LINE - 1, LONGEST_LINE], range(1, LONGEST_LINE + 1)])
     classes = rng.choice([[3], [3, 4], range(8)])
     forms = rng.choice([[3], [2, 3]])
     drawn = rng.choice([[EASTWARD], around_an_edge(rng), [any_steps(rng) for _ in range(8)]])
@@ -361,7 +392,7 @@ def full_sample(rng):
     builder = MapBuilder()
     for number in range(512):
         builder.node(1000 * (number % 32), 1000 * (number // 32))
-    lengths = rng.choice([[1000], [999, 1000, 1001], range(500, 2_000), range(500, 2_000)])
+    lengths = rng.choice([[10_007], [10_006, 10_007, 10_008], range(4_000, 16_000), range(4_000, 16_000)])
     classes = rng.choice([[3], [2, 3, 5]])
     for number in range(512):
         column, row = number % 32, number // 32
@@ -378,7 +409,7 @@ def dense_sample(rng):
     east, west = builder.row_of_nodes(2)
     for number in range(1_024):
         start, end = (east, west) if number % 2 else (west, east)
-        builder.line(start, end, rng.choice([1, 586, 1_000, 150_000]), steps_out=any_steps(rng), steps_back=any_steps(rng))
+        builder.line(start, end, rng.choice([1, DISTANCE_STEP, 10_003, LONGEST_LINE]), steps_out=any_steps(rng), steps_back=any_steps(rng))
     depot_map = builder.build()
     return Sample("two nodes, 1,024 lines", depot_map, random_walk(rng, depot_map, rng.choice([1, 4, 64])))
 

@@ -26,7 +26,7 @@ def ridge(*bans):
 
 class RidgeWithATurnBanned(unittest.TestCase):
     def test_way_over_the_ridge_banned(self):
-        # From line 0 only line 1 is left, so that two points will do for it. D of 2000 is 3.
+        # From line 0 only line 1 is left, so that two points will do for it. D of 20,000 is 3.
         map_bytes = ridge((0, 2))
         self.assertEqual(TWO_POINTS, bytes.fromhex("0B 000000 000000 1B 68 03 07D0 0000 1B 18"))
         self.assertEqual(write(map_bytes, [0, 1], 0, 0, WORK, 16), all_tested(TWO_POINTS, 2))
@@ -35,12 +35,12 @@ class RidgeWithATurnBanned(unittest.TestCase):
         self.assertEqual(write(map_bytes, [0, 2, 3], 0, 0, WORK, 459), Refused(21))
 
     def test_offset_is_measured_against_the_longer_leg(self):
-        # 256 x 500 / 2000 is 64, 40 in hexadecimal. 63.5 x 2000 / 256 is 496.1 and 64.5 x 2000 / 256 is 503.9.
+        # 256 x 5,000 / 20,000 is 64, 40 in hexadecimal. 63.5 x 20,000 / 256 is 4,960.9 and 64.5 x 20,000 / 256 is 5,039.1.
         written = bytes.fromhex("0B 000000 000000 1B 68 03 07D0 0000 1B 58 40")
-        self.assertEqual(write(ridge((0, 2)), [0, 1], 500, 0, WORK, 17), all_tested(written, 2))
+        self.assertEqual(write(ridge((0, 2)), [0, 1], 5_000, 0, WORK, 17), all_tested(written, 2))
         outcome = read(ridge((0, 2)), written, WORK, 2)
-        self.assertEqual(outcome, StretchRead((0, 1), (497, 503), (0, 0)))
-        self.assertEqual(outcome_text(outcome), "lines 2 pos 497 503 neg 0 0\n0\n1")
+        self.assertEqual(outcome, StretchRead((0, 1), (4_961, 5_039), (0, 0)))
+        self.assertEqual(outcome_text(outcome), "lines 2 pos 4961 5039 neg 0 0\n0\n1")
 
     def test_straight_way_banned(self):
         # The same bytes stand for the way over the ridge: line 3 has the class, the form and the sector of line 1.
@@ -169,7 +169,7 @@ class Legs(unittest.TestCase):
 
     def test_only_the_pair_is_banned(self):
         # Lines 0 and 1 both lead into line 2; after line 1 it is allowed.
-        depot_map = row_map((0, 1, 100), (0, 1, 700), (1, 2, 100), bans=[(0, 2)])
+        depot_map = row_map((0, 1, 1_000), (0, 1, 7_000), (1, 2, 1_000), bans=[(0, 2)])
         self.check(depot_map, Leg(0, 2, EAST, 3, 0))
         self.check(depot_map, Leg(0, 2, EAST, 3, 1), (1, 2))
         self.check(depot_map, Leg(0, 1, EAST, 3, 0), (0,))
@@ -211,10 +211,10 @@ class Legs(unittest.TestCase):
 
 
 class TwoLegsMeet(unittest.TestCase):
-    ROW = ((0, 1, 100), (1, 2, 1000), (2, 3, 1000), (2, 3, 1000))
-    # Legs of 100, 1000 and 1000. The last has a tie.
+    ROW = ((0, 1, 100), (1, 2, 10_000), (2, 3, 10_000), (2, 3, 10_000))
+    # Legs of 100, 10,000 and 10,000. The last has a tie.
     THREE_LEGS = bytes.fromhex("0B 000000 000000 1B 68 00 03E8 0000 1B 68 01 03E8 0000 1B 68 01 03E8 0000 1B 18")
-    # Legs of 100 and 1000.
+    # Legs of 100 and 10,000.
     TWO_LEGS = bytes.fromhex("0B 000000 000000 1B 68 00 03E8 0000 1B 68 01 03E8 0000 1B 18")
 
     def check(self, reference, *refusal, bans=((0, 1),), lines=ROW, line_room=9):
@@ -259,9 +259,9 @@ class TwoLegsMeet(unittest.TestCase):
 
     def test_a_leg_is_read_as_if_it_stood_alone(self):
         # Lines 1 and 2 are equal. The ban at the joint takes neither of them out of leg 1.
-        self.check(self.TWO_LEGS, 18, 1, lines=((0, 1, 100), (1, 2, 1000), (1, 2, 1000)))
+        self.check(self.TWO_LEGS, 18, 1, lines=((0, 1, 100), (1, 2, 10_000), (1, 2, 10_000)))
         # Of two first legs that end at node 1 both stay, though only the second may go on into line 2.
-        self.check(self.TWO_LEGS, 18, 0, lines=((0, 1, 100), (0, 1, 101), (1, 2, 1000)), bans=((0, 2),))
+        self.check(self.TWO_LEGS, 18, 0, lines=((0, 1, 100), (0, 1, 101), (1, 2, 10_000)), bans=((0, 2),))
 
 
 class StretchWithABannedPair(unittest.TestCase):

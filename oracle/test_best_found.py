@@ -56,14 +56,14 @@ class EveryNumberOfTestsOnTheRidge(unittest.TestCase):
         self.assertEqual([write(RIDGE, [0, 1], 0, 0, WORK, 459, tests) for tests in (0, 1, 2, 3, 4, LARGEST)], [Refused(26)] * 3 + [found] * 3)
 
     def test_one_line(self):
-        # Line 0 alone: 1000 long, from (0, 0) to (1000, 0).
+        # Line 0 alone: 10,000 long, from (0, 0) to (1000, 0).
         found = StretchWritten(bytes.fromhex("0B 000000 000000 1B 68 01 03E8 0000 1B 18"), 1, 0)
         self.assertEqual([write(RIDGE, [0], 0, 0, WORK, 16, tests) for tests in (0, 1, 2, LARGEST)], [Refused(26)] + [found] * 3)
 
     def test_over_the_ridge_other_points_are_found_first(self):
         # Legs 0-1, 0-2, 1-2, 1-3 and 2-3 are good, and 0-3 is the tie. 1-3 is the fifth, and with it 0-1, 1-3 is found. 0-2, 2-3 has as few points and a longer
         # first leg, and is found with the sixth.
-        # Line 2 leaves to the north, sector 0: Q is 60. D of 1000 is 1; D of 1500 is 2 and of 500 it is 0.
+        # Line 2 leaves to the north, sector 0: Q is 60. D of 10,000 is 1; D of 15,000 is 2 and of 5,000 it is 0.
         first = bytes.fromhex("0B 000000 000000 1B 68 01 03E8 0000 1B 60 01 03E8 0000 1B 18")
         then = bytes.fromhex("0B 000000 000000 1B 68 02 03E8 03E8 1B 6C 00 03E8 FC18 1B 18")
         expected = [Refused(26)] * 5 + [StretchWritten(first, 5, 0), StretchWritten(then, 6, 0), StretchWritten(then, 6, 0)]
@@ -72,7 +72,7 @@ class EveryNumberOfTestsOnTheRidge(unittest.TestCase):
     def test_with_an_offset(self):
         # Line 0 is skipped: line 1 is left, which has one leg.
         found = StretchWritten(bytes.fromhex("0B 0001D2 000000 1B 68 01 03E8 0000 1B 58 80"), 1, 0)
-        self.assertEqual([write(RIDGE, [0, 1], 1_500, 0, WORK, 17, tests) for tests in (0, 1, 2)], [Refused(26), found, found])
+        self.assertEqual([write(RIDGE, [0, 1], 15_000, 0, WORK, 17, tests) for tests in (0, 1, 2)], [Refused(26), found, found])
 
 
 class WorkedCases(unittest.TestCase):
@@ -142,14 +142,14 @@ class SkippedLines(unittest.TestCase):
         depot_map = DepotMap(nodes, (*pentagon().depot_map.lines, line(5, 0, 700), line(4, 6, 800)))
         for tests, expected in enumerate(pentagon().answers):
             self.assertEqual(answer(depot_map, (4, 0, 1, 2, 3, 5), tests, pos=700, neg=800), expected)
-        # One decimetre less, and the line remains and takes tests.
+        # One centimetre less, and the line remains and takes tests.
         self.assertEqual(answer(depot_map, (4, 0, 1, 2, 3, 5), 10, pos=699, neg=800), Refused(26))
         self.assertEqual(answer(depot_map, (4, 0, 1, 2, 3, 5), LARGEST, pos=699, neg=800).tests, 15)
         self.assertEqual(answer(depot_map, (4, 0, 1, 2, 3, 5), LARGEST, pos=699, neg=799).tests, 21)
 
     def test_offsets_take_no_tests(self):
         for tests, without in enumerate(pentagon().answers):
-            outcome = answer(pentagon().depot_map, (0, 1, 2, 3), tests, pos=999, neg=999)
+            outcome = answer(pentagon().depot_map, (0, 1, 2, 3), tests, pos=9_999, neg=9_999)
             if isinstance(without, Refused):
                 self.assertEqual(outcome, without)
             else:
@@ -168,7 +168,7 @@ class OrderOfRefusals(unittest.TestCase):
             self.check(7, (), tests)
             self.check(7, (4,), tests)
             self.check(8, (0, 2), tests)
-            self.check(9, stretch, tests, pos=2_000, neg=2_000)
+            self.check(9, stretch, tests, pos=20_000, neg=20_000)
             self.check(21, (0, 1), tests, map_bytes=map_to_bytes(row_map((0, 1, 10), (1, 2, 10), bans=((0, 1),))))
 
     def test_26_above_11(self):
@@ -348,8 +348,8 @@ class UntestedLegs(unittest.TestCase):
     """An untested leg counts as good, whatever it is."""
 
     def test_too_long(self):
-        # Two lines of 100,000: leg 0-2 is too long, and the second test says so. Before it counts as good, and so does 1-2.
-        depot_map = row_map((0, 1, 100_000), (1, 2, 100_000))
+        # Two lines of 1,000,000: leg 0-2 is too long, and the second test says so. Before it counts as good, and so does 1-2.
+        depot_map = row_map((0, 1, 1_000_000), (1, 2, 1_000_000))
         self.assertGreater(list_length(depot_map, (0, 1)), LONGEST_LEG)
         self.assertEqual([outcome == Refused(26) for outcome in every_answer(depot_map, (0, 1))], [True, True, True, False, False, False])
 

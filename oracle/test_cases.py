@@ -4,6 +4,7 @@ import unittest
 from collections import Counter
 from dataclasses import replace
 from fractions import Fraction
+from itertools import product
 from math import floor
 
 import cases
@@ -23,9 +24,11 @@ from write_recipes import write_outcome
 from writer import ALL_TESTS, skip_lines
 
 # Enough for each recipe to go through its edges at least once.
-MAP_CASES, LEG_CASES, READ_CASES, WRITE_CASES = 540, 540, 1_050, 918
+MAP_CASES, LEG_CASES, READ_CASES, WRITE_CASES = 540, 600, 1_092, 945
 MERIDIAN_MAP_CASES, MERIDIAN_READ_CASES, MERIDIAN_WRITE_CASES = 60, 120, 128
 BEST_FOUND_CASES = 240
+# The edges of D and of the longest leg, paper 02, "Centimetres": once, twice and 255 times 5,860, and 1,500,000.
+EDGES_OF_LEGS = {5_859, 5_860, 5_861, 11_719, 11_720, 11_721, 1_494_299, 1_494_300, 1_494_301, 1_499_999, 1_500_000, 1_500_001}
 KINDS = (cases.map_cases, cases.leg_cases, cases.read_cases, cases.write_cases, cases.leg_cases_across, cases.read_cases_across, cases.write_cases_across,
          cases.meridian_map_cases, cases.meridian_read_cases, cases.meridian_write_cases, cases.best_found_cases)
 
@@ -49,6 +52,19 @@ def without_bans(given):
 def all_tests(given):
     """The same writing with tests for all legs."""
     return replace(given, tests=ALL_TESTS)
+
+
+def readings_of_two_ways(own, other, is_last):
+    """How many readings a leg has with the D of its own way, where another way has its first line and its marks, and another last line. Worked out by hand."""
+    short_enough = [length for length in (own, other) if length <= 1_500_000]
+    # On the last leg the two do not compete.
+    least = short_enough if is_last else [length for length in short_enough if length == min(short_enough)]
+    return sum(length // 5_860 == own // 5_860 for length in least)
+
+
+def told_apart(own, other):
+    """Whether the own way is the only reading of a last leg with its D."""
+    return own <= 1_500_000 and readings_of_two_ways(own, other, is_last=True) == 1
 
 
 class Determinism(unittest.TestCase):
@@ -182,9 +198,9 @@ class Coverage(CaseTests):
     def test_spans_at_both_ends_of_a_leg(self):
         spans = {span for case in self.read_cases if isinstance(case.expected, StretchRead)
                  for span in (case.expected.positive_span, case.expected.negative_span)}
-        # 0.5 x 150,000 / 256 is 292.97 and 254.5 x 150,000 / 256 is 149,121.1. 254.5 x 171 / 256 is 169.998, 254.5 x 256 / 256 is 254.5 and 254.5 x 512 / 256
-        # is 509.
-        self.assertLessEqual({(1, 292), (149_122, 149_999), (1, 1), (170, 170), (255, 255), (509, 511)}, spans)
+        # 0.5 x 1,500,000 / 256 is 2,929.7 and 254.5 x 1,500,000 / 256 is 1,491,210.9. 254.5 x 171 / 256 is 169.998, 254.5 x 256 / 256 is 254.5 and
+        # 254.5 x 512 / 256 is 509.
+        self.assertLessEqual({(1, 2_929), (1_491_211, 1_499_999), (1, 1), (170, 170), (255, 255), (509, 511)}, spans)
 
     def test_bytes_that_no_offset_gives(self):
         # Each with its leg's length. 256 x 1 / 512 is a half, which gives 1, and 256 x 169 / 170 is 254.49.
@@ -263,7 +279,7 @@ class Coverage(CaseTests):
             total = int(detail.split()[2])
             if sum(line.length for line in read_map(case.given.map_bytes).lines) == total:
                 points.setdefault(total, set()).add(len(take_apart(case.expected.reference).points))
-        self.assertEqual(points, {149_999: {2}, 150_000: {2}, 150_001: {3}})
+        self.assertEqual(points, {1_499_999: {2}, 1_500_000: {2}, 1_500_001: {3}})
 
     def test_fewest_points_before_the_longest_first_leg(self):
         made = self.write_details("fewest points")
@@ -369,11 +385,49 @@ class Coverage(CaseTests):
         for _, case in self.write_details("refusal 10, by a ban"):
             self.assertIsInstance(write_outcome(replace(without_bans(case.given), byte_room=459)), StretchWritten)
 
+    def two_ways(self, made):
+        """The cases of two ways, each with the lengths of its own and of the other way. Own ways at every edge occur."""
+        found = [(*map(int, detail.split(" and ")), case) for detail, case in labelled(made, "to the centimetre")]
+        self.assertEqual({own for own, *_ in found}, EDGES_OF_LEGS)
+        return found
+
+    def test_legs_to_the_centimetre(self):
+        seen, edges = set(), set()
+        for own, other, case in self.two_ways(self.leg_cases):
+            is_last = case.leg.last_marks is not None
+            count = readings_of_two_ways(own, other, is_last)
+            self.assertEqual(case.expected.how_many, ("none", "one", "several")[count], case.label)
+            seen.add((other - own, is_last, count))
+            edges.add((own, other - own))
+        self.assertEqual(edges, set(product(EDGES_OF_LEGS, (-1, 0, 1))))
+        # As another leg than the last: the longer way is read only where the shorter one is not.
+        self.assertLessEqual({(-1, False, 0), (-1, False, 1), (0, False, 2), (1, False, 1), (-1, True, 1), (-1, True, 2)}, seen)
+
+    def test_readings_to_the_centimetre(self):
+        for own, other, case in self.two_ways(self.read_cases):
+            legs = len(take_apart(case.given.reference).points) - 1
+            count = readings_of_two_ways(own, other, is_last=legs == 1)
+            refusal = case.expected.number if isinstance(case.expected, Refused) else None
+            self.assertEqual(refusal, (17, None, 18)[count], case.label)
+
+    def test_stretches_to_the_centimetre(self):
+        # As one leg where it is the only reading. Else line 1 has to be told from the two lines beside it, behind a point at the fork.
+        seen = set()
+        for own, other, case in self.two_ways(self.write_cases):
+            first, direct, *beside = (line.length for line in read_map(case.given.map_bytes).lines)
+            self.assertEqual((first + direct, first + sum(beside)), (own, other))
+            if case.given.pos < first:
+                one_leg, two_legs = told_apart(own, other), told_apart(direct, sum(beside))
+                points = len(take_apart(case.expected.reference).points) if isinstance(case.expected, StretchWritten) else case.expected
+                self.assertEqual(points, 2 if one_leg else 3 if two_legs else Refused(10), case.label)
+                seen.add(points)
+        self.assertLessEqual({2, Refused(10)}, seen)
+
     def test_edges_of_leg_lengths(self):
         lengths = {list_length(case.depot_map, case.expected.lines) for case in self.leg_cases
                    if case.expected.how_many == "one"}
-        self.assertLessEqual({149_999, 150_000, 585, 586, 587}, lengths)
-        self.assertLessEqual(max(lengths), 150_000)
+        self.assertLessEqual({1_499_999, 1_500_000, 5_859, 5_860, 5_861}, lengths)
+        self.assertLessEqual(max(lengths), 1_500_000)
 
     def test_loops(self):
         to_itself = [case for case in self.leg_cases if case.leg.start_node == case.leg.end_node]

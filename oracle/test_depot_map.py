@@ -66,7 +66,7 @@ class GoodMaps(unittest.TestCase):
 
     def test_greatest_values_are_accepted(self):
         nodes = (Node(-18_000_000, -9_000_000), Node(17_999_998, 9_000_000))
-        lines = (Line(0, 1, 1, 0, 0, Steps(-250, -250), Steps(0, -250)), Line(1, 0, 150_000, 7, 7, Steps(250, 250), Steps(250, 0)))
+        lines = (Line(0, 1, 1, 0, 0, Steps(-250, -250), Steps(0, -250)), Line(1, 0, 1_500_000, 7, 7, Steps(250, 250), Steps(250, 0)))
         self.assertEqual(read_map(map_to_bytes(DepotMap(nodes, lines))), DepotMap(nodes, lines))
 
 
@@ -91,7 +91,8 @@ class RefusedMaps(unittest.TestCase):
         self.assertEqual(refusal_of_hex("02 FEA19511 80D1CA08"), 2)
 
     def test_refusal_5_by_hand(self):
-        for line in ("02", "00 02", "00 00", "01 01", "00 01 00", "00 01 F19309", "00 01 01 08",
+        # 1,500,001 is E1 C6 5B.
+        for line in ("02", "00 02", "00 00", "01 01", "00 01 00", "00 01 E1C65B", "00 01 01 08",
                      "00 01 01 07 08"):
             self.assertEqual(refusal_of_hex(TWO_NODES + "01" + line), 5, line)
 

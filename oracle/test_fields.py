@@ -6,8 +6,9 @@ from fractions import Fraction
 from math import floor
 
 from depot_map import Node
-from fields import (brought_round, coordinate_code, differences, differences_fit, distance_byte, offset_byte, offset_span,
+from fields import (LONGEST_LEG, brought_round, coordinate_code, differences, differences_fit, distance_byte, offset_byte, offset_span,
                     offset_span_by_trying)
+from lengths import LONGEST_WITH_HALVES
 
 
 class CoordinateCodes(unittest.TestCase):
@@ -38,12 +39,16 @@ class CoordinateCodes(unittest.TestCase):
 
 class SmallFields(unittest.TestCase):
     def test_distance_byte_worked_out_in_the_scope_paper(self):
-        self.assertEqual([distance_byte(length) for length in (585, 586, 150_000)], [0, 1, 255])
+        # With tenfold lengths, as paper 02 says. The edge itself is between the first two.
+        self.assertEqual([distance_byte(length) for length in (5_850, 5_860, 1_500_000)], [0, 1, 255])
+        self.assertEqual(distance_byte(5_859), 0)
 
-    def test_distance_byte_is_an_interval_of_586(self):
-        for length in range(1, 150_001, 7):
+    def test_distance_byte_is_an_interval_of_5860(self):
+        # Around each edge, and elsewhere.
+        edges = [5_860 * byte + step for byte in range(1, 256) for step in (-1, 0, 1)]
+        for length in (*edges, *range(1, 1_500_001, 67)):
             byte = distance_byte(length)
-            self.assertTrue(586 * byte <= length < 586 * (byte + 1))
+            self.assertTrue(5_860 * byte <= length < 5_860 * (byte + 1))
             self.assertLessEqual(byte, 255)
 
     def test_differences_are_of_coordinates_and_fit_16_bits_at_their_ends(self):
@@ -66,6 +71,8 @@ class SmallFields(unittest.TestCase):
 
 # Legs at which bytes begin to be given by an offset, by several, or by exact halves, and their neighbours.
 EDGE_LEGS = (*range(1, 41), 99, 100, 169, 170, 171, 172, *range(255, 258), *range(511, 515), 1000, *range(1023, 1026))
+# On the first, offsets can lie half-way between two 256ths.
+LONG_LEGS = (LONGEST_WITH_HALVES, LONGEST_LEG - 1, LONGEST_LEG)
 
 
 def nearest_of_all(offset, leg_length):
@@ -93,24 +100,32 @@ class OffsetBytes(unittest.TestCase):
     def test_nearest_256th_an_exact_half_upwards(self):
         rng = random.Random("nearest 256th")
         pairs = [(offset, length) for length in (*range(2, 30), 170, 171, 512) for offset in range(1, length)]
-        pairs += [(rng.randrange(1, length), length) for length in [rng.randrange(2, 150_001) for _ in range(300)]]
+        pairs += [(rng.randrange(1, length), length) for length in [rng.randrange(2, LONGEST_LEG + 1) for _ in range(300)]]
         # Half-way between two 256ths is an odd number of 512ths, and so whole on multiples of 512 only.
-        pairs += [(odd * length // 512, length) for length in (1_024, 1_536, 149_504) for odd in range(1, 511, 34)]
+        pairs += [(odd * length // 512, length) for length in (1_024, 1_536, LONGEST_WITH_HALVES) for odd in range(1, 511, 34)]
         for offset, length in pairs:
             self.assertEqual(offset_byte(offset, length), min(255, nearest_of_all(offset, length)), (offset, length))
 
     def test_every_offset_of_many_legs_by_fractions(self):
         rng = random.Random("bytes by fractions")
-        for length in (*range(2, 300), *EDGE_LEGS, 149_504, 149_999, 150_000, *(rng.randrange(1_000, 20_000) for _ in range(5))):
+        for length in (*range(2, 300), *EDGE_LEGS, *(rng.randrange(1_000, 20_000) for _ in range(5))):
             for offset in range(1, length):
                 self.assertEqual(offset_byte(offset, length), byte_by_fractions(offset, length), (offset, length))
 
+    def test_offsets_of_long_legs_by_fractions(self):
+        # Those next to where the byte becomes another, at odd numbers of 512ths, and some between.
+        for length in LONG_LEGS:
+            edges = {odd * length // 512 + step for odd in range(1, 512, 2) for step in (-1, 0, 1, 2)}
+            for offset in edges.union(range(1, length, 101), [length - 1]):
+                self.assertEqual(offset_byte(offset, length), byte_by_fractions(offset, length), (offset, length))
+
     def test_255_where_that_gives_256(self):
-        # 256 x 511 / 512 is 255.5, which is nearest to 256, and 256 x 510 / 511 is 255.499. 256 x 149,999 / 150,000 is 255.998.
-        self.assertEqual([nearest_of_all(length - 1, length) for length in (511, 512, 150_000)], [255, 256, 256])
-        self.assertEqual([offset_byte(length - 1, length) for length in (511, 512, 150_000)], [255, 255, 255])
-        # 255.5 x 149,504 / 256 is 149,212: from there on it is 256.
-        self.assertEqual([offset_byte(offset, 149_504) for offset in (149_211, 149_212, 149_503)], [255, 255, 255])
+        # 256 x 511 / 512 is 255.5, which is nearest to 256, and 256 x 510 / 511 is 255.499. 256 x 1,499,999 / 1,500,000 is 255.9998.
+        self.assertEqual([nearest_of_all(length - 1, length) for length in (511, 512, 1_500_000)], [255, 256, 256])
+        self.assertEqual([offset_byte(length - 1, length) for length in (511, 512, 1_500_000)], [255, 255, 255])
+        # 255.5 x 1,499,648 / 256 is 1,496,719: from there on it is 256.
+        self.assertEqual([nearest_of_all(offset, 1_499_648) for offset in (1_496_718, 1_496_719, 1_499_647)], [255, 256, 256])
+        self.assertEqual([offset_byte(offset, 1_499_648) for offset in (1_496_718, 1_496_719, 1_499_647)], [255, 255, 255])
 
     def test_offset_1_on_a_leg_of_512_is_exactly_a_half_and_gives_1(self):
         # 256 x 1 / 511 is 0.501, 256 x 1 / 512 is 0.5 and 256 x 1 / 513 is 0.499.
@@ -131,8 +146,8 @@ class OffsetSpans(unittest.TestCase):
             self.assertIsNone(span(1, 100))
 
     def test_offset_0_is_in_no_span(self):
-        # 0.5 x 1000 / 256 is 1.95, and 0.5 x 1024 / 256 is 2, which gives byte 1. 0.5 x 150,000 / 256 is 292.97.
-        self.assertEqual([offset_span(0, length) for length in (1000, 1024, 150_000)], [(1, 1), (1, 1), (1, 292)])
+        # 0.5 x 1000 / 256 is 1.95, and 0.5 x 1024 / 256 is 2, which gives byte 1. 0.5 x 1,500,000 / 256 is 2,929.7.
+        self.assertEqual([offset_span(0, length) for length in (1000, 1024, 1_500_000)], [(1, 1), (1, 1), (1, 2_929)])
         self.assertIsNone(offset_span(0, 1))
 
     def test_legs_on_which_bytes_0_and_255_are_first_given(self):
@@ -142,9 +157,9 @@ class OffsetSpans(unittest.TestCase):
             self.assertEqual(offset_span(255, length) is None, length <= 170, length)
 
     def test_byte_255_goes_on_to_the_end_of_the_leg(self):
-        # 254.5 x 256 / 256 is 254.5, 254.5 x 512 / 256 is 509, 254.5 x 1000 / 256 is 994.1 and 254.5 x 150,000 / 256 is 149,121.1.
-        spans = [offset_span(255, length) for length in (256, 512, 1000, 150_000)]
-        self.assertEqual(spans, [(255, 255), (509, 511), (995, 999), (149_122, 149_999)])
+        # 254.5 x 256 / 256 is 254.5, 254.5 x 512 / 256 is 509, 254.5 x 1000 / 256 is 994.1 and 254.5 x 1,500,000 / 256 is 1,491,210.9.
+        spans = [offset_span(255, length) for length in (256, 512, 1000, 1_500_000)]
+        self.assertEqual(spans, [(255, 255), (509, 511), (995, 999), (1_491_211, 1_499_999)])
         # 253.5 x 512 / 256 is 507, and byte 254 ends before 509.
         self.assertEqual(offset_span(254, 512), (507, 508))
 
@@ -153,20 +168,19 @@ class OffsetSpans(unittest.TestCase):
         for length in (*EDGE_LEGS, *(rng.randrange(41, 1_500) for _ in range(4))):
             for byte in range(256):
                 self.assertEqual(offset_span(byte, length), offset_span_by_trying(byte, length), (byte, length))
-        for length in (149_504, 149_999, 150_000, rng.randrange(1_500, 150_000)):
-            for byte in (0, 1, 254, 255, rng.randrange(256)):
-                self.assertEqual(offset_span(byte, length), offset_span_by_trying(byte, length), (byte, length))
+        for byte in (0, 254, 255, rng.randrange(1, 254)):
+            self.assertEqual(offset_span(byte, LONGEST_LEG), offset_span_by_trying(byte, LONGEST_LEG), byte)
 
     def test_every_offset_is_in_the_span_of_its_byte_alone(self):
         rng = random.Random("spans of offsets")
-        for length in (*EDGE_LEGS, 149_504, 150_000, rng.randrange(1_500, 150_000)):
+        for length in (*EDGE_LEGS, *LONG_LEGS, rng.randrange(1_500, LONGEST_LEG)):
             spans = [span for span in (offset_span(byte, length) for byte in range(256)) if span is not None]
             # One after another, without a gap, from 1 to the last offset.
             self.assertEqual([least for least, _ in spans] + [length], [1] + [greatest + 1 for _, greatest in spans], length)
 
     def test_ends_of_a_span_and_offsets_with_equal_bytes_differ_by_less_than_three_512ths_of_the_leg(self):
         rng = random.Random("three 512ths")
-        for length in (*range(2, 700), *EDGE_LEGS, 149_504, 149_999, 150_000, rng.randrange(1_500, 150_000)):
+        for length in (*range(2, 700), *EDGE_LEGS, *LONG_LEGS, rng.randrange(1_500, LONGEST_LEG)):
             for byte, offsets in offsets_by_byte(length).items():
                 self.assertLess(Fraction(max(offsets) - min(offsets)), Fraction(3, 512) * length, (byte, length))
                 self.assertEqual(offset_span(byte, length), (min(offsets), max(offsets)))
@@ -176,9 +190,9 @@ class OffsetSpans(unittest.TestCase):
         too_far = {byte for byte, offsets in offsets_by_byte(1000).items() if 256 * (offsets[-1] - offsets[0]) > 1000}
         self.assertEqual(too_far, {255})
 
-    def test_byte_255_comes_within_a_decimetre_of_three_512ths(self):
-        # 254.5 x 149,504 / 256 is 148,628: byte 255 means 148,628 to 149,503, 875 apart. Three 512ths are 876.
-        self.assertEqual(offset_span(255, 149_504), (148_628, 149_503))
+    def test_byte_255_comes_within_a_centimetre_of_three_512ths(self):
+        # 254.5 x 1,499,648 / 256 is 1,490,861: byte 255 means 1,490,861 to 1,499,647, 8,786 apart. Three 512ths are 8,787.
+        self.assertEqual(offset_span(255, 1_499_648), (1_490_861, 1_499_647))
 
 
 if __name__ == "__main__":

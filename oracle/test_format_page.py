@@ -11,7 +11,7 @@ from format_page import Page, format_page
 from outcome import PointWritten, Refused, StretchWritten
 from sample_maps import ridge_map
 from test_points import HYDRANT
-from test_scope_paper import RIDGE, THREE_POINTS, THREE_POINTS_OFFSET_500, TWO_POINTS
+from test_scope_paper import RIDGE, THREE_POINTS, THREE_POINTS_HALF_WAY, TWO_POINTS
 from test_stored_cases import EVERY_WRONG_STEP, wrong_step
 
 ROOT = Path(__file__).parent.parent
@@ -73,7 +73,7 @@ class FormatPage(unittest.TestCase):
 
     def test_bytes_of_the_ridge(self):
         names = PAGE.names
-        self.assertEqual((names["ridge"], names["ref"], names["three"], names["two"]), (RIDGE, THREE_POINTS_OFFSET_500, THREE_POINTS, TWO_POINTS))
+        self.assertEqual((names["ridge"], names["ref"], names["three"], names["two"]), (RIDGE, THREE_POINTS_HALF_WAY, THREE_POINTS, TWO_POINTS))
 
     def test_bytes_of_the_ridge_with_a_turn_banned(self):
         self.assertEqual(PAGE.names["ridge_ban"], map_to_bytes(ridge_map((0, 2))))
@@ -86,7 +86,7 @@ class FormatPage(unittest.TestCase):
 
     def test_small_map(self):
         tiny = read_map(PAGE.names["tiny"])
-        self.assertEqual((len(tiny.nodes), len(tiny.lines), tiny.lines[0].length), (2, 1, 7_150))
+        self.assertEqual((len(tiny.nodes), len(tiny.lines), tiny.lines[0].length), (2, 1, 71_500))
 
     def test_commands_are_found(self):
         self.assertEqual(PAGE.commands[0].text, "mkdir -p target/by_hand")
@@ -111,7 +111,7 @@ class FormOfTests(unittest.TestCase):
         self.assertEqual(call.outcome(), StretchWritten(PENTAGON_THREE_POINTS, 10, 0))
 
     def test_legs_of_what_remains(self):
-        call, = self.calls("write pentagon lines 0 1 2 3 pos 1000 neg 1000 tests 3 -> writes long")
+        call, = self.calls("write pentagon lines 0 1 2 3 pos 10000 neg 10000 tests 3 -> writes long")
         self.assertEqual(call.answer, StretchWritten(PENTAGON_FOUR_POINTS, 3, 0))
 
     def test_tests_and_excess_are_not_left_out_before_all_tests(self):

@@ -7,7 +7,9 @@ from dataclasses import replace
 from cases import LEG_RECIPES
 from depot_map import DepotMap, Line, Node
 from drawn_steps import EASTWARD, SOUTHWARD, WESTWARD, steps_of_sector
+from fields import DISTANCE_STEP, LONGEST_LEG
 from legs import Leg, LegSearch, Marks, Readings, describe_leg, passes_a_node_twice, readings_by_enumeration
+from lengths import HALF_LEG
 from sample_maps import MapBuilder, chain_sample, joining_pairs, random_walk
 from test_scope_paper import row_map
 
@@ -25,8 +27,8 @@ def random_tiny_map(rng, most_nodes, most_lines):
     """Few values everywhere, so that ties, parallel lines and equal marks are common. Three of four have bans where lines join."""
     builder = MapBuilder()
     builder.row_of_nodes(rng.randrange(2, most_nodes + 1))
-    lengths = rng.choice([[1], [1, 2], [100, 200, 300], [292, 293, 586],
-                          [49_999, 50_000, 75_000, 75_001, 150_000]])
+    lengths = rng.choice([[1], [1, 2], [1_001, 2_002, 3_003], [DISTANCE_STEP // 2 - 1, DISTANCE_STEP // 2, DISTANCE_STEP],
+                          [LONGEST_LEG // 3 - 1, LONGEST_LEG // 3, HALF_LEG, HALF_LEG + 1, LONGEST_LEG]])
     classes, drawn = rng.choice([[3], [3, 4]]), rng.choice([[EASTWARD], [EASTWARD, SOUTHWARD]])
     for _ in range(rng.randrange(1, most_lines + 1)):
         start, end = rng.sample(range(len(builder.nodes)), 2)
@@ -81,8 +83,8 @@ class WorkedLegs(unittest.TestCase):
         self.check(depot_map, Leg(0, 3, EAST, 3, 0, WEST_ARRIVAL), (0, 1), (0, 2, 3))
 
     def test_least_comes_before_the_distance_byte(self):
-        # The least way is 300 (D 0). The way of 700 gives D 1, but it is not least.
-        depot_map = row_map((0, 1, 100), (1, 2, 200), (1, 2, 600))
+        # The least way is 3,000 (D 0). The way of 7,000 gives D 1, but it is not least.
+        depot_map = row_map((0, 1, 1_000), (1, 2, 2_000), (1, 2, 6_000))
         self.check(depot_map, Leg(0, 2, EAST, 3, 0), (0, 1))
         self.check(depot_map, Leg(0, 2, EAST, 3, 1))
         self.check(depot_map, Leg(0, 2, EAST, 3, 1, WEST_ARRIVAL), (0, 2))
@@ -108,15 +110,15 @@ class WorkedLegs(unittest.TestCase):
         self.check(row_map((0, 1, 100), (1, 0, 100)), Leg(0, 0, EAST, 3, 0), (0, 1))
         self.check(row_map((0, 1, 100)), Leg(0, 0, EAST, 3, 0))
 
-    def test_length_at_most_150_000(self):
-        for second, readings in ((74_999, [(0, 1)]), (75_000, [(0, 1)]), (75_001, [])):
-            depot_map = row_map((0, 1, 75_000), (1, 2, second))
+    def test_length_at_most_1_500_000(self):
+        for second, readings in ((749_999, [(0, 1)]), (750_000, [(0, 1)]), (750_001, [])):
+            depot_map = row_map((0, 1, 750_000), (1, 2, second))
             self.check(depot_map, Leg(0, 2, EAST, 3, 255), *readings)
             self.check(depot_map, Leg(0, 2, EAST, 3, 255, WEST_ARRIVAL), *readings)
 
     def test_distance_byte_at_its_edges(self):
-        for length, byte in ((585, 0), (586, 1), (587, 1), (1_171, 1), (1_172, 2), (149_429, 254),
-                             (149_430, 255)):
+        # 255 x 5,860 is 1,494,300.
+        for length, byte in ((5_850, 0), (5_859, 0), (5_860, 1), (5_861, 1), (11_719, 1), (11_720, 2), (1_494_299, 254), (1_494_300, 255), (1_500_000, 255)):
             for asked in (byte - 1, byte, byte + 1):
                 readings = [(0,)] if asked == byte else []
                 self.check(row_map((0, 1, length)), Leg(0, 1, EAST, 3, asked), *readings)
@@ -127,8 +129,9 @@ class WorkedLegs(unittest.TestCase):
         self.assertEqual(LegSearch(depot_map).readings(Leg(0, 60, EAST, 3, 0)).how_many, "several")
 
     def test_long_list(self):
-        depot_map = row_map(*[(hop, hop + 1, 100) for hop in range(200)])
-        leg = Leg(0, 200, EAST, 3, 20_000 // 586, WEST_ARRIVAL)
+        # 200 x 1,003 / 5,860 is 34.2.
+        depot_map = row_map(*[(hop, hop + 1, 1_003) for hop in range(200)])
+        leg = Leg(0, 200, EAST, 3, 34, WEST_ARRIVAL)
         self.assertEqual(LegSearch(depot_map).readings(leg), Readings("one", tuple(range(200))))
 
 

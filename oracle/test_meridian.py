@@ -7,7 +7,8 @@ from unittest import mock
 
 from depot_map import DepotMap, Line, Node, map_to_bytes, read_map
 from drawn_steps import EASTWARD, NORTHWARD, WESTWARD
-from fields import brought_round, code_pair, differences, differences_fit
+from fields import DISTANCE_STEP, brought_round, code_pair, differences, differences_fit
+from lengths import HALF_LEG
 from meridian_recipes import reference_across
 from outcome import Refused, RefusedCall, StretchRead, StretchWritten
 from read_recipes import composed_from
@@ -15,7 +16,7 @@ from reader import read
 from reference import take_apart
 from sample_maps import (FIRST_BEHIND, LAST_BEFORE, SMALL_SAMPLES, MapBuilder, Sample, across_meridian, full_sample, lies_across, random_walk, ridge_map,
                          sample_across, shifted, with_bans)
-from test_scope_paper import THREE_POINTS, THREE_POINTS_OFFSET_500, TWO_POINTS, WORK, all_tested
+from test_scope_paper import THREE_POINTS, THREE_POINTS_HALF_WAY, TWO_POINTS, WORK, all_tested
 from write_recipes import edge_offsets
 from writer import skip_lines, write
 
@@ -46,12 +47,12 @@ def road(*nodes, bans=()):
     """Nodes, and a line from each to the next and one back: lines 0, 2, .. lead on, lines 1, 3, .. back."""
     lines = []
     for start in range(len(nodes) - 1):
-        lines += [Line(start, start + 1, 1_000, 3, 3, EASTWARD, WESTWARD), Line(start + 1, start, 1_000, 3, 3, WESTWARD, EASTWARD)]
+        lines += [Line(start, start + 1, 10_000, 3, 3, EASTWARD, WESTWARD), Line(start + 1, start, 10_000, 3, 3, WESTWARD, EASTWARD)]
     return DepotMap(tuple(Node(*node) for node in nodes), tuple(lines), tuple(bans))
 
 
 def one_leg(node, longitude_difference, latitude_difference=0):
-    """The bytes of a leg of 1,000 to the east from a node, to where the differences lead."""
+    """The bytes of a leg of 10,000 to the east from a node, to where the differences lead."""
     parts = [code.to_bytes(3, "big", signed=True) for code in code_pair(Node(*node))]
     parts += [difference.to_bytes(2, "big", signed=True) for difference in (longitude_difference, latitude_difference)]
     return b"\x0B" + parts[0] + parts[1] + bytes.fromhex("1B 68 01") + parts[2] + parts[3] + bytes.fromhex("1B 18")
@@ -122,9 +123,9 @@ class RidgeAcross(unittest.TestCase):
         self.assertEqual(read(RIDGE_ACROSS, written, WORK, 2), StretchRead((0, 1), *NO_OFFSETS))
 
     def test_offset(self):
-        written = from_the_ridge_across(THREE_POINTS_OFFSET_500)
-        self.assertEqual(write(RIDGE_ACROSS, [0, 1], 500, 0, WORK, 24), all_tested(written, 2))
-        self.assertEqual(read(RIDGE_ACROSS, written, WORK, 2), StretchRead((0, 1), (499, 501), (0, 0)))
+        written = from_the_ridge_across(THREE_POINTS_HALF_WAY)
+        self.assertEqual(write(RIDGE_ACROSS, [0, 1], 5_000, 0, WORK, 24), all_tested(written, 2))
+        self.assertEqual(read(RIDGE_ACROSS, written, WORK, 2), StretchRead((0, 1), (4_981, 5_019), (0, 0)))
 
     def test_tie(self):
         self.assertEqual(read(RIDGE_ACROSS, from_the_ridge_across(TWO_POINTS), WORK, 3), Refused(18, 0))
@@ -275,7 +276,8 @@ def sample_around_the_earth(rng):
         longitude = rng.choice([LAST_BEFORE, LAST_BEFORE - 16_000, FIRST_BEHIND, FIRST_BEHIND + 16_000, 0, -1, -2, anywhere])
         builder.node(longitude, 400 * number)
     for _ in range(rng.randrange(3, 12)):
-        builder.line(*rng.sample(range(len(builder.nodes)), 2), rng.choice([100, 586, 1_000, 75_000]), steps_out=rng.choice([NORTHWARD, EASTWARD]))
+        length = rng.choice([1_001, DISTANCE_STEP, 10_003, HALF_LEG])
+        builder.line(*rng.sample(range(len(builder.nodes)), 2), length, steps_out=rng.choice([NORTHWARD, EASTWARD]))
     depot_map = builder.build()
     return Sample("around the earth", depot_map, random_walk(rng, depot_map, rng.randrange(1, 6)))
 

@@ -15,7 +15,7 @@ from check_host import read_point_calls, write_point_calls
 from check_plain import cases_on_maps, parts_of
 from crossings import stretch_moves
 from depot_map import DepotMap, map_to_bytes, read_map
-from fields import differences
+from fields import LONGEST_LEG, differences
 from legs import LegSearch, list_length
 from outcome import PointRead, PointWritten, Refused
 from point_along_line import read_point, write_point
@@ -255,7 +255,7 @@ class StoredPoints(unittest.TestCase):
         self.assertGreater(sum(isinstance(outcome, PointWritten) for outcome in outcomes[10]), 4)
 
     def test_parallel_lines(self):
-        # By the fields in which two lines differ that join the same nodes. D is 1 for 1,000 and 1,171.
+        # By the fields in which two lines differ that join the same nodes. D is 1 for 10,003 and 11,719.
         answers = {}
         for call in self.written_here:
             if len(call.depot_map.lines) <= 3 and call.refusal() in (None, 10):
@@ -364,7 +364,7 @@ class StoredPoints(unittest.TestCase):
     def test_offset_bytes_at_their_edges(self):
         # Byte 0 is given by no offset up to a length of 512, byte 255 by none up to 170.
         accepted, refused = ({(byte, length) for byte, length, _ in self.flagged_bytes(refusal)} for refusal in (None, 19))
-        self.assertLessEqual({(0, 513), (0, 514), (0, 150_000), *((255, length) for length in (171, 255, 256, 257, 511, 512, 513, 150_000))}, accepted)
+        self.assertLessEqual({(0, 513), (0, 514), (0, LONGEST_LEG), *((255, length) for length in (171, 255, 256, 257, 511, 512, 513, LONGEST_LEG))}, accepted)
         self.assertLessEqual({(0, 1), (0, 170), (0, 256), (0, 257), (0, 511), (0, 512), (255, 1), (255, 170)}, refused)
 
     def test_bytes_0_and_255_with_several_offsets(self):
@@ -387,6 +387,35 @@ class StoredPoints(unittest.TestCase):
         counts = Counter(kind for call in written for kind in roundings(call.offset, call.depot_map.lines[call.line].length))
         self.assertEqual(set(counts), EVERY_ROUNDING)
         self.assertGreater(min(counts.values()), 10, counts)
+
+    def accepted_offsets(self):
+        """The offset and the length of the line of each point that is written."""
+        return [(call.offset, call.depot_map.lines[call.line].length) for call in self.written_here if call.refusal() is None]
+
+    def test_lengths_of_lines_at_their_edges_and_at_those_of_d(self):
+        # Paper 02, "Centimetres": 11,720 is twice 5,860, and 1,494,300 is 255 times that.
+        edges = {1, 5_859, 5_860, 5_861, 11_719, 11_720, 11_721, 1_494_299, 1_494_300, 1_494_301, 1_499_999, 1_500_000}
+        self.assertEqual(edges - {length for _, length in self.accepted_offsets()}, set())
+
+    def test_offsets_of_a_centimetre_and_of_all_but_one(self):
+        found = [(offset, length - offset) for offset, length in self.accepted_offsets() if length > 10_000]
+        self.assertGreater(sum(offset == 1 for offset, _ in found), 10)
+        self.assertGreater(sum(rest == 1 for _, rest in found), 10)
+        self.assertIn((1_499_999, 1), found)
+
+    def test_ways_around_that_are_a_centimetre_longer_or_shorter(self):
+        # A line and a way of two lines with its marks: told apart by D alone, and by the longest leg. How much longer the way is, whether D is another, whether
+        # the way is too long for a leg, and the answer.
+        answers = set()
+        for call in self.written_here:
+            lines = call.depot_map.lines
+            if [(line.start_node, line.end_node) for line in lines] == [(0, 2), (0, 1), (1, 2)] and not call.depot_map.bans and call.refusal() in (None, 10):
+                line, way = lines[0].length, lines[1].length + lines[2].length
+                if call.line == 0 and len({(line.frc, line.fow, line.steps_out, line.steps_back) for line in lines}) == 1:
+                    answers.add((way - line, way // 5_860 != line // 5_860, way > 1_500_000, call.refusal()))
+        self.assertLessEqual({(-1, True, False, None), (1, True, False, None), (1, False, True, None), (-1, False, False, 10), (0, False, False, 10),
+                              (1, False, False, 10)}, answers)
+        self.assertFalse(any((other_d or too_long) != (refusal is None) for _, other_d, too_long, refusal in answers))
 
     def test_references_to_stretches(self):
         answers = {(len(call.reference), call.refusal()) for call in self.read_here if call.reference[:1] == b"\x0B"}

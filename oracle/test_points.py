@@ -37,18 +37,18 @@ STATUS, FIRST_P, Q, D, LAST_P, R, OFFSET = 0, 7, 8, 9, 14, 15, 16
 
 class HydrantOnTheRidge(unittest.TestCase):
     def test_written(self):
-        # Line 2 runs north from node 1 at (1000, 0) to node 2 at (1000, 1000), 500 long.
+        # Line 2 runs north from node 1 at (1000, 0) to node 2 at (1000, 1000), 5,000 long.
         # Status 2B. Longitude 1000: 1000 x 16,777,216 / 36,000,000 is 466.03, plus a half cut to 466, 0001D2. Latitude 0: 000000.
-        # P: orientation 0, FRC 3 and FOW 3 are 8 x 3 + 3, 1B. Q: lowest class 3 and sector 0 are 32 x 3, 60. D: 500 / 586 is 0.
+        # P: orientation 0, FRC 3 and FOW 3 are 8 x 3 + 3, 1B. Q: lowest class 3 and sector 0 are 32 x 3, 60. D: 5,000 / 5,860 is 0.
         # Differences 0 and 1000: 0000 03E8. P: side 1, 64 + 1B, 5B. R: positive flag 40 and sector 16 of (0, -200), 10, together 50.
-        # 256 x 120 / 500 is 61.44; 61 is 3D.
-        self.assertEqual(write_point(RIDGE, LINE_2, 120, 0, 1, WORK, 17), PointWritten(HYDRANT))
+        # 256 x 1,200 / 5,000 is 61.44; 61 is 3D.
+        self.assertEqual(write_point(RIDGE, LINE_2, 1_200, 0, 1, WORK, 17), PointWritten(HYDRANT))
 
     def test_read_back(self):
-        # Byte 61: 60.5 x 500 / 256 is 118.2 and 61.5 x 500 / 256 is 120.1.
+        # Byte 61: 60.5 x 5,000 / 256 is 1,181.6 and 61.5 x 5,000 / 256 is 1,201.2.
         outcome = read_point(RIDGE, HYDRANT, WORK, 1)
-        self.assertEqual(outcome, PointRead((LINE_2,), (119, 120), 0, 1))
-        self.assertEqual(outcome_text(outcome), "lines 1 offset 119 120 orientation 0 side 1\n2")
+        self.assertEqual(outcome, PointRead((LINE_2,), (1_182, 1_201), 0, 1))
+        self.assertEqual(outcome_text(outcome), "lines 1 offset 1182 1201 orientation 0 side 1\n2")
 
     def test_at_the_start_of_the_line(self):
         # No flag and no byte: R is the sector alone.
@@ -57,10 +57,10 @@ class HydrantOnTheRidge(unittest.TestCase):
         self.assertEqual(read_point(RIDGE, start, WORK, 1), PointRead((LINE_2,), (0, 0), 0, 1))
 
     def test_point_along_two_lines(self):
-        # Lines 0 and 2, 1,500 long, to node 2: Q has sector 8, D is 2, and line 2 arrives. Byte 80 is 128: 127.5 x 1500 / 256 is 747.1 and 128.5 x 1500 / 256
-        # is 752.9.
+        # Lines 0 and 2, 15,000 long, to node 2: Q has sector 8, D is 2, and line 2 arrives. Byte 80 is 128: 127.5 x 15,000 / 256 is 7,470.7 and
+        # 128.5 x 15,000 / 256 is 7,529.3.
         reference = bytes.fromhex("2B 000000 000000 DB 68 02 03E8 03E8 9B 50 80")
-        self.assertEqual(read_point(RIDGE, reference, WORK, 2), PointRead((LINE_0, LINE_2), (748, 752), 3, 2))
+        self.assertEqual(read_point(RIDGE, reference, WORK, 2), PointRead((LINE_0, LINE_2), (7_471, 7_529), 3, 2))
         self.assertEqual(read_point(RIDGE, reference, WORK, 1), Refused(20))
 
     def test_tie_of_the_ridge(self):
@@ -72,26 +72,26 @@ class HydrantOnTheRidge(unittest.TestCase):
             self.assertEqual(read_point(banned, tie, WORK, 9), PointRead(lines, (0, 0), 0, 0))
 
     def test_the_other_lines(self):
-        # 256 x 120 / 1000 is 30.72; 31 is 1F. Lines 0 and 1 leave in sector 8 and arrive in 24, D is 1. Line 3 leaves in 12 and arrives in 24; it leads from
-        # (1000, 1000) by 1000 and -1000, and is 500 long as line 2 is. It is so with every turn of the ridge banned as well.
+        # 256 x 1,200 / 10,000 is 30.72; 31 is 1F. Lines 0 and 1 leave in sector 8 and arrive in 24, D is 1. Line 3 leaves in 12 and arrives in 24; it leads
+        # from (1000, 1000) by 1000 and -1000, and is 5,000 long as line 2 is. It is so with every turn of the ridge banned as well.
         banned = map_to_bytes(DepotMap(RIDGE_NODES, RIDGE_LINES, ((0, 1), (0, 2), (2, 3))))
         for line, text in ((LINE_0, "2B 000000 000000 9B 68 01 03E8 0000 DB 58 1F"), (LINE_1, "2B 0001D2 000000 9B 68 01 03E8 0000 DB 58 1F"),
                            (LINE_3, "2B 0001D2 0001D2 9B 6C 00 03E8 FC18 DB 58 3D")):
             for map_bytes in (RIDGE, banned):
-                self.assertEqual(write_point(map_bytes, line, 120, 2, 3, WORK, 17), PointWritten(bytes.fromhex(text)))
+                self.assertEqual(write_point(map_bytes, line, 1_200, 2, 3, WORK, 17), PointWritten(bytes.fromhex(text)))
 
     def test_texts(self):
-        written = write_point(RIDGE, LINE_2, 120, 0, 1, WORK, 17)
+        written = write_point(RIDGE, LINE_2, 1_200, 0, 1, WORK, 17)
         self.assertEqual(outcome_text(written), "bytes 17\n2B0001D20000001B6000000003E85B503D")
         self.assertEqual(outcome_text(read_point(RIDGE, changed(HYDRANT, 13, 0), WORK, 1)), "refused 16 1")
-        self.assertEqual(outcome_text(write_point(RIDGE, LINE_2, 120, 4, 1, WORK, 17)), "refused 25")
+        self.assertEqual(outcome_text(write_point(RIDGE, LINE_2, 1_200, 4, 1, WORK, 17)), "refused 25")
 
 
 # 13.2.3, Tables 101 to 111. They are those of the line example's form (13.1.3), but for what Tables 104 and 109 name orientation and side of road.
 EXAMPLE = base64.b64decode("KwRboCNGfhJRAf/O/7SSQ00=")
 # FRC2 and several carriageways; bearing 202 at the start; and in 13.2.4, which has the same line, 92 m long and bearing 42 at its end.
 EXAMPLE_NODES = (Node(612_829, 4_960_597), Node(612_779, 4_960_521))
-EXAMPLE_LENGTH, EXAMPLE_OFFSET = 920, 280
+EXAMPLE_LENGTH, EXAMPLE_OFFSET = 9_200, 2_800
 EXAMPLE_POINTS = (Point(285_600, 2_311_806, 2, 2, 17, 2, 1, top_bits=0), Point(-50, -76, 2, 2, 3, top_bits=2))
 
 
@@ -131,7 +131,7 @@ class WhitePaper(unittest.TestCase):
         self.assertEqual(EXAMPLE[D], distance_byte(EXAMPLE_LENGTH))
 
     def test_offset_byte(self):
-        # "30.43% falls into the bucket number 77": 256 x 280 / 920 is 77.9, and the white paper takes it down. So 13.2.3 reads it as "30.27%", 77.5 256ths,
+        # "30.43% falls into the bucket number 77": 256 x 28 / 92 is 77.9, and the white paper takes it down. So 13.2.3 reads it as "30.27%", 77.5 256ths,
         # the middle of a bucket from 77 to 78. Paper 02 does not follow it: the nearest to 77.9 is 78, 4E.
         self.assertEqual(EXAMPLE[OFFSET], 77)
         self.assertEqual(EXAMPLE[OFFSET], 256 * EXAMPLE_OFFSET // EXAMPLE_LENGTH)
@@ -149,34 +149,34 @@ class WhitePaper(unittest.TestCase):
         of_the_equation = changed(EXAMPLE, 3, 0x9F)
         expected = changed(of_the_equation, OFFSET, 0x4E)
         self.assertEqual(write_point(map_bytes, 0, EXAMPLE_OFFSET, 0, 2, WORK, 17), PointWritten(expected))
-        # 77.5 x 920 / 256 is 278.5 and 78.5 x 920 / 256 is 282.1: the white paper's 280 is among them.
-        self.assertEqual(read_point(map_bytes, expected, WORK, 1), PointRead((0,), (279, 282), 0, 2))
-        # Its own byte, 77: 76.5 x 920 / 256 is 274.9, up to the same 278.5. Among them is what 13.2.3 reads, "27.8 meter", and no longer the 28 m that it
+        # 77.5 x 9,200 / 256 is 2,785.2 and 78.5 x 9,200 / 256 is 2,821.1: the white paper's 28 m are among them.
+        self.assertEqual(read_point(map_bytes, expected, WORK, 1), PointRead((0,), (2_786, 2_821), 0, 2))
+        # Its own byte, 77: 76.5 x 9,200 / 256 is 2,749.2, up to the same 2,785.2. Among them is what 13.2.3 reads, "27.8 meter", and no longer the 28 m that it
         # wrote.
-        self.assertEqual(read_point(map_bytes, of_the_equation, WORK, 1), PointRead((0,), (275, 278), 0, 2))
+        self.assertEqual(read_point(map_bytes, of_the_equation, WORK, 1), PointRead((0,), (2_750, 2_785), 0, 2))
         self.assertEqual(read_point(map_bytes, EXAMPLE, WORK, 1), Refused(16, 0))
 
 
-# A line of 1,000 from node 0 to node 1, and another of 100 on to node 2.
-ROW = row_map((0, 1, 1000), (1, 2, 100))
+# A line of 10,000 from node 0 to node 1, and another of 100 on to node 2.
+ROW = row_map((0, 1, 10_000), (1, 2, 100))
 ROW_BYTES = map_to_bytes(ROW)
-# 250 along line 0: byte 40. Orientation 1, side 2.
+# 2,500 along line 0: byte 40. Orientation 1, side 2.
 ROW_POINT = bytes.fromhex("2B 000000 000000 5B 68 01 03E8 0000 9B 58 40")
 
 
 class Sentences(unittest.TestCase):
     def test_16_or_17_bytes(self):
-        for offset, length in ((0, 16), (1, 17), (999, 17)):
+        for offset, length in ((0, 16), (1, 17), (9_999, 17)):
             written = write_point(ROW_BYTES, 0, offset, 1, 2, WORK, 17).reference
             self.assertEqual((len(written), written[STATUS]), (length, 0x2B))
 
     def test_orientation_and_side_in_bits_7_and_6(self):
-        # Byte 64 on 1000: 63.5 x 1000 / 256 is 248.05 and 64.5 x 1000 / 256 is 251.95.
-        self.assertEqual(write_point(ROW_BYTES, 0, 250, 1, 2, WORK, 17), PointWritten(ROW_POINT))
+        # Byte 64 on 10,000: 63.5 x 10,000 / 256 is 2,480.5 and 64.5 x 10,000 / 256 is 2,519.5.
+        self.assertEqual(write_point(ROW_BYTES, 0, 2_500, 1, 2, WORK, 17), PointWritten(ROW_POINT))
         for orientation, side in itertools.product(range(4), repeat=2):
             expected = changed(changed(ROW_POINT, FIRST_P, 64 * orientation + 0x1B), LAST_P, 64 * side + 0x1B)
-            self.assertEqual(write_point(ROW_BYTES, 0, 250, orientation, side, WORK, 17), PointWritten(expected))
-            self.assertEqual(read_point(ROW_BYTES, expected, WORK, 1), PointRead((0,), (249, 251), orientation, side))
+            self.assertEqual(write_point(ROW_BYTES, 0, 2_500, orientation, side, WORK, 17), PointWritten(expected))
+            self.assertEqual(read_point(ROW_BYTES, expected, WORK, 1), PointRead((0,), (2_481, 2_519), orientation, side))
 
     def test_negative_flag_must_be_0(self):
         for bits in (0x20, 0x80, 0xA0):
@@ -197,9 +197,9 @@ class Sentences(unittest.TestCase):
         self.assertEqual(read_point(map_bytes, written.reference, WORK, 1), PointRead((0,), (5, 5), 0, 3))
 
     def test_10_where_the_line_is_not_the_only_reading(self):
-        # D is 1 for 1,000 and 1,171, and 2 for 1,172. Else the other line is told apart by class, form or sector, at its start or at its end.
-        line = Line(0, 1, 1000, 3, 3, EASTWARD, WESTWARD)
-        twins = ((line, True), (replace(line, length=1_171), True), (replace(line, length=1_172), False), (replace(line, frc=4), False),
+        # D is 1 for 10,000 and 11,719, and 2 for 11,720. Else the other line is told apart by class, form or sector, at its start or at its end.
+        line = Line(0, 1, 10_000, 3, 3, EASTWARD, WESTWARD)
+        twins = ((line, True), (replace(line, length=11_719), True), (replace(line, length=11_720), False), (replace(line, frc=4), False),
                  (replace(line, fow=4), False), (replace(line, steps_out=NORTHWARD), False), (replace(line, steps_back=NORTHWARD), False))
         for twin, same in twins:
             map_bytes = map_to_bytes(DepotMap((Node(0, 0), Node(1000, 0)), (line, twin)))
@@ -209,11 +209,11 @@ class Sentences(unittest.TestCase):
 
     def test_10_where_a_way_of_two_lines_fits_as_well(self):
         # Least is among lists with the same first and last line: the line alone is one, 1 and 2 another, as long and with the same marks at both ends.
-        way = ((0, 2, 1000), (0, 1, 400), (1, 2, 600))
+        way = ((0, 2, 10_000), (0, 1, 4_003), (1, 2, 5_997))
         self.assertEqual(write_point(map_to_bytes(row_map(*way)), 0, 0, 0, 0, WORK, 17), Refused(10))
         self.assertIsInstance(write_point(map_to_bytes(row_map(*way, bans=((1, 2),))), 0, 0, 0, 0, WORK, 17), PointWritten)
         # And a shorter way does not matter where D tells it apart, since it has another first line.
-        self.assertIsInstance(write_point(map_to_bytes(row_map((0, 2, 1000), (0, 1, 200), (1, 2, 300))), 0, 0, 0, 0, WORK, 17), PointWritten)
+        self.assertIsInstance(write_point(map_to_bytes(row_map((0, 2, 10_000), (0, 1, 2_000), (1, 2, 3_000))), 0, 0, 0, 0, WORK, 17), PointWritten)
 
     def test_reading_hands_back_several_lines(self):
         count = 40
@@ -327,11 +327,11 @@ class OrderOfRefusals(unittest.TestCase):
 
     def test_25_stands_right_after_9(self):
         for marks in ((4, 0), (0, 4), (4, 4), (LARGEST, 0), (0, LARGEST), (256, 0), (0, 256)):
-            self.assertEqual(write_point(ROW_BYTES, 0, 999, *marks, WORK, 17), Refused(25))
-            self.assertEqual(write_point(ROW_BYTES, 0, 1_000, *marks, WORK, 17), Refused(9))
+            self.assertEqual(write_point(ROW_BYTES, 0, 9_999, *marks, WORK, 17), Refused(25))
+            self.assertEqual(write_point(ROW_BYTES, 0, 10_000, *marks, WORK, 17), Refused(9))
             self.assertEqual(write_point(ROW_BYTES, 2, 0, *marks, WORK, 17), Refused(7))
             self.assertEqual(write_point(ROW_BYTES, 0, 0, *marks, WORK, 0), Refused(25))
-        self.assertIsInstance(write_point(ROW_BYTES, 0, 999, 3, 3, WORK, 17), PointWritten)
+        self.assertIsInstance(write_point(ROW_BYTES, 0, 9_999, 3, 3, WORK, 17), PointWritten)
 
     def test_11_by_the_length_that_the_offset_asks_for(self):
         for offset, length in ((0, 16), (1, 17)):
@@ -370,7 +370,7 @@ class ReadBack(unittest.TestCase):
         self.assertGreater(sum(self.check(point_on(rng, sample.depot_map)) for sample in samples for _ in range(12)), 20)
 
     def test_every_offset_of_a_line(self):
-        for length in (1, 2, 170, 171, 255, 256, 257, 511, 512, 513, 514, 586, 1_000):
+        for length in (1, 2, 170, 171, 255, 256, 257, 511, 512, 513, 514, 1_000, 5_861):
             depot_map = row_map((0, 1, length))
             given = point_on(random.Random(length), depot_map)
             self.assertTrue(all(self.check(replace(given, offset=offset)) for offset in range(length)))

@@ -17,9 +17,9 @@ from reader import read
 from sample_maps import SMALL_SAMPLES
 from test_scope_paper import RIDGE, THREE_POINTS, TWO_POINTS, WORK, row_map
 
-ROW = row_map((0, 1, 100), (1, 2, 1000))
+ROW = row_map((0, 1, 100), (1, 2, 10_000))
 ROW_BYTES = map_to_bytes(ROW)
-# Legs of 100 and 1000 with the positive offset 50 and the negative offset 500, both of byte 80.
+# Legs of 100 and 10,000 with the positive offset 50 and the negative offset 5,000, both of byte 80.
 ROW_REFERENCE = bytes.fromhex("0B 000000 000000 1B 68 00 03E8 0000 1B 68 01 03E8 0000 1B 78 80 80")
 STATUS, FIRST_P, FIRST_D, LAST_P, LAST_R, POSITIVE = 0, 7, 9, 21, 22, 23
 
@@ -33,8 +33,8 @@ class EachRefusal(unittest.TestCase):
         self.assertEqual(read(map_bytes, reference, work_length, line_room), Refused(*refusal))
 
     def test_good_reference_is_read(self):
-        # Byte 128 on 100: 127.5 x 100 / 256 is 49.8 and 128.5 x 100 / 256 is 50.2. On 1000 it is 498.05 and 501.95.
-        self.assertEqual(read(ROW_BYTES, ROW_REFERENCE, WORK, 2), StretchRead((0, 1), (50, 50), (499, 501)))
+        # Byte 128 on 100: 127.5 x 100 / 256 is 49.8 and 128.5 x 100 / 256 is 50.2. On 10,000 it is 4,980.5 and 5,019.5.
+        self.assertEqual(read(ROW_BYTES, ROW_REFERENCE, WORK, 2), StretchRead((0, 1), (50, 50), (4_981, 5_019)))
 
     def test_1(self):
         for work_length in (0, 14_335):
@@ -98,7 +98,7 @@ class EachRefusal(unittest.TestCase):
     def test_19_for_either_offset(self):
         # On 100, offset 1 gives 2.56, and so 3, and offset 99 gives 253.44, and so 253: neither byte 1 nor 255 is given.
         self.check(changed(ROW_REFERENCE, POSITIVE, 1), 19)
-        backwards = map_to_bytes(row_map((0, 1, 1000), (1, 2, 100)))
+        backwards = map_to_bytes(row_map((0, 1, 10_000), (1, 2, 100)))
         reference = bytes.fromhex("0B 000000 000000 1B 68 01 03E8 0000 1B 68 00 03E8 0000 1B 78 80 01")
         self.check(reference, 19, map_bytes=backwards)
         self.check(changed(reference, 24, 0xFF), 19, map_bytes=backwards)
@@ -115,7 +115,7 @@ class EachRefusal(unittest.TestCase):
         # One leg of 1000. Byte 80 starts at 499, and twice that is below 1000. 128.5 x 1000 / 256 is 501.95 and 129.5 x 1000 / 256 is 505.9, so that byte 81
         # starts at 502, and 499 + 502 is not. 126.5 x 1000 / 256 is 494.1, where byte 7F starts: 495 + 502 is below 1000.
         map_bytes = map_to_bytes(row_map((0, 1, 1000)))
-        start = bytes.fromhex("0B 000000 000000 1B 68 01 03E8 0000 1B 78")
+        start = bytes.fromhex("0B 000000 000000 1B 68 00 03E8 0000 1B 78")
         self.assertEqual(read(map_bytes, start + b"\x80\x80", WORK, 1), StretchRead((0,), (499, 501), (499, 501)))
         self.check(start + b"\x80\x81", 19, map_bytes=map_bytes)
         self.check(start + b"\x81\x80", 19, map_bytes=map_bytes)
@@ -199,30 +199,30 @@ class OrderOfRefusals(unittest.TestCase):
 class Accepted(unittest.TestCase):
     def test_reference_that_the_writer_would_not_write(self):
         # A point more than needed, in the middle of a row without any other way.
-        map_bytes = map_to_bytes(row_map((0, 1, 1000), (1, 2, 1000)))
+        map_bytes = map_to_bytes(row_map((0, 1, 10_000), (1, 2, 10_000)))
         self.assertEqual(read(map_bytes, THREE_POINTS, WORK, 2), StretchRead((0, 1), (0, 0), (0, 0)))
         self.assertEqual(read(map_bytes, TWO_POINTS, WORK, 2), StretchRead((0, 1), (0, 0), (0, 0)))
 
     def test_lowest_class_may_be_higher_than_needed(self):
-        map_bytes = map_to_bytes(row_map((0, 1, 1000)))
+        map_bytes = map_to_bytes(row_map((0, 1, 10_000)))
         reference = bytes.fromhex("0B 000000 000000 1B E8 01 03E8 0000 1B 18")
         self.assertEqual(read(map_bytes, reference, WORK, 1), StretchRead((0,), (0, 0), (0, 0)))
 
     def test_leg_from_a_node_to_itself(self):
-        map_bytes = map_to_bytes(row_map((0, 1, 300), (1, 0, 300)))
+        map_bytes = map_to_bytes(row_map((0, 1, 3_000), (1, 0, 3_000)))
         reference = bytes.fromhex("0B 000000 000000 1B 68 01 0000 0000 1B 18")
         self.assertEqual(read(map_bytes, reference, WORK, 2), StretchRead((0, 1), (0, 0), (0, 0)))
 
-    def test_leg_of_150_000_and_one_more(self):
+    def test_leg_of_1_500_000_and_one_more(self):
         # Both give D 255, but only the first may be a reading.
         reference = bytes.fromhex("0B 000000 000000 1B 68 FF 07D0 0000 1B 18")
-        for second, outcome in ((75_000, StretchRead((0, 1), (0, 0), (0, 0))), (75_001, Refused(17, 0))):
-            map_bytes = map_to_bytes(row_map((0, 1, 75_000), (1, 2, second)))
+        for second, outcome in ((750_000, StretchRead((0, 1), (0, 0), (0, 0))), (750_001, Refused(17, 0))):
+            map_bytes = map_to_bytes(row_map((0, 1, 750_000), (1, 2, second)))
             self.assertEqual(read(map_bytes, reference, WORK, 2), outcome)
 
     def test_first_codes_may_be_of_another_coordinate(self):
         # Nodes at 2 and 3 have the code 1; the node at 3 is found, and the next is 3 plus the difference.
-        depot_map = DepotMap((Node(3, 0), Node(1003, 0)), (Line(0, 1, 1000, 3, 3, EASTWARD, WESTWARD),))
+        depot_map = DepotMap((Node(3, 0), Node(1003, 0)), (Line(0, 1, 10_000, 3, 3, EASTWARD, WESTWARD),))
         reference = bytes.fromhex("0B 000001 000000 1B 68 01 03E8 0000 1B 18")
         self.assertEqual(read(map_to_bytes(depot_map), reference, WORK, 1), StretchRead((0,), (0, 0), (0, 0)))
 

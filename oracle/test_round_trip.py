@@ -5,7 +5,7 @@ import unittest
 
 from depot_map import DepotMap, Line, Node, map_to_bytes
 from drawn_steps import EASTWARD, WESTWARD
-from fields import offset_span_by_trying
+from fields import LONGEST_LEG, offset_span_by_trying
 from legs import list_length, readings_by_enumeration
 from outcome import StretchRead, StretchWritten
 from reader import legs_of, point_nodes, read
@@ -123,14 +123,14 @@ class OffsetsOfOneSpan(unittest.TestCase):
     def test_flag_is_set_where_the_byte_is_0(self):
         # 256 x 1 / 1000 is 0.256. R has both flags, one or none, and sector 24.
         map_bytes = map_to_bytes(row_map((0, 1, 1000)))
-        good = bytes.fromhex("0B 000000 000000 1B 68 01 03E8 0000 1B")
+        good = bytes.fromhex("0B 000000 000000 1B 68 00 03E8 0000 1B")
         for pos, neg, end in ((1, 0, "58 00"), (0, 1, "38 00"), (1, 1, "78 00 00"), (0, 0, "18")):
             written = write(map_bytes, [0], pos, neg, WORK, 18)
             self.assertEqual(written, all_tested(good + bytes.fromhex(end), 1))
             self.assertEqual(read(map_bytes, written.reference, WORK, 1), StretchRead((0,), (pos, pos), (neg, neg)))
 
     def test_sums_of_offsets_next_to_the_total(self):
-        for length in (2, 3, 170, 171, 256, 257, 511, 512, 513, 1000, 150_000):
+        for length in (2, 3, 170, 171, 256, 257, 511, 512, 513, 1000, LONGEST_LEG):
             map_bytes = map_to_bytes(row_map((0, 1, length)))
             for pos in {0, 1, length // 2, length - 1}:
                 neg = length - 1 - pos

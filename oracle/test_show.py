@@ -8,7 +8,7 @@ from depot_map import map_to_bytes
 from sample_maps import ridge_map
 from show import shown
 from test_points import HYDRANT
-from test_scope_paper import RIDGE, THREE_POINTS_OFFSET_500, TWO_POINTS, WORK, all_tested
+from test_scope_paper import RIDGE, THREE_POINTS_HALF_WAY, TWO_POINTS, WORK, all_tested
 from writer import write
 
 ROOT = Path(__file__).parent.parent
@@ -23,10 +23,10 @@ class RidgeExample(unittest.TestCase):
         # The gate runs the program on files of its own crate.
         for folder in (FOLDER, PROGRAM / "data"):
             self.assertEqual((folder / "map.bin").read_bytes(), RIDGE)
-            self.assertEqual((folder / "ref.bin").read_bytes(), THREE_POINTS_OFFSET_500)
+            self.assertEqual((folder / "ref.bin").read_bytes(), THREE_POINTS_HALF_WAY)
 
     def test_printed(self):
-        self.assertEqual(shown(FOLDER), "lines 2 pos 499 501 neg 0 0\n0\n1")
+        self.assertEqual(shown(FOLDER), "lines 2 pos 4981 5019 neg 0 0\n0\n1")
         self.assertEqual((PROGRAM / "stdout").read_text(), shown(FOLDER) + "\n")
 
     def test_points_are_not_printed(self):

@@ -219,7 +219,7 @@ class StepsOfAMap(unittest.TestCase):
 class Comparison(unittest.TestCase):
     def two_lines(self, *drawn):
         """Lines 0 and 1 from node 0 to node 1 that differ in nothing but their steps out and back."""
-        lines = tuple(Line(0, 1, 1000, 3, 3, steps_out, steps_back) for steps_out, steps_back in drawn)
+        lines = tuple(Line(0, 1, 10_000, 3, 3, steps_out, steps_back) for steps_out, steps_back in drawn)
         return map_to_bytes(DepotMap((Node(0, 0), Node(1000, 0)), lines))
 
     def check_told_apart(self, map_bytes, *references):

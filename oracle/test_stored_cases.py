@@ -1,5 +1,5 @@
 """The stored cases of the test programs: every answer occurs, full-size maps with bans of each kind, the edges of the 180th meridian, those of sectors, those
-of offset bytes and those of the number of tests.
+of offset bytes, those of lengths in centimetres and those of the number of tests.
 
 That pack.py makes them is asked by its --check. What else is asked of points along a line is in test_point_cases.py.
 """
@@ -8,7 +8,7 @@ import re
 import unittest
 from collections import Counter
 from dataclasses import replace
-from itertools import permutations
+from itertools import cycle, permutations
 from typing import NamedTuple, Optional
 
 import check_plain
@@ -16,14 +16,14 @@ from cases import map_outcome
 from check_plain import cases_on_maps, in_groups, numbers_in, parts_of
 from crossings import reading_moves, stretch_moves
 from damages import LINE_NUMBERS, STEP_FIELDS, STEP_PAIRS
-from depot_map import LARGEST_NUMBER, DepotMap, read_number
+from depot_map import LARGEST_NUMBER, DepotMap, map_to_bytes, read_number
 from drawn_steps import ENDS_OF_RANGE, steps_at_edges
 from fields import LONGEST_LEG, offset_byte, offset_span, sector
-from legs import list_length
+from legs import Leg, LegSearch, Marks, list_length
 from numbers_of_tests import leg_count, lines_left
 from outcome import Refused, RefusedCall, StretchWritten
 from pack import CRATES, MOST_CASE_BYTES, PROGRAMS, number_sum
-from reader import leg_lists, legs_of, point_nodes
+from reader import leg_lists, legs_of, point_nodes, read
 from reference import take_apart
 from roundings import EVERY_ROUNDING, roundings
 from sample_maps import FIRST_BEHIND, LAST_BEFORE, lies_across
@@ -337,6 +337,14 @@ def flagged_bytes():
                 yield FlaggedByte(is_positive, byte, list_length(depot_map, leg), span)
 
 
+def lengths_of_legs_written():
+    """Of the stretches that are accepted. The maps have few lines, likewise."""
+    for depot_map, given, row in stored_writings():
+        if row.startswith("bytes") and len(depot_map.lines) <= FEW_LINES:
+            remaining, *_ = skip_lines(depot_map, given.lines, given.pos, given.neg)
+            yield from (list_length(depot_map, leg) for leg in choose_points(depot_map, remaining, given.tests))
+
+
 class OffsetsOfStretches(unittest.TestCase):
     @classmethod
     def setUpClass(cls):
@@ -375,7 +383,8 @@ class OffsetsOfStretches(unittest.TestCase):
         # Byte 0 is given by no offset up to a length of 512, byte 255 by none up to 170.
         for is_positive in (True, False):
             accepted, refused = ({(found.byte, found.leg_length) for found in side} for side in self.flagged_on(is_positive))
-            self.assertLessEqual({(0, 513), (0, 514), (0, 150_000), *((255, length) for length in (171, 255, 256, 257, 511, 512, 513, 150_000))}, accepted)
+            self.assertLessEqual({(0, 513), (0, 514), (0, LONGEST_LEG)}, accepted)
+            self.assertLessEqual({(255, length) for length in (171, 255, 256, 257, 511, 512, 513, LONGEST_LEG)}, accepted)
             self.assertLessEqual({(0, 1), (0, 170), (0, 256), (0, 257), (0, 511), (0, 512), (255, 1), (255, 170)}, refused)
 
     def test_spans_that_start_at_an_exact_half(self):
@@ -385,6 +394,173 @@ class OffsetsOfStretches(unittest.TestCase):
             starts = [found for found in accepted if 512 * found.span[0] == (2 * found.byte - 1) * found.leg_length]
             ends = [found for found in accepted if 512 * (found.span[1] + 1) == (2 * found.byte + 1) * found.leg_length]
             self.assertGreater(min(len(starts), len(ends)), 3, (len(starts), len(ends)))
+
+
+def is_fine(number):
+    """Whether a number of centimetres is no whole decimetres."""
+    return number % 10 != 0
+
+
+def in_whole_decimetres(depot_map):
+    """The map with each length taken down to whole decimetres, or to 1."""
+    return replace(depot_map, lines=tuple(replace(line, length=max(1, line.length // 10 * 10)) for line in depot_map.lines))
+
+
+def numbers_in_order(map_bytes):
+    """Where each number of a map starts, and the number, up to the first in a wrong form."""
+    position = 0
+    while position < len(map_bytes):
+        start = position
+        try:
+            number, position = read_number(map_bytes, position)
+        except RefusedCall:
+            return
+        yield start, number
+
+
+def wrong_lengths(name):
+    """The lengths for which maps are refused. What stands before such a length is good: the map that ends there is refused for its end alone."""
+    for map_bytes in stored_maps(name):
+        if not map_bytes or map_outcome(map_bytes) != Refused(5):
+            continue
+        (_, node_count), *numbers = numbers_in_order(map_bytes)
+        # Before the first line stand two numbers for each node and a count.
+        for (start, number), field in zip(numbers[2 * node_count + 1:], cycle(LINE_NUMBERS)):
+            if field == "length" and not 1 <= number <= 1_500_000 and map_outcome(map_bytes[:start]) == Refused(2):
+                yield number
+
+
+def leg_of(numbers):
+    """A leg out of the numbers that are packed for it."""
+    start, end, frc, fow, first_sector, lowest_frc, distance, is_last, *last = numbers
+    return Leg(start, end, Marks(frc, fow, first_sector), lowest_frc, distance, Marks(*last) if is_last else None)
+
+
+class Centimetres(unittest.TestCase):
+    """Paper 02, "Centimetres". What stands here as a number is the paper's, and the maker of the cases has it from fields.py."""
+
+    @classmethod
+    def setUpClass(cls):
+        cls.maps = {name: set(good_maps(name)) for name in PARTS_OF_A_CASE}
+        cls.written = list(written_offsets())
+        cls.writings = list(stored_writings())
+
+    def check_common(self, numbers, what):
+        """Of the numbers that are a decimetre or more, more than half are no whole decimetres, and every last digit occurs."""
+        found = [number for number in numbers if number >= 10]
+        self.assertGreater(len(found), 100, what)
+        self.assertGreater(2 * sum(map(is_fine, found)), len(found), what)
+        self.assertEqual({number % 10 for number in found}, set(range(10)), what)
+
+    def test_lengths_that_are_no_multiple_of_ten_are_common(self):
+        # Also without the full-size maps, which have most of the lines.
+        for name, maps in self.maps.items():
+            for kind, chosen in (("all", maps), ("small", [depot_map for depot_map in maps if len(depot_map.lines) < 1_024])):
+                self.check_common([line.length for depot_map in chosen for line in depot_map.lines], (name, kind))
+
+    def test_most_maps_have_such_a_length(self):
+        for name, maps in self.maps.items():
+            fine = [depot_map for depot_map in maps if any(line.length >= 10 and is_fine(line.length) for line in depot_map.lines)]
+            self.assertGreater(2 * len(fine), len(maps), name)
+
+    def test_offsets_that_are_no_multiple_of_ten_are_common(self):
+        # Those of the writers that are accepted, and those at which a span of the readers starts or ends.
+        self.check_common([offset for writing in self.writings if writing.is_accepted() for offset in (writing.given.pos, writing.given.neg)], "written")
+        for name in ("test_reads", "test_points"):
+            spans = [span for row in rows(name) if row.startswith("lines") for span in re.findall(r"(?:pos|neg|offset) (\d+) (\d+)", row)]
+            for end in (0, 1):
+                self.check_common([int(span[end]) for span in spans], (name, end))
+
+    def test_offsets_of_points_that_are_no_multiple_of_ten_are_common(self):
+        calls = zip(cases_on_maps(parts_of(case_bytes("test_points"))), rows("test_points"))
+        self.check_common([numbers[4] for (_, _, numbers), row in calls if row.startswith("bytes")], "points")
+
+    def test_readings_that_whole_decimetres_would_change(self):
+        # Ways that are less than a decimetre apart, a leg that is too long by less, or D.
+        changed, map_before = Counter(), None
+        for (map_bytes, leg), row in zip(in_groups(parts_of(case_bytes("test_legs")), 2), rows("test_legs")):
+            map_before = map_bytes or map_before
+            depot_map = map_outcome(map_before)
+            if len(depot_map.lines) <= MOST_LINES_TESTED_AGAIN:
+                how_many = row.split()[0]
+                coarse = LegSearch(in_whole_decimetres(depot_map)).readings(leg_of(numbers_in(leg))).how_many
+                changed[how_many] += how_many != coarse
+        self.assertEqual(set(changed), {"none", "one", "several"})
+        self.assertGreater(min(changed.values()), 10, changed)
+
+    def test_calls_that_whole_decimetres_would_change(self):
+        # By the answer that is stored: other lines or another refusal of the reader, other bytes or another refusal of the writer.
+        changed = Counter()
+        for (map_bytes, reference, numbers), row in zip(cases_on_maps(parts_of(case_bytes("test_reads"))), rows("test_reads")):
+            depot_map = map_outcome(map_bytes)
+            if not isinstance(depot_map, Refused) and len(depot_map.lines) <= FEW_LINES:
+                outcome, coarse = (read(map_to_bytes(drawn), reference, *numbers) for drawn in (depot_map, in_whole_decimetres(depot_map)))
+                changed["read", " ".join(row.split()[:2])] += getattr(outcome, "lines", outcome) != getattr(coarse, "lines", coarse)
+        for writing in self.writings:
+            if len(writing.depot_map.lines) <= FEW_LINES:
+                outcome, coarse = (write_outcome(replace(writing.given, map_bytes=map_to_bytes(drawn)))
+                                   for drawn in (writing.depot_map, in_whole_decimetres(writing.depot_map)))
+                changed["write", "bytes" if writing.is_accepted() else writing.refusal()] += outcome != coarse
+        self.assertGreater(sum(count for (call, answer), count in changed.items() if call == "read" and answer.startswith("lines")), 20)
+        self.assertGreater(changed["read", "refused 18"], 10)
+        self.assertGreater(changed["write", "bytes"], 100)
+        self.assertGreater(min(changed["write", 10], changed["write", 26]), 10)
+
+    def test_lengths_of_lines_at_their_edges(self):
+        for name, maps in self.maps.items():
+            self.assertLessEqual({1, 1_499_999, 1_500_000}, {line.length for depot_map in maps for line in depot_map.lines}, name)
+            self.assertTrue(any(150_000 < line.length < 1_499_999 for depot_map in maps for line in depot_map.lines), name)
+
+    def test_lines_one_too_long(self):
+        for name in ("test_maps", "test_reads", "test_writes", "test_points"):
+            self.assertLessEqual({0, 1_500_001, LARGEST_NUMBER}, set(wrong_lengths(name)), name)
+
+    def test_lengths_of_legs_at_the_edges_of_d(self):
+        # 11,720 is twice 5,860, and 1,494,300 is 255 times that.
+        edges = {1, 5_859, 5_860, 5_861, 11_719, 11_720, 11_721, 1_494_299, 1_494_300, 1_494_301, 1_499_999, 1_500_000}
+        lengths = {int(row.split()[3]) for row in rows("test_legs") if row.startswith("one")}
+        self.assertEqual(edges - lengths, set())
+        self.assertEqual(max(lengths), 1_500_000)
+        self.assertEqual(edges - set(lengths_of_legs_written()), set())
+
+    def test_legs_one_too_long(self):
+        # Two or more lines that make 1,500,001 are cut, and need a point more.
+        points = []
+        for depot_map, given, row in self.writings:
+            if row.startswith("bytes") and len(depot_map.lines) <= FEW_LINES:
+                remaining, *_ = skip_lines(depot_map, given.lines, given.pos, given.neg)
+                if list_length(depot_map, remaining) == 1_500_001:
+                    points.append(len(choose_points(depot_map, remaining, given.tests)) + 1)
+        self.assertEqual(min(points), 3)
+        self.assertGreater(len(points), 10)
+
+    def test_offsets_of_a_centimetre_and_of_all_but_one(self):
+        for is_positive in (True, False):
+            of_the_side = [found for found in self.written if found.is_positive == is_positive]
+            self.assertGreater(sum(found.offset == 1 and found.leg_length > 10_000 for found in of_the_side), 10)
+            self.assertGreater(sum(found.offset == found.leg_length - 1 > 10_000 for found in of_the_side), 3)
+            self.assertIn(1_499_999, {found.offset for found in of_the_side})
+
+    def test_exact_halves_on_long_legs(self):
+        # On multiples of 512 up to 1,499,648, which is 2,929 times that.
+        halves = {found.leg_length for found in self.written if "an exact half upwards" in roundings(found.offset, found.leg_length)}
+        self.assertLessEqual({512, 1_024, 1_536, 1_499_648}, halves)
+
+    def test_sums_of_offsets_that_need_33_bits(self):
+        # Of 32 bits the rest would be below the total.
+        wide = [writing for writing in self.writings if writing.refusal() == 9 and writing.given.pos + writing.given.neg >= 2 ** 32]
+        telling = [writing for writing in wide if (writing.given.pos + writing.given.neg) % 2 ** 32 < list_length(writing.depot_map, writing.given.lines)]
+        self.assertGreater(len(telling), 5)
+
+    def test_stretches_of_96_000_000(self):
+        # 64 lines of 1,500,000, with no offset, with offsets up to one below the total, and with the total.
+        longest = [writing for writing in self.writings if 1 <= len(writing.given.lines) <= 64 and max(writing.given.lines) < len(writing.depot_map.lines)
+                   and list_length(writing.depot_map, writing.given.lines) == 96_000_000]
+        sums = {(writing.given.pos + writing.given.neg, writing.refusal()) for writing in longest}
+        self.assertLessEqual({(0, None), (95_999_999, None), (96_000_000, 9)}, sums)
+        totals = {list_length(depot_map, range(64)) for depot_map, _, row in calls_on_good_maps("test_reads")
+                  if row.startswith("lines 64 ") and len(depot_map.lines) == 64}
+        self.assertIn(96_000_000, totals)
 
 
 class NumbersOfTests(unittest.TestCase):

@@ -8,6 +8,7 @@ from depot_map import DepotMap, Line, Node, Steps, map_to_bytes
 from drawn_steps import EASTWARD, NORTHWARD, SOUTHWARD, WESTWARD
 from fields import LONGEST_LEG, differences_fit
 from legs import describe_leg, list_length, readings_by_enumeration
+from lengths import HALF_LEG
 from outcome import Refused, StretchWritten
 from reader import read
 from sample_maps import (MapBuilder, parallel_sample, random_walk, ring_sample, short_first_leg_sample,
@@ -70,7 +71,7 @@ class EachRefusal(unittest.TestCase):
     def test_differences_are_asked_between_points_only(self):
         # Out by 32,768 and back to a near node: the far node is no point, so that one leg will do.
         depot_map = DepotMap((Node(0, 0), Node(32_768, 0), Node(100, 0)),
-                             (Line(0, 1, 1000, 3, 3, EASTWARD, WESTWARD), Line(1, 2, 1000, 3, 3, EASTWARD, WESTWARD)))
+                             (Line(0, 1, 10_000, 3, 3, EASTWARD, WESTWARD), Line(1, 2, 10_000, 3, 3, EASTWARD, WESTWARD)))
         written = bytes.fromhex("0B 000000 000000 1B 68 03 0064 0000 1B 18")
         self.assertEqual(write(map_to_bytes(depot_map), [0, 1], 0, 0, WORK, 16), all_tested(written, 2))
 
@@ -126,7 +127,7 @@ class SkippedLines(unittest.TestCase):
         # Line 0 has a twin. The rest can be written.
         map_bytes = map_to_bytes(row_map((0, 1, 1000), (0, 1, 1000), (1, 2, 500)))
         self.assertEqual(write(map_bytes, [0, 2], 999, 0, WORK, 459), Refused(10))
-        # 500 is less than 586: D is 0. The node at longitude 1000 has the code 466.
+        # 500 is less than 5,860: D is 0. The node at longitude 1000 has the code 466.
         written = bytes.fromhex("0B 0001D2 000000 1B 68 00 03E8 0000 1B 18")
         self.assertEqual(write(map_bytes, [0, 2], 1000, 0, WORK, 16), all_tested(written, 1))
 
@@ -162,9 +163,9 @@ def best_choice_of_all(depot_map, lines):
 class BytesByHand(unittest.TestCase):
     def test_lowest_class_is_the_greatest_frc_of_the_leg(self):
         nodes = tuple(Node(1000 * number, 0) for number in range(4))
-        lines = (Line(0, 1, 1000, 2, 1, Steps(5, 5), SOUTHWARD), Line(1, 2, 1000, 5, 4, EASTWARD, WESTWARD),
-                 Line(2, 3, 1000, 3, 6, NORTHWARD, Steps(-1, 250)))
-        # P: FRC 2 and FOW 1 are 11. Q: class 5 and sector 4, of 45 degrees, are A4. D of 3000 is 5.
+        lines = (Line(0, 1, 10_000, 2, 1, Steps(5, 5), SOUTHWARD), Line(1, 2, 10_000, 5, 4, EASTWARD, WESTWARD),
+                 Line(2, 3, 10_000, 3, 6, NORTHWARD, Steps(-1, 250)))
+        # P: FRC 2 and FOW 1 are 11. Q: class 5 and sector 4, of 45 degrees, are A4. D of 30,000 is 5.
         # The difference 3000 is 0BB8. Last P: FRC 3 and FOW 6 are 1E. R: sector 31, just west of north, is 1F.
         expected = bytes.fromhex("0B 000000 000000 11 A4 05 0BB8 0000 1E 1F")
         outcome = write(map_to_bytes(DepotMap(nodes, lines)), [0, 1, 2], 0, 0, WORK, 16)
@@ -172,8 +173,8 @@ class BytesByHand(unittest.TestCase):
 
     def test_lowest_class_is_each_legs_own(self):
         nodes = tuple(Node(1000 * number, 0) for number in range(3))
-        lines = (Line(0, 1, 100_000, 2, 3, EASTWARD, WESTWARD), Line(1, 2, 100_000, 0, 3, EASTWARD, WESTWARD))
-        # FRC 2 gives P 13 and Q 48; FRC 0 gives P 03 and Q 08. 100,000 / 586 is 170, AA.
+        lines = (Line(0, 1, 1_000_000, 2, 3, EASTWARD, WESTWARD), Line(1, 2, 1_000_000, 0, 3, EASTWARD, WESTWARD))
+        # FRC 2 gives P 13 and Q 48; FRC 0 gives P 03 and Q 08. 1,000,000 / 5,860 is 170.6, AA.
         expected = bytes.fromhex("0B 000000 000000 13 48 AA 03E8 0000 03 08 AA 03E8 0000 03 18")
         outcome = write(map_to_bytes(DepotMap(nodes, lines)), [0, 1], 0, 0, WORK, 23)
         self.assertEqual(outcome, all_tested(expected, 2))
@@ -196,24 +197,24 @@ class ChoiceOfPoints(unittest.TestCase):
         self.assertTrue(all(counts.get(leg_count, 0) >= 20 for leg_count in (0, 1, 2, 3)), counts)
 
     def test_first_leg_with_most_lines_among_the_fewest_points(self):
-        # Four lines of 50,000: two legs are needed. Both 3 + 1 and 2 + 2 and 1 + 3 are usable.
-        depot_map = row_map(*[(hop, hop + 1, 50_000) for hop in range(4)])
+        # Four lines of 500,000: two legs are needed. Both 3 + 1 and 2 + 2 and 1 + 3 are usable.
+        depot_map = row_map(*[(hop, hop + 1, 500_000) for hop in range(4)])
         self.assertEqual(choose_points(depot_map, (0, 1, 2, 3)), [(0, 1, 2), (3,)])
 
     def test_fewest_points_before_a_long_first_leg(self):
         # The first leg could be 0, 1 but what follows could not be written then: line 2 has a twin, line 4.
-        depot_map = row_map((0, 1, 100_000), (1, 2, 40_000), (2, 3, 30_000), (3, 4, 1_000), (2, 3, 30_001))
+        depot_map = row_map((0, 1, 1_000_000), (1, 2, 400_000), (2, 3, 300_000), (3, 4, 10_000), (2, 3, 300_001))
         self.assertEqual(choose_points(depot_map, (0, 1, 2, 3)), [(0,), (1, 2, 3)])
 
     def test_64_legs_fill_459_bytes(self):
         builder = MapBuilder()
         nodes = builder.row_of_nodes(65)
         for start, end in zip(nodes, nodes[1:]):
-            builder.line(start, end, 75_001)
+            builder.line(start, end, HALF_LEG + 1)
         map_bytes = map_to_bytes(builder.build())
-        outcome = write(map_bytes, range(64), 75_000, 75_000, WORK, 459)
+        outcome = write(map_bytes, range(64), HALF_LEG, HALF_LEG, WORK, 459)
         self.assertEqual(len(outcome.reference), 459)
-        self.assertEqual(write(map_bytes, range(64), 75_000, 75_000, WORK, 458), Refused(11))
+        self.assertEqual(write(map_bytes, range(64), HALF_LEG, HALF_LEG, WORK, 458), Refused(11))
         self.assertEqual(read(map_bytes, outcome.reference, WORK, 64).lines, tuple(range(64)))
 
     def test_line_taken_twice(self):

@@ -4,15 +4,16 @@ from dataclasses import dataclass, replace
 from functools import lru_cache
 
 from damages import map_damage
-from depot_map import LARGEST_NUMBER, joins, map_to_bytes, read_map
-from fields import LONGEST_LEG
+from depot_map import LARGEST_NUMBER, LONGEST_LINE, joins, map_to_bytes, read_map
+from fields import DISTANCE_STEP, LONGEST_LEG
 from legs import list_length
+from lengths import HALF_LEG, next_to
 from numbers_of_tests import all_with_all_tests
 from outcome import StretchWritten
 from reader import LEAST_WORK_LENGTH
 from recipes import any_sample, sample_with_free_stretch, until_found, work_area_exactly_enough, work_area_too_short
-from sample_maps import (NODE_STEP, SMALL_SAMPLES, MapBuilder, chain_of_blocks, edge_sample, far_sample, full_size_sample, other_first_line_sample,
-                         pairs_of, random_walk, ring_sample)
+from sample_maps import (NODE_STEP, SMALL_SAMPLES, MapBuilder, centimetre_sample, chain_of_blocks, edge_sample, far_sample, full_size_sample, longest_lines,
+                         other_first_line_sample, pairs_of, random_walk, ring_sample, row_of_64)
 from writer import ALL_TESTS, MOST_STRETCH_LINES, write
 
 AMPLE_BYTES = 459
@@ -88,12 +89,12 @@ def skipped_lines(rng, turn):
 
 
 def next_to_a_half(rng, turn):
-    """A leg length and an offset on it half-way between two 256ths, or one decimetre before or behind.
+    """A leg length and an offset on it half-way between two 256ths, or one centimetre before or behind.
 
     Half-way is an odd number of 512ths of the leg, and so there is such an offset on multiples of 512 only. Before the first, one 512th, comes byte 0. From the
     last on, 511 512ths, 256 is the nearest.
     """
-    part = (1, 2, 3, 147, LONGEST_LEG // 512)[turn % 5]
+    part = (1, 2, 3, 1_467, LONGEST_LEG // 512)[turn % 5]
     odd = (1, 511, 2 * rng.randrange(256) + 1)[turn % 3]
     offset = odd * part + (0, -1, 1)[turn // 15 % 3]
     return 512 * part, min(max(1, offset), 512 * part - 1)
@@ -109,15 +110,11 @@ def offsets_at_a_half(rng, turn):
 
 
 def longest_reference(rng, turn):
-    """64 lines that need a leg each: 457 bytes, and 459 with both offsets."""
-    builder = MapBuilder()
-    nodes = builder.row_of_nodes(MOST_STRETCH_LINES + 1)
-    lines = tuple(builder.line(start, end, rng.choice([75_001, 149_999, 150_000]))
-                  for start, end in zip(nodes, nodes[1:]))
-    pos, neg = [(1, 1), (75_000, 75_000), (75_001, 1), (0, 1), (0, 0)][turn % 5]
+    """64 lines that need a leg each: 457 bytes, and 459 with both offsets. Every other time all lines are as long as can be."""
+    sample = row_of_64(rng, "64 long lines", [HALF_LEG + 1, LONGEST_LINE - 1, LONGEST_LINE]) if turn % 2 else longest_lines(rng)
+    pos, neg = [(1, 1), (HALF_LEG, HALF_LEG), (HALF_LEG + 1, 1), (0, 1), (0, 0)][turn % 5]
     byte_room = (AMPLE_BYTES, AMPLE_BYTES - 1, AMPLE_BYTES + 21)[turn // 5 % 3]
-    return f"room for {byte_room} bytes", WriteInput(map_to_bytes(builder.build()), lines, pos, neg,
-                                                     byte_room=byte_room)
+    return f"room for {byte_room} bytes", WriteInput(map_to_bytes(sample.depot_map), sample.stretch, pos, neg, byte_room=byte_room)
 
 
 def full_size(rng, turn):
@@ -183,7 +180,7 @@ def line_of_a_node(rng):
     """A line number that no line has and a node has: there are more nodes than lines."""
     builder = MapBuilder()
     nodes = builder.row_of_nodes(rng.randrange(3, 7))
-    known = tuple(builder.line(start, end, 1_000) for start, end in zip(nodes, nodes[1:-1]))
+    known = tuple(builder.line(start, end, 10_003) for start, end in zip(nodes, nodes[1:-1]))
     unknown = rng.randrange(len(known), len(nodes))
     return WriteInput(map_to_bytes(builder.build()), rng.choice([(unknown,), known + (unknown,)]))
 
@@ -217,7 +214,7 @@ def banned_pair_skipped(rng, turn):
     builder = MapBuilder()
     count = (3, 4, 64)[turn % 3]
     nodes = builder.row_of_nodes(count + 1)
-    lengths = [rng.choice([1, 2, 1_000]) for _ in range(count)]
+    lengths = [rng.choice([1, 2, 10_003]) for _ in range(count)]
     lines = tuple(builder.line(start, end, length) for start, end, length in zip(nodes, nodes[1:], lengths))
     skipped = 1 + turn // 6 % 2
     if turn // 3 % 2:
@@ -240,7 +237,7 @@ def broken_joint_and_banned_pair(rng, turn):
 def tie_that_a_ban_decides(rng, turn):
     """Hops with ties, on each of which the other way is banned, but for one now and then: two points will do, or one point more is needed."""
     builder = MapBuilder()
-    hops = hops_with_two_ways(rng, builder, (1, 2, 5, 32)[turn % 4], [2, 586, 1_000])
+    hops = hops_with_two_ways(rng, builder, (1, 2, 5, 32)[turn % 4], [2, DISTANCE_STEP, 10_001])
     own, other = zip(*(rng.sample(ways, 2) for ways in hops))
     left = turn // 4 % 2
     builder.bans += rng.sample(other, len(hops) - left)
@@ -253,7 +250,7 @@ def around_the_block(rng, turn):
     blocks = (1, 2, 5, 16)[turn % 4]
     depot_map, legs = chain_of_blocks([1] * blocks)
     lines = tuple(line for leg in legs for line in leg)
-    return f"{blocks} blocks", WriteInput(map_to_bytes(depot_map), lines, pos=rng.choice([0, 1, 99]))
+    return f"{blocks} blocks", WriteInput(map_to_bytes(depot_map), lines, pos=rng.choice([0, 1, depot_map.lines[0].length - 1]))
 
 
 def no_usable_choice_by_a_ban(rng, turn):
@@ -268,7 +265,7 @@ def sides_of_an_edge(rng, turn):
 
 
 def offsets_too_large(rng, turn):
-    sample = sample_with_free_stretch(rng, turn)
+    sample = longest_lines(rng) if turn % 12 == 11 else sample_with_free_stretch(rng, turn)
     total = list_length(sample.depot_map, sample.stretch)
     part = rng.randrange(total + 1)
     pairs = [(total, 0), (0, total), (part, total - part), (part, total - part + 1), (LARGEST_NUMBER, 0),
@@ -279,7 +276,7 @@ def offsets_too_large(rng, turn):
 
 
 def offsets_just_below(rng, turn):
-    sample = any_sample(rng, turn)
+    sample = longest_lines(rng) if turn % 12 == 11 else any_sample(rng, turn)
     pos = rng.randrange(list_length(sample.depot_map, sample.stretch))
     neg = list_length(sample.depot_map, sample.stretch) - 1 - pos
     return sample.label, WriteInput(map_to_bytes(sample.depot_map), sample.stretch, pos, neg)
@@ -294,7 +291,7 @@ def no_usable_choice(rng, turn):
         return sample.label, WriteInput(map_to_bytes(sample.depot_map), lines, byte_room=0)
     builder = MapBuilder()
     nodes = builder.row_of_nodes(3)
-    length = rng.choice([1, 586, 75_000])
+    length = rng.choice([1, DISTANCE_STEP, HALF_LEG - 1])
     for _ in range(2):
         builder.line(nodes[0], nodes[1], length)
     builder.line(nodes[1], nodes[2], length)
@@ -319,17 +316,17 @@ def hops_with_two_ways(rng, builder, hop_count, totals):
 
 def point_in_mid_leg(rng, turn):
     builder = MapBuilder()
-    hops = hops_with_two_ways(rng, builder, 1 + turn % 4, [2, 586, 1_000, 149_999, 150_000])
+    hops = hops_with_two_ways(rng, builder, 1 + turn % 4, [2, DISTANCE_STEP, 10_001, LONGEST_LEG - 1, LONGEST_LEG])
     stretch = tuple(line for ways in hops for line in rng.choice(ways))
     return f"{len(hops)} hops", WriteInput(map_to_bytes(builder.build()), stretch)
 
 
 def legs_at_longest(rng, turn):
-    """Lines in a row, the first two to five of which make 149,999 to 150,001; past 150,000 a point is needed."""
-    total = (149_999, 150_000, 150_001)[turn % 3]
+    """Lines in a row, the first two to five of which make the longest leg, one less or one more; past the longest a point is needed."""
+    total = next_to(LONGEST_LEG)[turn % 3]
     cuts = sorted(rng.sample(range(1, total), 1 + turn // 3 % 4))
     lengths = [end - start for start, end in zip([0, *cuts], [*cuts, total])]
-    lengths += [[], [1], [total - 1], [1, 149_999, 1]][turn // 12 % 4]
+    lengths += [[], [1], [total - 1], [1, LONGEST_LEG - 1, 1]][turn // 12 % 4]
     builder = MapBuilder()
     nodes = builder.row_of_nodes(len(lengths) + 1)
     lines = tuple(builder.line(start, end, length) for start, end, length in zip(nodes, nodes[1:], lengths))
@@ -346,22 +343,29 @@ def differences_at_ends(rng, turn):
     aside = rng.choice([0, 7])
     nodes = [builder.node(*((start + place, start + aside) if turn // 12 % 2 else (start + aside, start + place)))
              for place in places]
-    lines = tuple(builder.line(start, end, rng.choice([1, 1_000])) for start, end in zip(nodes, nodes[1:]))
+    lines = tuple(builder.line(start, end, rng.choice([1, 10_003])) for start, end in zip(nodes, nodes[1:]))
     return f"difference {difference}", WriteInput(map_to_bytes(builder.build()), lines)
 
 
 def all_but_one_line_skipped(rng, turn):
-    """A stretch of up to 64 lines and offsets that cover all of it but one line, or that line but one decimetre."""
+    """A stretch of up to 64 lines and offsets that cover all of it but one line, or that line but one centimetre."""
     builder = MapBuilder()
     count = (2, 3, 63, 64)[turn % 4]
     nodes = builder.row_of_nodes(count + 1)
-    lengths = [rng.choice([1, 2, 1_000, 150_000]) for _ in range(count)]
+    lengths = [rng.choice([1, 2, 10_003, LONGEST_LINE]) for _ in range(count)]
     lines = tuple(builder.line(start, end, length) for start, end, length in zip(nodes, nodes[1:], lengths))
     kept = (0, count - 1, rng.randrange(count))[turn // 4 % 3]
     room = lengths[kept] - 1
     more = rng.choice([0, room, rng.randrange(room + 1)])
     pos, neg = sum(lengths[:kept]) + more, sum(lengths[kept + 1:]) + rng.choice([0, room - more])
     return f"{count} lines", WriteInput(map_to_bytes(builder.build()), lines, pos, neg)
+
+
+def to_the_centimetre(rng, turn):
+    """Two ways of which the one is a centimetre longer or as long, at an edge of D or of the longest leg."""
+    sample = centimetre_sample(rng, turn)
+    pos, neg = rng.choice([(0, 0), (1, 0), (0, 1), (1, 1), (sample.depot_map.lines[0].length - 1, 0)])
+    return sample.label, WriteInput(map_to_bytes(sample.depot_map), sample.stretch, pos, neg)
 
 
 def fewest_points(rng, turn):
@@ -371,8 +375,8 @@ def fewest_points(rng, turn):
     2 to 5 can be one leg, and 3 to 5 cannot. Up to two lines that need a leg each come before.
     """
     lead = turn % 3
-    lengths = [150_000] * lead + [rng.choice([100_000, 120_000]), 10_000, 10_000, rng.choice([40_000, 45_000])]
-    lengths += [1_000, 1_000]
+    lengths = [LONGEST_LINE] * lead + [rng.choice([1_000_003, 1_200_007]), 100_001, 100_009, rng.choice([400_003, 450_001])]
+    lengths += [10_003, 10_007]
     builder = MapBuilder()
     nodes = builder.row_of_nodes(len(lengths) + 1)
     aside = builder.node(0, 1_000)
@@ -401,6 +405,7 @@ WRITE_RECIPES = all_with_all_tests({
     "tie that a ban decides": tie_that_a_ban_decides,
     "around the block": around_the_block,
     "sides of an edge": sides_of_an_edge,
+    "to the centimetre": to_the_centimetre,
     "refusal 1": work_area_too_short(accepted_input, {"map_bytes": b""}, {"lines": ()}, {"byte_room": 0}),
     "refusal 2": damaged_map(2),
     "refusal 3": damaged_map(3),

@@ -5,9 +5,11 @@
      read_point MAP REFERENCE ROOM
      write_point MAP LINE OFFSET ORIENTATION SIDE ROOM
 
-   Bytes are hexadecimal, and - where there are none. A call that changes the buffer where it must not is answered by "buffer", and a writer's refusal with a
-   number that must be 0 and is not by "refused" and all of its numbers. Neither is ever expected. */
+   Offsets and spans are in centimetres. Bytes are hexadecimal, and - where there are none. A call that changes the buffer where it must not is answered by
+   "buffer", and a writer's refusal with a number that must be 0 and is not by "refused" and all of its numbers. Neither is ever expected. */
 #include "openlr.h"
+
+_Static_assert(OPENLR_UNITS_PER_METRE == 100, "lengths and offsets are in centimetres");
 
 #include <stdio.h>
 #include <stdlib.h>

@@ -6,7 +6,7 @@
 
 enum {
     NODE_BYTES = NUMBER_BYTES(35999998) + NUMBER_BYTES(18000000),
-    LINE_BYTES = 2 * NUMBER_BYTES(511) + NUMBER_BYTES(150000) + 2 * NUMBER_BYTES(7) + 4 * NUMBER_BYTES(500),
+    LINE_BYTES = 2 * NUMBER_BYTES(511) + NUMBER_BYTES(LONGEST_LINE) + 2 * NUMBER_BYTES(7) + 4 * NUMBER_BYTES(500),
     BAN_BYTES = 2 * NUMBER_BYTES(1023),
     MAP_BYTES = NUMBER_BYTES(512) + 512 * NODE_BYTES + NUMBER_BYTES(1024) + 1024 * LINE_BYTES + NUMBER_BYTES(512) + 512 * BAN_BYTES
 };
@@ -16,7 +16,7 @@ _Static_assert(OPENLR_LONGEST_REFERENCE == 1 + 9 + 63 * 7 + 6 + 2 && OPENLR_LONG
 _Static_assert(OPENLR_LONGEST_POINT == 1 + 9 + 6 + 1 && OPENLR_LONGEST_POINT == 17, "one leg and an offset");
 _Static_assert(OPENLR_MOST_LINES == 1024, "the scope paper's, for a host");
 _Static_assert(OPENLR_MOST_TESTS == 64 * (64 + 1) / 2 && OPENLR_MOST_TESTS == 2080, "a test for each leg of 64 lines");
-_Static_assert(OPENLR_VERSION == 7 && OPENLR_UNITS_PER_METRE == 10, "a number of leg tests, decimetres");
+_Static_assert(OPENLR_VERSION == 8 && OPENLR_UNITS_PER_METRE == 100, "centimetres");
 _Static_assert(OPENLR_LEAST_STACK == 104 * 1024, "in whole pages");
 _Static_assert(OPENLR_WORK_AREA_SHORT == 1 && OPENLR_MAP_NUMBER == 2 && OPENLR_EQUAL_CODES == 6, "the table's numbers for maps");
 _Static_assert(OPENLR_MAP_BAN == 23 && OPENLR_MAP_STEP == 24, "and the later ones");

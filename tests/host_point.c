@@ -18,8 +18,9 @@ _Static_assert(offsetof(struct openlr_point_written, bytes) == 4, "second");
 
 enum { UNTOUCHED = 0xEE, GUARD = 0x55, FIRST_P = 7, D = 9, LAST_P = 14, R = 15, OFFSET = 16 };
 
-/* A hydrant at 120 of line 2, without orientation, on the right side. The line runs north from node 1, 466 (01D2) and 0 in codes, to node 2, which is 1000
-   (03E8) further. Q: lowest class 3, sector 0. D: 500 / 586. R: positive flag, sector 16. 256 x 120 / 500 is 61.4 (3D), which is 119 (60.9) to 120. */
+/* A hydrant at 1200 of line 2, without orientation, on the right side. The line runs north from node 1, 466 (01D2) and 0 in codes, to node 2, which is 1000
+   (03E8) further. Q: lowest class 3, sector 0. D: 5000 / 5860. R: positive flag, sector 16. 256 x 1200 / 5000 is 61.4 (3D), which is 1182 (60.52) to 1201
+   (61.49). */
 static const uint8_t hydrant[OPENLR_LONGEST_POINT] = {0x2B, 0, 0x01, 0xD2, 0, 0, 0, 0x1B, 0x60, 0, 0, 0, 0x03, 0xE8, 0x5B, 0x50, 0x3D};
 
 static int untouched(const uint8_t *buffer, size_t from, size_t to) {
@@ -80,13 +81,13 @@ static void lines_for_each_room(const uint8_t *reference, const uint8_t *lines, 
     }
 }
 
-/* The hydrant; and a point of orientation 3 and side 2 along lines 0 and 2, from node 0 to node 2: 1500 long, so that D is 2, and byte 80 means 748 to 752
-   (256 x 748 / 1500 is 127.7, 256 x 752 / 1500 is 128.3). */
+/* The hydrant; and a point of orientation 3 and side 2 along lines 0 and 2, from node 0 to node 2: 15000 long, so that D is 2, and byte 80 means 7471
+   to 7529 (256 x 7471 / 15000 is 127.505, 256 x 7529 / 15000 is 128.495). */
 static void readings(void) {
     static const uint8_t along_two[] = {0x2B, 0, 0, 0, 0, 0, 0, 0xDB, 0x68, 0x02, 0x03, 0xE8, 0x03, 0xE8, 0x9B, 0x50, 0x80};
     static const uint8_t line_2[] = {2}, lines_0_and_2[] = {0, 2};
-    lines_for_each_room(hydrant, line_2, 1, 119, 120, 0, 1);
-    lines_for_each_room(along_two, lines_0_and_2, 2, 748, 752, 3, 2);
+    lines_for_each_room(hydrant, line_2, 1, 1182, 1201, 0, 1);
+    lines_for_each_room(along_two, lines_0_and_2, 2, 7471, 7529, 3, 2);
 }
 
 /* On a line 2 of 512 every odd offset is half between two 256ths and rounds up: 1 to 1, 3 to 2, 509 to 255. 511 rounds up to 256, for which FF is written. The
@@ -105,12 +106,41 @@ static void rounding(void) {
     EXPECT(is_refused(openlr_read_point(map, sizeof map, reference, sizeof reference, line, sizeof line), OPENLR_NO_OFFSET, 0));
 }
 
+/* 1 centimetre from either end of line 2, whose length is 5000. Byte 0 means 1 to 9 (0.5 x 5000 / 256 is 9.77), byte FF means 4971 (254.5 x 5000 / 256 is
+   4970.70) to 4999. */
+static void single_centimetres(void) {
+    static const uint32_t cases[][4] = {{1, 0x00, 1, 9}, {4999, 0xFF, 4971, 4999}};
+    for (size_t i = 0; i < sizeof cases / sizeof cases[0]; i++) {
+        uint8_t reference[OPENLR_LONGEST_POINT], line[4];
+        struct openlr_point_written a = openlr_write_point(ridge, sizeof ridge, 2, cases[i][0], 0, 0, reference, sizeof reference);
+        EXPECT(a.refusal == 0 && a.bytes == sizeof reference && reference[R] == 0x50 && reference[OFFSET] == cases[i][1]);
+        struct openlr_point b = openlr_read_point(ridge, sizeof ridge, reference, sizeof reference, line, sizeof line);
+        EXPECT(b.refusal == 0 && b.lines == 1 && line[0] == 2 && b.least == cases[i][2] && b.greatest == cases[i][3]);
+    }
+}
+
+/* A line 0 of the greatest length: D is 255, and half of it is byte 80, which means 747071 (127.5 x 1500000 / 256 is 747070.31) to 752929
+   (752929.69). With 1 centimetre more the map is refused. */
+static void longest_line(void) {
+    uint8_t map[LONG_RIDGE_BYTES], reference[OPENLR_LONGEST_POINT], line[4];
+    put_long_ridge(map, LONGEST_LINE);
+    struct openlr_point_written a = openlr_write_point(map, sizeof map, 0, LONGEST_LINE / 2, 0, 0, reference, sizeof reference);
+    EXPECT(a.refusal == 0 && a.bytes == sizeof reference && reference[D] == 255 && reference[OFFSET] == 0x80);
+    struct openlr_point b = openlr_read_point(map, sizeof map, reference, sizeof reference, line, sizeof line);
+    EXPECT(b.refusal == 0 && b.lines == 1 && line[0] == 0 && b.least == 747071 && b.greatest == 752929);
+    EXPECT(openlr_write_point(map, sizeof map, 0, LONGEST_LINE, 0, 0, reference, sizeof reference).refusal == OPENLR_STRETCH_OFFSETS);
+    put_long_ridge(map, LONGEST_LINE + 1);
+    a = openlr_write_point(map, sizeof map, 0, LONGEST_LINE / 2, 0, 0, reference, sizeof reference);
+    EXPECT(a.refusal == OPENLR_MAP_LINE && a.bytes == 0);
+    EXPECT(is_refused(openlr_read_point(map, sizeof map, reference, sizeof reference, line, sizeof line), OPENLR_MAP_LINE, 0));
+}
+
 /* Each orientation with each side: bits 7 and 6 of the two P, and back. */
 static void orientations_and_sides(void) {
     for (uint32_t orientation = 0; orientation < 4; orientation++)
         for (uint32_t side = 0; side < 4; side++) {
             uint8_t byte_buffer[OPENLR_LONGEST_POINT], line_buffer[4];
-            struct openlr_point_written w = openlr_write_point(ridge, sizeof ridge, 2, 120, orientation, side, byte_buffer, sizeof byte_buffer);
+            struct openlr_point_written w = openlr_write_point(ridge, sizeof ridge, 2, 1200, orientation, side, byte_buffer, sizeof byte_buffer);
             EXPECT(w.refusal == 0 && w.bytes == sizeof byte_buffer);
             for (size_t i = 0; i < sizeof byte_buffer; i++)
                 EXPECT(byte_buffer[i] == (i == FIRST_P ? 0x1B + 64 * orientation : i == LAST_P ? 0x1B + 64 * side : hydrant[i]));
@@ -184,13 +214,13 @@ static void writer_refusals(void) {
     not_written(4, 0, 0, 0, 7);
     not_written(UINT32_MAX, UINT32_MAX, 4, 4, 7);
     not_written(65536, 0, 0, 0, 7);
-    not_written(2, 500, 0, 0, 9);
+    not_written(2, 5000, 0, 0, 9);
     not_written(2, UINT32_MAX, 4, 4, 9);
-    not_written(2, 499, 4, 0, OPENLR_POINT_MARKS);
-    not_written(2, 499, 0, 4, OPENLR_POINT_MARKS);
+    not_written(2, 4999, 4, 0, OPENLR_POINT_MARKS);
+    not_written(2, 4999, 0, 4, OPENLR_POINT_MARKS);
     not_written(2, 0, UINT32_MAX, 3, OPENLR_POINT_MARKS);
     not_written(2, 0, 3, 256, OPENLR_POINT_MARKS);
-    EXPECT(openlr_write_point(ridge, sizeof ridge, 2, 499, 3, 3, byte_buffer, sizeof byte_buffer).refusal == 0 && byte_buffer[OFFSET] == 0xFF);
+    EXPECT(openlr_write_point(ridge, sizeof ridge, 2, 4999, 3, 3, byte_buffer, sizeof byte_buffer).refusal == 0 && byte_buffer[OFFSET] == 0xFF);
     EXPECT(openlr_write_point(ridge, sizeof ridge, 2, 0, 4, 0, byte_buffer, 0).refusal == OPENLR_POINT_MARKS);
     EXPECT(openlr_write_point(ridge, sizeof ridge - 1, 4, 0, 4, 0, byte_buffer, 0).refusal == 2);
 }
@@ -223,16 +253,18 @@ static void null_slices(void) {
         struct openlr_point a = openlr_read_point(map, map_len, no_reference ? NULL : hydrant, no_reference ? 0 : sizeof hydrant,
                                                   no_buffer ? NULL : line_buffer, no_buffer ? 0 : sizeof line_buffer);
         EXPECT(a.refusal == (no_map ? 2u : no_reference ? 12u : no_buffer ? 20u : 0u) && a.place == 0 && a.lines == (missing ? 0u : 1u));
-        struct openlr_point_written w = openlr_write_point(map, map_len, 2, 120, 0, 1, no_buffer ? NULL : byte_buffer, no_buffer ? 0 : sizeof byte_buffer);
+        struct openlr_point_written w = openlr_write_point(map, map_len, 2, 1200, 0, 1, no_buffer ? NULL : byte_buffer, no_buffer ? 0 : sizeof byte_buffer);
         EXPECT(w.refusal == (no_map ? 2u : no_buffer ? 11u : 0u) && w.bytes == (no_map || no_buffer ? 0u : 17u));
     }
 }
 
 int main(void) {
-    bytes_for_each_room(120);
+    bytes_for_each_room(1200);
     bytes_for_each_room(0);
     readings();
     rounding();
+    single_centimetres();
+    longest_line();
     orientations_and_sides();
     reader_refusals();
     other_kind();

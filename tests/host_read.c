@@ -27,8 +27,8 @@ static int untouched(const uint8_t *line_buffer, size_t from, size_t to) {
     return 1;
 }
 
-/* Lines 0 and 1. Of 1000 decimetres, byte 80 means 499 to 501 (256 x 498.05 / 1000 is 127.5 and 256 x 501.95 / 1000 is 128.5), and byte 40 means 249 to 251
-   (248.05 and 251.95 likewise). */
+/* Lines 0 and 1. Of 10000 centimetres, byte 80 means 4981 to 5019 (127.5 x 10000 / 256 is 4980.47 and 128.5 x 10000 / 256 is 5019.53), and byte 40 means 2481
+   to 2519 (2480.47 and 2519.53 likewise). */
 static void both_offsets(void) {
     static const uint8_t reference[] = {0x0B, 0, 0, 0, 0, 0, 0, 0x1B, 0x68, 0x01, 0x03, 0xE8, 0, 0, 0x1B, 0x68, 0x01, 0x03, 0xE8, 0, 0, 0x1B, 0x78, 0x80, 0x40};
     static const uint8_t expected[] = {0, 0, 0, 0, 1, 0, 0, 0};
@@ -43,7 +43,7 @@ static void both_offsets(void) {
             EXPECT(untouched(line_buffer, 0, room));
         } else {
             EXPECT(a.refusal == 0 && a.place == 0 && a.line_count == 2);
-            EXPECT(a.pos_least == 499 && a.pos_greatest == 501 && a.neg_least == 249 && a.neg_greatest == 251);
+            EXPECT(a.pos_least == 4981 && a.pos_greatest == 5019 && a.neg_least == 2481 && a.neg_greatest == 2519);
             EXPECT(memcmp(line_buffer, expected, sizeof expected) == 0 && untouched(line_buffer, sizeof expected, room));
         }
         EXPECT(line_buffer[room] == 0x55);

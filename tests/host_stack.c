@@ -1,6 +1,6 @@
 /* The functions in a thread with a stack of just OPENLR_LEAST_STACK bytes, on full-size maps with 512 bans and on the calls that take most: 64 legs, 64 lines,
    1,024 lines read, in many legs and in one, of a stretch and of a point. Prints how much of the stack was used, the thread's own part with it. It is compiled
-   without sanitizers, which need more stack. */
+   without sanitizers, which need more stack. Lengths and offsets are in centimetres. */
 #define _DEFAULT_SOURCE
 #include "ridge.h"
 
@@ -43,7 +43,7 @@ static void put_nodes(void) {
 static void put_other_lines(uint32_t from) {
     for (uint32_t i = from; i < LINES; i++) {
         uint32_t node = 15 + i / 2 % (NODES - 16);
-        put_line(node + i % 2, node + 1 - i % 2, 20000, 5);
+        put_line(node + i % 2, node + 1 - i % 2, 200003, 5);
     }
     put_number(BANS);
     for (uint32_t i = 0; i < BANS; i++) {
@@ -94,13 +94,13 @@ static void run(const char *what, void *(*call)(void *)) {
     EXPECT(pthread_attr_destroy(&attributes) == 0 && munmap(memory, GUARD + OPENLR_LEAST_STACK) == 0);
 }
 
-/* A ring of 16 lines, and 64 legs that each go once around it from node 0, with both offsets. Of 141,168 decimetres, D is 240 (F0), and byte 80 means 70,309
-   (256 x 70,309 / 141,168 is 127.5013) to 70,859 (128.4987). */
+/* A ring of 16 lines, and 64 legs that each go once around it from node 0, with both offsets. Of 1,411,792 centimetres, D is 240 (F0), and byte 80 means
+   703,139 (127.5 x 1,411,792 / 256 is 703,138.59) to 708,653 (128.5 x 1,411,792 / 256 is 708,653.41). */
 static void read_most(void) {
     static const uint8_t first[] = {0x0B, 0, 0, 0, 0, 0, 0, 0x1B, 0x6C, 0xF0}, next[] = {0, 0, 0, 0, 0x1B, 0x6C, 0xF0};
     static const uint8_t last[] = {0, 0, 0, 0, 0x1B, 0x7C, 0x80, 0x80};
     put_nodes();
-    for (uint32_t i = 0; i < 16; i++) put_line(i, (i + 1) % 16, 8823, 3);
+    for (uint32_t i = 0; i < 16; i++) put_line(i, (i + 1) % 16, 88237, 3);
     put_other_lines(16);
     memcpy(given, first, sizeof first);
     for (size_t i = 0; i < 63; i++) memcpy(given + sizeof first + i * sizeof next, next, sizeof next);
@@ -108,23 +108,24 @@ static void read_most(void) {
     given_len = sizeof given;
     run("openlr_read, 64 legs, 1,024 lines", read_once);
     EXPECT(reading.refusal == 0 && reading.line_count == 1024);
-    EXPECT(reading.pos_least == 70309 && reading.pos_greatest == 70859 && reading.neg_least == 70309 && reading.neg_greatest == 70859);
+    EXPECT(reading.pos_least == 703139 && reading.pos_greatest == 708653 && reading.neg_least == 703139 && reading.neg_greatest == 708653);
     for (uint32_t i = 0; i < 1024; i++) EXPECT(line_buffer[4 * i] == i % 16 && line_buffer[4 * i + 1] == 0);
 }
 
 /* Node 0, and around the others two lines from node to node: 1 to 511 the one time, 512 to 1,021 the other. Line 0 leads there, line 1,022 back, and line 1,023
-   there again with another form. Bans leave one way from line 0 to that last line: all 1,024 lines, 149,504 decimetres. D is 255. Node 1 is 100 to the east.
-   The same bytes are then a point, of orientation 3 and side 2. Byte FF of 149,504 is 148,628, exactly half between 254 and 255 256ths, to
-   149,503. */
+   there again with another form. Bans leave one way from line 0 to that last line: all 1,024 lines, 1,499,136 centimetres. D is 255. Node 1 is 100 to the
+   east. The same bytes are then a point, of orientation 3 and side 2. Byte FF of 1,499,136 is 1,490,352, exactly half between 254 and 255 256ths, to
+   1,499,135. */
 static void read_longest_leg(void) {
     static const uint8_t reference[] = {0x0B, 0, 0, 0, 0, 0, 0, 0x1B, 0x6C, 0xFF, 0, 0x64, 0, 0, 0x1D, 0x1C};
     static const uint8_t point_bytes[] = {0x2B, 0, 0, 0, 0, 0, 0, 0xDB, 0x6C, 0xFF, 0, 0x64, 0, 0, 0x9D, 0x5C, 0xFF};
+    const uint32_t length = LONGEST_LINE / LINES; /* 1,464 */
     put_nodes();
-    put_line(0, 1, 146, 3);
-    for (uint32_t i = 0; i < 511; i++) put_line(1 + i, 1 + (i + 1) % 511, 146, 3);
-    for (uint32_t i = 0; i < 510; i++) put_line(1 + i, 2 + i, 146, 3);
-    put_line(511, 0, 146, 3);
-    put_line(0, 1, 146, 5);
+    put_line(0, 1, length, 3);
+    for (uint32_t i = 0; i < 511; i++) put_line(1 + i, 1 + (i + 1) % 511, length, 3);
+    for (uint32_t i = 0; i < 510; i++) put_line(1 + i, 2 + i, length, 3);
+    put_line(511, 0, length, 3);
+    put_line(0, 1, length, 5);
     put_number(BANS);
     for (uint32_t i = 0; i < BANS; i++) {
         put_number(i % 511);
@@ -139,7 +140,7 @@ static void read_longest_leg(void) {
     given_len = sizeof point_bytes;
     memset(line_buffer, 0, sizeof line_buffer);
     run("openlr_read_point, 1,024 lines", read_point_once);
-    EXPECT(point.refusal == 0 && point.lines == 1024 && point.least == 148628 && point.greatest == 149503 && point.orientation == 3 && point.side == 2);
+    EXPECT(point.refusal == 0 && point.lines == 1024 && point.least == 1490352 && point.greatest == 1499135 && point.orientation == 3 && point.side == 2);
     for (uint32_t i = 0; i < 1024; i++) EXPECT(line_buffer[4 * i] == i % 256 && line_buffer[4 * i + 1] == i / 256);
 }
 
@@ -151,39 +152,39 @@ static void put_chain(uint32_t length) {
     put_stretch(64);
 }
 
-/* A chain of which no two lines fit one leg: 64 legs and both offsets. The bytes are read back: byte 80 of 76,000 means 37,852
-   (256 x 37,852 / 76,000 is 127.5015) to 38,148 (128.4985). */
+/* A chain of which no two lines fit one leg: 64 legs and both offsets. The bytes are read back: byte 80 of 760,003 means 378,518
+   (127.5 x 760,003 / 256 is 378,517.12) to 381,485 (128.5 x 760,003 / 256 is 381,485.88). */
 static void write_most_legs(void) {
-    put_chain(76000);
-    pos = neg = 38000;
+    put_chain(760003);
+    pos = neg = 380000;
     run("openlr_write, 64 legs", write_once);
     EXPECT(written.refusal == 0 && written.byte_count == OPENLR_LONGEST_REFERENCE && byte_buffer[457] == 0x80 && byte_buffer[458] == 0x80);
     EXPECT(written.tests == OPENLR_MOST_TESTS && written.excess == 0);
     memcpy(given, byte_buffer, sizeof given);
     given_len = sizeof given;
     run("openlr_read, 64 legs, 64 lines", read_once);
-    EXPECT(reading.refusal == 0 && reading.line_count == 64 && reading.pos_least == 37852 && reading.neg_greatest == 38148);
+    EXPECT(reading.refusal == 0 && reading.line_count == 64 && reading.pos_least == 378518 && reading.neg_greatest == 381485);
     for (uint32_t i = 0; i < 64; i++) EXPECT(line_buffer[4 * i] == i);
 }
 
-/* A chain of short lines: every part of it is the only way, so that all 2,080 legs are good. Two points are enough. The 64th leg is the first that ends where
-   the chain does: with 63 tests nothing is found, and with 64 the two points are. */
+/* A chain of short lines: every part of it is the only way, so that all 2,080 legs are good. Two points are enough, and D of 640,192 is 109. The 64th leg is
+   the first that ends where the chain does: with 63 tests nothing is found, and with 64 the two points are. */
 static void write_most_tests(void) {
-    put_chain(1000);
+    put_chain(10003);
     pos = neg = 0;
     run("openlr_write, one leg of 64 lines", write_once);
-    EXPECT(written.refusal == 0 && written.byte_count == 16 && byte_buffer[9] == 64000 / 586 && written.tests == 2080 && written.excess == 0);
+    EXPECT(written.refusal == 0 && written.byte_count == 16 && byte_buffer[9] == 109 && written.tests == 2080 && written.excess == 0);
     tests = 64;
     run("openlr_write, 64 tests", write_once);
-    EXPECT(written.refusal == 0 && written.byte_count == 16 && byte_buffer[9] == 64000 / 586 && written.tests == 64 && written.excess == 0);
+    EXPECT(written.refusal == 0 && written.byte_count == 16 && byte_buffer[9] == 109 && written.tests == 64 && written.excess == 0);
     tests = 63;
     run("openlr_write, 63 tests", write_once);
     EXPECT(written.refusal == OPENLR_UNFINISHED && written.byte_count == 0 && written.tests == 0 && written.excess == 0);
     tests = OPENLR_MOST_TESTS;
 }
 
-/* A map with every number as long as it can be. Up to three lines join the same two nodes; D tells them apart. Half of 150,000 is byte 80, which is 74,708
-   (256 x 74,708 / 150,000 is 127.5017) to 75,292 (128.4983). */
+/* A map with every number as long as it can be. Up to three lines join the same two nodes; D tells them apart. Half of 1,500,000 is byte 80, which is
+   747,071 (127.5 x 1,500,000 / 256 is 747,070.31) to 752,929 (128.5 x 1,500,000 / 256 is 752,929.69). */
 static void longest_map(void) {
     map_len = 0;
     put_number(NODES);
@@ -193,7 +194,7 @@ static void longest_map(void) {
     }
     put_number(LINES);
     for (uint32_t i = 0; i < LINES; i++) {
-        const uint32_t numbers[] = {128 + i % 384, 128 + (i + 1) % 384, 150000 - i / 384 * 586, 7, 7, 500, 500, 500, 500};
+        const uint32_t numbers[] = {128 + i % 384, 128 + (i + 1) % 384, LONGEST_LINE - i / 384 * DISTANCE_STEP, 7, 7, 500, 500, 500, 500};
         for (int k = 0; k < 9; k++) put_number(numbers[k]);
     }
     put_number(BANS);
@@ -212,14 +213,14 @@ static void longest_map(void) {
     run("openlr_read, longest map", read_once);
     EXPECT(reading.refusal == 0 && reading.line_count == 1 && line_buffer[0] == 1);
     point_line = 1;
-    point_offset = 75000;
+    point_offset = LONGEST_LINE / 2;
     run("openlr_write_point, longest map", write_point_once);
     EXPECT(point_written.refusal == 0 && point_written.bytes == OPENLR_LONGEST_POINT && byte_buffer[16] == 0x80);
     memcpy(given, byte_buffer, OPENLR_LONGEST_POINT);
     given_len = OPENLR_LONGEST_POINT;
     line_buffer[0] = 0;
     run("openlr_read_point, longest map", read_point_once);
-    EXPECT(point.refusal == 0 && point.lines == 1 && line_buffer[0] == 1 && point.least == 74708 && point.greatest == 75292);
+    EXPECT(point.refusal == 0 && point.lines == 1 && line_buffer[0] == 1 && point.least == 747071 && point.greatest == 752929);
 }
 
 int main(void) {

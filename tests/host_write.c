@@ -40,13 +40,13 @@ static struct openlr_written write_in(size_t room, const uint8_t *map, size_t ma
     return a;
 }
 
-/* Lines 0 and 1 with positive offset 500, for buffers up to longer than the reference. Two lines have three legs. */
+/* Lines 0 and 1 with positive offset 5000, for buffers up to longer than the reference. Two lines have three legs. */
 static void ridge_bytes(void) {
     static const uint8_t stretch[] = {0, 0, 0, 0, 1, 0, 0, 0};
     static const uint8_t expected[] = {0x0B, 0, 0, 0, 0, 0, 0, 0x1B, 0x68, 0x01, 0x03, 0xE8, 0, 0, 0x1B, 0x68, 0x01, 0x03, 0xE8, 0, 0, 0x1B, 0x58, 0x80};
     for (size_t room = 0; room <= sizeof expected + 3; room++) {
         int is_long_enough = room >= sizeof expected;
-        struct openlr_written a = write_in(room, ridge, sizeof ridge, stretch, sizeof stretch, 500, ALL_TESTS, is_long_enough ? expected : NULL,
+        struct openlr_written a = write_in(room, ridge, sizeof ridge, stretch, sizeof stretch, 5000, ALL_TESTS, is_long_enough ? expected : NULL,
                                            sizeof expected);
         EXPECT(is_long_enough ? is_written(a, sizeof expected, 3, 0) : is_refused(a, 11));
     }
@@ -68,8 +68,8 @@ static void ridge_tests(void) {
     }
 }
 
-/* Four lines, 0-1, 1-2, 2-3 and 3-4, each 1000 long, FRC 3 and FOW 3, with the steps (200, 0) and (-200, 0). One line leaves each node, and so only differences
-   decide which legs are good: between neighbours in the ring 0, 1, 2, 4, 3 they fit 16 bits, between other nodes they do not. */
+/* Four lines, 0-1, 1-2, 2-3 and 3-4, each 10003 long, FRC 3 and FOW 3, with the steps (200, 0) and (-200, 0). One line leaves each node, and so only
+   differences decide which legs are good: between neighbours in the ring 0, 1, 2, 4, 3 they fit 16 bits, between other nodes they do not. */
 static const uint8_t pentagon[] = {
     5,                                                                /* nodes */
     0x80, 0xD1, 0xCA, 0x08, 0xC0, 0xA8, 0xA5, 0x04,                   /* (0, 0): 18,000,000 and 9,000,000 */
@@ -78,17 +78,17 @@ static const uint8_t pentagon[] = {
     0xF0, 0x82, 0xCA, 0x08, 0xF0, 0x92, 0xA7, 0x04,                   /* (-10000, 30000): 17,990,000 and 9,030,000 */
     0xA0, 0xED, 0xCB, 0x08, 0x90, 0xAF, 0xA8, 0x04,                   /* (20000, 50000): 18,020,000 and 9,050,000 */
     4,                                                                /* lines */
-    0, 1, 0xE8, 0x07, 3, 3, 0xC2, 0x03, 0xFA, 0x01, 0x32, 0xFA, 0x01, /* 0 to 1 */
-    1, 2, 0xE8, 0x07, 3, 3, 0xC2, 0x03, 0xFA, 0x01, 0x32, 0xFA, 0x01, /* 1 to 2 */
-    2, 3, 0xE8, 0x07, 3, 3, 0xC2, 0x03, 0xFA, 0x01, 0x32, 0xFA, 0x01, /* 2 to 3 */
-    3, 4, 0xE8, 0x07, 3, 3, 0xC2, 0x03, 0xFA, 0x01, 0x32, 0xFA, 0x01, /* 3 to 4 */
+    0, 1, 0x93, 0x4E, 3, 3, 0xC2, 0x03, 0xFA, 0x01, 0x32, 0xFA, 0x01, /* 0 to 1 */
+    1, 2, 0x93, 0x4E, 3, 3, 0xC2, 0x03, 0xFA, 0x01, 0x32, 0xFA, 0x01, /* 1 to 2 */
+    2, 3, 0x93, 0x4E, 3, 3, 0xC2, 0x03, 0xFA, 0x01, 0x32, 0xFA, 0x01, /* 2 to 3 */
+    3, 4, 0x93, 0x4E, 3, 3, 0xC2, 0x03, 0xFA, 0x01, 0x32, 0xFA, 0x01, /* 3 to 4 */
     0,                                                                /* bans */
 };
 static const uint8_t pentagon_stretch[] = {0, 0, 0, 0, 1, 0, 0, 0, 2, 0, 0, 0, 3, 0, 0, 0};
 
 /* The ten legs in order: 0-1, 0-2, 0-3, 0-4, 1-2, 1-3, 1-4, 2-3, 2-4, 3-4. Good are 0-1, 0-3, 1-2, 2-4 and 3-4. With 8 tests none that is good ends at node 4.
-   The ninth gives 0-1, 1-2, 2-4, of 1000, 1000 and 2000 (D is 1, 1 and 3), while 0-3, 3-4 is still open; the tenth gives that, of 3000 and 1000 (D is 5
-   and 1). Differences: 30,000 is 7530, 10,000 is 2710, -20,000 is B1E0, 20,000 is 4E20, -10,000 is D8F0. */
+   The ninth gives 0-1, 1-2, 2-4, of 10003, 10003 and 20006 (D is 1, 1 and 3), while 0-3, 3-4 is still open; the tenth gives that, of 30009 and 10003 (D
+   is 5 and 1). Differences: 30,000 is 7530, 10,000 is 2710, -20,000 is B1E0, 20,000 is 4E20, -10,000 is D8F0. */
 static const uint8_t four_points[] = {0x0B, 0, 0, 0, 0, 0, 0, 0x1B, 0x68, 0x01, 0x75, 0x30, 0, 0, 0x1B, 0x68, 0x01,
                                       0x27, 0x10, 0x75, 0x30, 0x1B, 0x68, 0x03, 0xB1, 0xE0, 0x4E, 0x20, 0x1B, 0x18};
 static const uint8_t three_points[] = {0x0B, 0, 0, 0, 0, 0, 0, 0x1B, 0x68, 0x05, 0xD8, 0xF0, 0x75, 0x30, 0x1B, 0x68, 0x01, 0x75, 0x30, 0x4E, 0x20, 0x1B, 0x18};
@@ -156,19 +156,56 @@ static void office_loop(void) {
     EXPECT(three.refusal == 0 && three.line_count == 4 && memcmp(line_buffer, pentagon_stretch, sizeof pentagon_stretch) == 0);
 }
 
-/* An offset of 1500 skips one line of 1000 whole, the first or the last by which of the two it is, and leaves 500, whose byte is 80. One line is left, which is
-   one leg, whatever was given. */
+/* An offset of 15000 skips one line of 10000 whole, the first or the last by which of the two it is, and leaves 5000, whose byte is 80. One line is left, which
+   is one leg, whatever was given. */
 static void offsets(void) {
     static const uint8_t stretch[] = {0, 0, 0, 0, 1, 0, 0, 0};
     static const uint8_t second[] = {1, 0, 0, 0};
     uint8_t both[64], alone[64];
-    struct openlr_written a = openlr_write(ridge, sizeof ridge, stretch, sizeof stretch, 1500, 0, ALL_TESTS, both, sizeof both);
-    struct openlr_written b = openlr_write(ridge, sizeof ridge, second, sizeof second, 500, 0, 1, alone, sizeof alone);
+    struct openlr_written a = openlr_write(ridge, sizeof ridge, stretch, sizeof stretch, 15000, 0, ALL_TESTS, both, sizeof both);
+    struct openlr_written b = openlr_write(ridge, sizeof ridge, second, sizeof second, 5000, 0, 1, alone, sizeof alone);
     EXPECT(is_written(a, 17, 1, 0) && is_written(b, 17, 1, 0) && memcmp(both, alone, 17) == 0);
     EXPECT(both[15] == 0x58 && both[16] == 0x80);
-    a = openlr_write(ridge, sizeof ridge, stretch, sizeof stretch, 0, 1500, 1, both, sizeof both);
+    a = openlr_write(ridge, sizeof ridge, stretch, sizeof stretch, 0, 15000, 1, both, sizeof both);
     EXPECT(is_written(a, 17, 1, 0) && both[15] == 0x38 && both[16] == 0x80);
-    EXPECT(is_refused(openlr_write(ridge, sizeof ridge, stretch, sizeof stretch, 1500, 0, 0, both, sizeof both), OPENLR_UNFINISHED));
+    EXPECT(is_refused(openlr_write(ridge, sizeof ridge, stretch, sizeof stretch, 15000, 0, 0, both, sizeof both), OPENLR_UNFINISHED));
+}
+
+/* Lines 0 and 1 of the ridge with both offsets, and the two spans when the bytes are read back. Neither line is skipped. */
+static void spans(uint32_t pos, uint32_t neg, uint8_t pos_byte, uint8_t neg_byte, const uint32_t *expected) {
+    static const uint8_t stretch[] = {0, 0, 0, 0, 1, 0, 0, 0};
+    uint8_t bytes[25], line_buffer[sizeof stretch];
+    EXPECT(is_written(openlr_write(ridge, sizeof ridge, stretch, sizeof stretch, pos, neg, ALL_TESTS, bytes, sizeof bytes), sizeof bytes, 3, 0));
+    EXPECT(bytes[22] == 0x78 && bytes[23] == pos_byte && bytes[24] == neg_byte);
+    struct openlr_reading a = openlr_read(ridge, sizeof ridge, bytes, sizeof bytes, line_buffer, sizeof line_buffer);
+    EXPECT(a.refusal == 0 && a.line_count == 2 && memcmp(line_buffer, stretch, sizeof stretch) == 0);
+    EXPECT(a.pos_least == expected[0] && a.pos_greatest == expected[1] && a.neg_least == expected[2] && a.neg_greatest == expected[3]);
+}
+
+/* An offset of 1 centimetre has its flag and byte 0, which means 1 to 19 (0.5 x 10000 / 256 is 19.53). One of all but 1 has byte FF, which means 9942
+   (254.5 x 10000 / 256 is 9941.41) to 9999. */
+static void single_centimetres(void) {
+    static const uint32_t both_1[] = {1, 19, 1, 19}, first_9999[] = {9942, 9999, 1, 19}, last_9999[] = {1, 19, 9942, 9999};
+    spans(1, 1, 0x00, 0x00, both_1);
+    spans(9999, 1, 0xFF, 0x00, first_9999);
+    spans(1, 9999, 0x00, 0xFF, last_9999);
+}
+
+/* A line 0 of the greatest length, alone: D is 255, 1 centimetre at both ends is byte 0, and that means 1 to 2929 (0.5 x 1500000 / 256 is 2929.69). With 1
+   centimetre more the map is refused. */
+static void longest_line(void) {
+    static const uint8_t stretch[] = {0, 0, 0, 0};
+    static const uint8_t expected[] = {0x0B, 0, 0, 0, 0, 0, 0, 0x1B, 0x68, 0xFF, 0x03, 0xE8, 0, 0, 0x1B, 0x78, 0x00, 0x00};
+    uint8_t map[LONG_RIDGE_BYTES], bytes[OPENLR_LONGEST_REFERENCE], line_buffer[4];
+    put_long_ridge(map, LONGEST_LINE);
+    EXPECT(is_written(openlr_write(map, sizeof map, stretch, sizeof stretch, 1, 1, ALL_TESTS, bytes, sizeof bytes), sizeof expected, 1, 0));
+    EXPECT(memcmp(bytes, expected, sizeof expected) == 0);
+    struct openlr_reading a = openlr_read(map, sizeof map, expected, sizeof expected, line_buffer, sizeof line_buffer);
+    EXPECT(a.refusal == 0 && a.line_count == 1 && memcmp(line_buffer, stretch, sizeof stretch) == 0);
+    EXPECT(a.pos_least == 1 && a.pos_greatest == 2929 && a.neg_least == 1 && a.neg_greatest == 2929);
+    put_long_ridge(map, LONGEST_LINE + 1);
+    EXPECT(is_refused(openlr_write(map, sizeof map, stretch, sizeof stretch, 1, 1, ALL_TESTS, bytes, sizeof bytes), OPENLR_MAP_LINE));
+    EXPECT(openlr_read(map, sizeof map, expected, sizeof expected, line_buffer, sizeof line_buffer).refusal == OPENLR_MAP_LINE);
 }
 
 /* A refusal that is asked before the tests is given whatever their number is. */
@@ -197,7 +234,9 @@ static void refusals(void) {
     refused(zeros, 4 * 66, 0, 0, 7);
     refused(zeros, sizeof zeros, 0, 0, 7);
     refused(gap, sizeof gap, 0, 0, 8);
-    refused(good, sizeof good, 1000, 1000, 9);
+    refused(good, sizeof good, 10000, 10000, 9);
+    refused(good, sizeof good, 19999, 1, 9);
+    refused(good, sizeof good, 1, 19999, 9);
     refused(good, sizeof good, UINT32_MAX, UINT32_MAX, 9);
     uint8_t byte_buffer[4];
     EXPECT(is_refused(openlr_write(ridge, sizeof ridge - 1, good, 7, 0, 0, 0, byte_buffer, sizeof byte_buffer), 2));
@@ -221,9 +260,9 @@ static void bans(void) {
     static const uint8_t straight[] = {0, 0, 0, 0, 1, 0, 0, 0}, over_the_ridge[] = {0, 0, 0, 0, 2, 0, 0, 0, 3, 0, 0, 0};
     on_banned_ridge(0, 2, straight, sizeof straight, 0, 0);
     on_banned_ridge(0, 2, over_the_ridge, sizeof over_the_ridge, 0, 21);
-    on_banned_ridge(0, 2, over_the_ridge, sizeof over_the_ridge, 1000, 21);
-    on_banned_ridge(0, 2, over_the_ridge, sizeof over_the_ridge, 2000, 21);
-    on_banned_ridge(2, 3, over_the_ridge, sizeof over_the_ridge, 1500, 21);
+    on_banned_ridge(0, 2, over_the_ridge, sizeof over_the_ridge, 10000, 21);
+    on_banned_ridge(0, 2, over_the_ridge, sizeof over_the_ridge, 20000, 21);
+    on_banned_ridge(2, 3, over_the_ridge, sizeof over_the_ridge, 15000, 21);
     on_banned_ridge(0, 1, over_the_ridge, sizeof over_the_ridge, 0, 0);
     on_banned_ridge(0, 1, straight, sizeof straight, 0, 21);
     on_banned_ridge(0, 4, straight, sizeof straight, 0, 23);
@@ -275,6 +314,8 @@ int main(void) {
     pentagon_tests();
     office_loop();
     offsets();
+    single_centimetres();
+    longest_line();
     refusals();
     bans();
     steps();

@@ -1,7 +1,7 @@
 //! The depot map: from its bytes to nodes, lines, the lines at each node and the banned turns
 //! ("The depot map", "Banned turns").
 
-use crate::fields::{brought_round, coordinate_code, Marks, Steps, LONGEST_LEG, LONGEST_STEP};
+use crate::fields::{brought_round, coordinate_code, Marks, Steps, LONGEST_LINE, LONGEST_STEP};
 use crate::outcome::{Outcome, Refusal};
 
 /// Coordinates in hundred-thousandths of a degree.
@@ -38,7 +38,7 @@ impl Node {
     }
 }
 
-/// A line runs one way, from its start node to its end node. Length in decimetres. Of its steps the
+/// A line runs one way, from its start node to its end node. Length in centimetres. Of its steps the
 /// sectors alone are kept: out as seen from the start node, back as seen from the end node.
 #[derive(Clone, Copy, Debug, PartialEq, Eq)]
 pub struct Line {
@@ -477,7 +477,7 @@ impl Numbers<'_> {
         Ok(Line {
             start,
             end,
-            length: self.within(1, LONGEST_LEG, fault)?,
+            length: self.within(1, LONGEST_LINE, fault)?,
             frc: self.within(0, 7, fault)? as u8,
             fow: self.within(0, 7, fault)? as u8,
             sector_out: self.sector()?,

@@ -2,11 +2,14 @@
 
 use crate::outcome::Span;
 
-/// The longest leg, in decimetres ("What counts as a reading").
-pub const LONGEST_LEG: u32 = 150_000;
+/// The longest leg, in centimetres as all lengths and offsets ("Centimetres").
+pub const LONGEST_LEG: u32 = 1_500_000;
 
-/// One step of D, in decimetres.
-pub const DISTANCE_STEP: u32 = 586;
+/// The longest line is as long.
+pub const LONGEST_LINE: u32 = LONGEST_LEG;
+
+/// One step of D.
+pub const DISTANCE_STEP: u32 = 5_860;
 
 /// Of a stretch, and of a point along a line.
 pub const STATUS_BYTE: u8 = 0x0B;
@@ -148,7 +151,7 @@ impl Complex {
     }
 }
 
-/// D of a leg of at most 150,000 decimetres.
+/// D of a leg that is not over the longest.
 pub fn distance_byte(leg_length: u32) -> u8 {
     (leg_length / DISTANCE_STEP) as u8
 }
@@ -163,8 +166,8 @@ pub fn lengths_of_distance_byte(distance: u8) -> (u32, u32) {
 /// 255 where that is 256 ("Offsets to the nearest").
 ///
 /// The nearest is the greatest whole `k` with `k * leg_length <= 256 * offset + leg_length / 2`. All but
-/// the half leg is whole in it, so the half of an odd leg may be rounded down. On any 64 lines there is
-/// room for it in 32 bits.
+/// the half leg is whole in it, so the half of an odd leg may be rounded down. For an offset below the
+/// longest leg there is room for it in 32 bits, on any 64 lines.
 pub fn offset_byte(offset: u32, leg_length: u32) -> u8 {
     ((256 * offset + leg_length / 2) / leg_length).min(255) as u8
 }

@@ -10,7 +10,7 @@ use crate::sole_legs::Detour;
 use crate::writer::MOST_LINES;
 
 /// How long the legs are guessed to get before any is tested: 1 km.
-const FIRST_REACH: u32 = 10_000;
+const FIRST_REACH: u32 = 100_000;
 
 /// What the choice of points took: searches, and legs that were looked at after one. A leg is looked at
 /// once for each first line that matches, until it fails.
@@ -27,7 +27,7 @@ pub struct LegTester<'a> {
     pub map: &'a DepotMap,
     pub lines: &'a [u32],
     pub search: Search,
-    /// The length of the lines before each place. A stretch has 9,600,000 decimetres at most.
+    /// The length of the lines before each place. 64 of the longest are 96,000,000 long.
     length_to: [u32; MOST_LINES + 1],
     /// How long the legs from the place before got.
     pub reach: u32,

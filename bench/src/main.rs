@@ -11,6 +11,7 @@ use std::hint::black_box;
 use std::time::{Duration, Instant};
 
 use plain::depot_map::{DepotMap, Direction};
+use plain::fields::LONGEST_LEG;
 use plain::maps::{
     chain, grid, hub, random_graph, random_roads, random_walk, reference_with_legs, steep, Bans,
     Lengths, MapPlan, Turns, Xorshift,
@@ -260,7 +261,7 @@ fn decode_in_turn_row(samples: &[Sample]) -> Row<'_> {
     }
 }
 
-const LIMITS: [u32; 3] = [5_000, 15_000, 150_000];
+const LIMITS: [u32; 3] = [50_000, 150_000, LONGEST_LEG];
 
 const METHODS: [(Method, &str); 3] = [
     (Method::LineQueue, "queue of lines"),
@@ -322,11 +323,11 @@ fn print_search_row(sample: &Sample, bounds: [Bounds; INPUTS], method: Method, w
 
 /// Legs and their lengths. 64 long legs are nearly the most work that a reference can ask for.
 const REFERENCES: [(usize, u32); 5] = [
-    (1, 12_000),
-    (3, 12_000),
-    (64, 1_500),
-    (64, 12_000),
-    (64, 50_000),
+    (1, 120_000),
+    (3, 120_000),
+    (64, 15_000),
+    (64, 120_000),
+    (64, 500_000),
 ];
 
 fn reading_rows(sample: &Sample) {

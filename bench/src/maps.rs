@@ -356,7 +356,7 @@ pub fn grid(seed: u64, lengths: Lengths) -> MapPlan {
             } else {
                 (neighbour, node)
             };
-            let (length, frc) = (lengths.around(rng, 1000), mixed_frc(rng));
+            let (length, frc) = (lengths.around(rng, 10_000), mixed_frc(rng));
             plan.lines.push(line_between(&plan, ends, length, frc, 3));
         }
     }
@@ -387,7 +387,7 @@ pub fn random_graph(seed: u64) -> MapPlan {
     for number in 0..FULL_LINES as u32 {
         let start = number % FULL_NODES;
         let end = (start + 1 + rng.below(FULL_NODES - 1)) % FULL_NODES;
-        let length = rng.within(300, 2500);
+        let length = rng.within(3_000, 25_000);
         let (frc, fow) = (mixed_frc(rng), rng.within(1, 4) as u8);
         plan.lines
             .push(line_between(&plan, (start, end), length, frc, fow));
@@ -439,7 +439,7 @@ pub fn chain(seed: u64, lengths: Lengths) -> MapPlan {
         });
     }
     for node in 1..FULL_NODES {
-        let (length, frc) = (lengths.around(rng, 280), mixed_frc(rng));
+        let (length, frc) = (lengths.around(rng, 2_800), mixed_frc(rng));
         for ends in [(node - 1, node), (node, node - 1)] {
             plan.lines.push(line_between(&plan, ends, length, frc, 2));
         }
@@ -470,7 +470,7 @@ pub fn hub() -> MapPlan {
     for number in 0..FULL_LINES as u32 {
         let ends = if number % 2 == 0 { (0, 1) } else { (1, 0) };
         plan.lines
-            .push(line_between(&plan, ends, 100 + number % 97, 0, 2));
+            .push(line_between(&plan, ends, 1_000 + number % 97 * 10, 0, 2));
     }
     plan
 }
@@ -482,13 +482,27 @@ pub fn steep() -> MapPlan {
     let mut plan = row_of_nodes(NODES);
     for start in 0..NODES {
         for end in (start + 1..NODES).rev() {
-            let length = (end - start) * (end - start) * 50;
+            let length = (end - start) * (end - start) * 500;
             plan.lines
                 .push(line_between(&plan, (start, end), length, 0, 2));
         }
     }
     plan
 }
+
+/// How many lengths the lines of a small map may have, and what they are multiples of: very few, many
+/// to the decimetre, and ten times as many to the centimetre.
+const LENGTHS_OF_SMALL_MAPS: [(u32, u32); 9] = [
+    (1, 1),
+    (2, 1),
+    (3, 1),
+    (400, 10),
+    (1_200, 10),
+    (60_000, 10),
+    (4_000, 1),
+    (12_000, 1),
+    (600_000, 1),
+];
 
 /// A small map full of ties: few lengths, few marks, lines beside each other.
 pub fn small_map(seed: u64) -> MapPlan {
@@ -499,13 +513,14 @@ pub fn small_map(seed: u64) -> MapPlan {
         nodes: scattered_nodes(rng, node_count, side),
         ..MapPlan::default()
     };
-    let longest = *rng.pick(&[1, 2, 3, 400, 1200, 60_000]);
+    let (lengths, unit) = *rng.pick(&LENGTHS_OF_SMALL_MAPS);
     let classes = rng.within(1, 8);
     let sectors = rng.within(1, 4);
     for _ in 0..rng.within(1, 4 * node_count) {
         let start = rng.below(node_count);
         let end = (start + 1 + rng.below(node_count - 1)) % node_count;
-        let mut line = line_between(&plan, (start, end), rng.within(1, longest), 0, 3);
+        let length = unit * rng.within(1, lengths);
+        let mut line = line_between(&plan, (start, end), length, 0, 3);
         line.frc = rng.below(classes) as u8;
         line.fow = rng.below(2) as u8;
         let [out, back] = [(); 2].map(|()| steps_at((90 * rng.below(sectors)) as u16));

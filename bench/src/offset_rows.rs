@@ -7,13 +7,13 @@ use plain::fields::{offset_byte, offset_span, LONGEST_LEG};
 
 use crate::{proved, Row};
 
-/// So many legs to a row, each one decimetre longer than the one before.
+/// So many legs to a row, each one centimetre longer than the one before.
 const LEGS: u32 = 100;
 
 /// Of the shortest ones most bytes have no span. Of those from 513 on every byte has one.
 const FIRST_LEGS: [u32; 3] = [1, 513, LONGEST_LEG + 1 - LEGS];
 
-const BYTE_LEGS: [u32; 3] = [512, 1_000, LONGEST_LEG];
+const BYTE_LEGS: [u32; 3] = [512, 10_000, LONGEST_LEG];
 
 pub fn print_rows() {
     for first in FIRST_LEGS {

@@ -120,7 +120,7 @@ fn is_only_reading(map: &DepotMap, number: u32) -> bool {
 }
 
 /// The bytes of a point along these lines, for an orientation and a side in their ranges, where the
-/// differences fit and the lines are at most 150,000 long.
+/// differences fit and the lines are not over the longest leg.
 pub fn point_bytes(map: &DepotMap, stretch: &Stretch, orientation: u32, side: u32) -> Vec<u8> {
     let mut bytes = reference_bytes(map, stretch, &[0, stretch.lines.len()]);
     bytes[0] = POINT_STATUS_BYTE;

@@ -12,7 +12,7 @@ use crate::{
 };
 
 /// Of the points along several lines.
-const LEG_LENGTH: u32 = 12_000;
+const LEG_LENGTH: u32 = 120_000;
 
 pub fn print_rows(sample: &Sample) {
     let accepted = points(sample, |point| written(sample, point).is_ok());

@@ -14,7 +14,7 @@ use std::cmp::Reverse;
 use std::collections::{BinaryHeap, VecDeque};
 
 use crate::depot_map::{DepotMap, Direction, LineAtNode, View};
-use crate::fields::LONGEST_LEG;
+use crate::fields::LONGEST_LINE;
 
 /// Of a map.
 const MOST_NODES: usize = 512;
@@ -24,7 +24,7 @@ const NOT_REACHED: u32 = u32::MAX;
 const NO_LINE: u32 = u32::MAX;
 
 /// With a line's length added to one below it, a number still has 32 bits.
-const HIGHEST_BASE: u32 = NOT_REACHED - LONGEST_LEG;
+const HIGHEST_BASE: u32 = NOT_REACHED - LONGEST_LINE;
 
 /// In a key of the heap the numbers from here on are nodes, so that of equal lengths lines come first.
 const FIRST_NODE: u32 = MOST_LINES as u32;

@@ -5,7 +5,7 @@ use std::hint::black_box;
 use std::time::{Duration, Instant};
 
 use plain::depot_map::{DepotMap, Direction};
-use plain::fields::LONGEST_POINT;
+use plain::fields::{LONGEST_LEG, LONGEST_POINT};
 use plain::outcome::{Outcome, WORK_AREA};
 use plain::point::{point_bytes, read_point, write_point, Point};
 use plain::reader::read;
@@ -117,7 +117,7 @@ fn print_search_row(sample: &Sample) {
     let bounds = Bounds {
         first: sample.case.first,
         class: 7,
-        limit: 150_000,
+        limit: LONGEST_LEG,
     };
     let mut search = Search::new(&sample.map, Method::NodeAndLineHeap);
     let mut plain = || {

@@ -4,7 +4,7 @@
 //! point is a first line to try.
 
 use crate::depot_map::Ban;
-use crate::fields::Steps;
+use crate::fields::{Steps, DISTANCE_STEP, LONGEST_LEG};
 use crate::maps::{row_of_nodes, MapPlan, PlannedLine, FULL_LINES, FULL_NODES};
 
 /// The most legs of a reference, and the most lines of a stretch.
@@ -30,13 +30,15 @@ pub fn worst_cases() -> Vec<WorstCase> {
 
 fn cases() -> Vec<WorstCase> {
     vec![
-        hub_case("hub", &|_| 1),
-        hub_case("hub, lengths falling", &|number| 512 - number / 2),
-        star("star, equal lengths", &|_| 300),
-        star("star, lengths rising", &|spoke| 600 + spoke),
-        star("star, lengths falling", &|spoke| 1200 - spoke),
-        hub_with_a_ban_each("a ban on each of 512 lines, equal lengths", &|_| 1),
-        hub_with_a_ban_each("a ban on each of 512 lines", &|number| 1 + number / 2),
+        hub_case("hub", &|_| SHORT),
+        hub_case("hub, lengths falling", &|number| SHORT * (512 - number / 2)),
+        star("star, equal lengths", &|_| 3_000),
+        star("star, lengths rising", &|spoke| 6_000 + SHORT * spoke),
+        star("star, lengths falling", &|spoke| 12_000 - SHORT * spoke),
+        hub_with_a_ban_each("a ban on each of 512 lines, equal lengths", &|_| SHORT),
+        hub_with_a_ban_each("a ban on each of 512 lines", &|number| {
+            SHORT * (1 + number / 2)
+        }),
         hub_with_last_lines_alike(),
         hub_with_two_banned_lines("2 lines with 256 bans each", turn_from),
         last_lines_alike(hub_with_two_banned_lines(
@@ -96,6 +98,9 @@ fn mirrored(case: WorstCase) -> WorstCase {
 
 const FORM: u8 = 2;
 
+/// The length of the shortest lines.
+const SHORT: u32 = 10;
+
 /// The steps of the other lines, and of every line where it leaves.
 const ALIKE: Steps = Steps {
     east: 0,
@@ -131,11 +136,13 @@ impl MapPlan {
         number
     }
 
-    /// A way from this node to a node without other lines, and back. Together its two lines are as
-    /// long as a leg can be: each leg along it has one reading, and its searches see all of the map.
+    /// A way from this node to a node without other lines, and back. With a short line before them its
+    /// two lines are as long as a leg can be: each leg along them has one reading, and its searches see
+    /// all of the map.
     fn add_loop(&mut self, node: u32, away: u32) -> [u32; 2] {
-        let out = self.add_line(node, away, 75_000);
-        [out, self.add_last_line(away, node, 74_999)]
+        let half = LONGEST_LEG / 2;
+        let out = self.add_line(node, away, half);
+        [out, self.add_last_line(away, node, half - SHORT)]
     }
 }
 
@@ -153,7 +160,7 @@ fn loop_case(name: &'static str, plan: MapPlan, first: u32, around: [u32; 2]) ->
 /// Two nodes and half of the lines each way. The last line of each way is so long that only a leg
 /// along it gives its D, also with two short lines before it: legs go there and back by these.
 fn hub_plan(length_of: &dyn Fn(u32) -> u32) -> MapPlan {
-    const LONG: u32 = 2 * 586 - 1;
+    const LONG: u32 = 2 * DISTANCE_STEP - 1;
     let mut plan = row_of_nodes(2);
     let count = FULL_LINES as u32;
     for number in 0..count - 2 {
@@ -187,7 +194,7 @@ fn star(name: &'static str, length_out: &dyn Fn(u32) -> u32) -> WorstCase {
     let around = plan.add_loop(0, FULL_NODES - 1);
     for spoke in 1..FULL_NODES - 1 {
         plan.add_line(0, spoke, length_out(spoke));
-        plan.add_line(spoke, 0, 300);
+        plan.add_line(spoke, 0, 3_000);
     }
     loop_case(name, plan, around[1] + 1, around)
 }
@@ -208,7 +215,7 @@ fn hub_with_a_ban_each(name: &'static str, length_of: &dyn Fn(u32) -> u32) -> Wo
 /// last line is tried. Only the two long ones give D.
 fn hub_with_last_lines_alike() -> WorstCase {
     let name = "a ban on each of 512 lines, all last lines alike";
-    last_lines_alike(hub_with_a_ban_each(name, &|_| 1))
+    last_lines_alike(hub_with_a_ban_each(name, &|_| SHORT))
 }
 
 fn last_lines_alike(mut case: WorstCase) -> WorstCase {
@@ -223,7 +230,7 @@ fn last_lines_alike(mut case: WorstCase) -> WorstCase {
 /// The hub, and two lines there have 256 banned turns each, with lines back. The last line back is
 /// not among them.
 fn hub_with_two_banned_lines(name: &'static str, ban: fn(u32, u32) -> Ban) -> WorstCase {
-    let mut plan = hub_plan(&|_| 1);
+    let mut plan = hub_plan(&|_| SHORT);
     let backs = (1..FULL_LINES as u32 - 2).step_by(2).cycle();
     let lines = [0, 2].into_iter().flat_map(|line| [line; 256]);
     plan.bans = lines
@@ -247,8 +254,8 @@ fn ladder(name: &'static str, width: u32) -> WorstCase {
     let mut plan = row_of_nodes(steps + 2);
     for step in 0..steps {
         for _ in 0..width {
-            plan.add_line(step, step + 1, 1);
-            plan.add_line(step + 1, step, 1);
+            plan.add_line(step, step + 1, SHORT);
+            plan.add_line(step + 1, step, SHORT);
         }
     }
     let around = plan.add_loop(0, steps + 1);
@@ -258,10 +265,11 @@ fn ladder(name: &'static str, width: u32) -> WorstCase {
 /// One road of 512 nodes with a line each way, just as long as a leg can be. Each leg goes from
 /// one end to the other.
 fn long_chain() -> WorstCase {
+    const LENGTH: u32 = LONGEST_LEG / (FULL_NODES - 1);
     let mut plan = row_of_nodes(FULL_NODES);
     for node in 1..FULL_NODES {
-        plan.add_line(node - 1, node, 293);
-        plan.add_line(node, node - 1, 293);
+        plan.add_line(node - 1, node, LENGTH);
+        plan.add_line(node, node - 1, LENGTH);
     }
     let count = plan.lines.len() as u32;
     let there: Vec<u32> = (0..count).step_by(2).collect();
@@ -283,8 +291,8 @@ fn equal_grid() -> WorstCase {
         let east = (node % SIDE + 1 < SIDE).then_some(node + 1);
         let north = (node + SIDE < SIDE * SIDE).then_some(node + SIDE);
         for neighbour in east.into_iter().chain(north) {
-            plan.add_line(node, neighbour, 1_000);
-            plan.add_line(neighbour, node, 1_000);
+            plan.add_line(node, neighbour, 10_000);
+            plan.add_line(neighbour, node, 10_000);
         }
     }
     let around = plan.add_loop(SIDE * SIDE / 2 + SIDE / 2, SIDE * SIDE);
@@ -303,7 +311,7 @@ fn steep_case(name: &'static str, nearest_first: bool) -> WorstCase {
             } else {
                 NODES - start - step
             };
-            plan.add_line(start, start + step, step * step * 50);
+            plan.add_line(start, start + step, step * step * 500);
         }
     }
     let first = if nearest_first { 0 } else { NODES - 2 };
@@ -317,10 +325,10 @@ fn steep_case(name: &'static str, nearest_first: bool) -> WorstCase {
 /// once a time. Gives the last node.
 fn add_steep_road(plan: &mut MapPlan, from: u32, steps: u32) -> u32 {
     for step in 1..=steps {
-        plan.add_line(from, from + step, 3 * step);
+        plan.add_line(from, from + step, 3 * SHORT * step);
     }
     for step in 1..steps {
-        plan.add_line(from + step, from + step + 1, 1);
+        plan.add_line(from + step, from + step + 1, SHORT);
     }
     from + steps
 }
@@ -328,8 +336,8 @@ fn add_steep_road(plan: &mut MapPlan, from: u32, steps: u32) -> u32 {
 /// Lines between two nodes, half of them each way.
 fn add_hub(plan: &mut MapPlan, nodes: [u32; 2], lines_each_way: u32) {
     for _ in 0..lines_each_way {
-        plan.add_line(nodes[0], nodes[1], 1);
-        plan.add_line(nodes[1], nodes[0], 1);
+        plan.add_line(nodes[0], nodes[1], SHORT);
+        plan.add_line(nodes[1], nodes[0], SHORT);
     }
 }
 
@@ -341,7 +349,7 @@ fn steep_hub() -> WorstCase {
     const EACH_WAY: u32 = 255;
     let mut plan = row_of_nodes(STEPS + 4);
     for _ in 0..FIRST_LINES {
-        plan.add_line(0, 1, 1);
+        plan.add_line(0, 1, SHORT);
     }
     let end = add_steep_road(&mut plan, 1, STEPS);
     add_hub(&mut plan, [end, end + 1], EACH_WAY);
@@ -353,10 +361,10 @@ fn steep_hub() -> WorstCase {
 /// last node.
 fn add_steep_road_back(plan: &mut MapPlan, to: u32, first: u32, steps: u32) -> u32 {
     for step in 0..steps {
-        plan.add_line(first + step, to, 3 * (step + 1));
+        plan.add_line(first + step, to, 3 * SHORT * (step + 1));
     }
     for step in 1..steps {
-        plan.add_line(first + step, first + step - 1, 1);
+        plan.add_line(first + step, first + step - 1, SHORT);
     }
     first + steps - 1
 }
@@ -368,7 +376,7 @@ fn steep_hub_before() -> WorstCase {
     const EACH_WAY: u32 = 340;
     let mut plan = row_of_nodes(STEPS + 3);
     let around = plan.add_loop(0, 1);
-    plan.add_line(0, 1, 1);
+    plan.add_line(0, 1, SHORT);
     let end = add_steep_road_back(&mut plan, 0, 2, STEPS);
     add_hub(&mut plan, [end, end + 1], EACH_WAY);
     let first = plan.lines.len() as u32 - 1;
@@ -383,31 +391,31 @@ fn first_lines_before_a_long_road() -> WorstCase {
     let mut plan = row_of_nodes(STEPS + 3);
     let around = plan.add_loop(0, STEPS + 2);
     for _ in 0..LINES {
-        plan.add_line(0, 1, 1);
+        plan.add_line(0, 1, SHORT);
     }
     for node in 1..=STEPS {
-        plan.add_line(node, (node + 1) % (STEPS + 1), 1);
+        plan.add_line(node, (node + 1) % (STEPS + 1), SHORT);
     }
     loop_case("first lines before a long road", plan, around[1], around)
 }
 
 /// A road with very many first and very many last lines of the same marks. Of these pairs one
-/// alone gives D: of first lines one is 600 longer than the others, of last lines one is 1,200.
+/// alone gives D: of first lines one is 6,000 longer than the others, of last lines one is 12,000.
 fn first_and_last_lines() -> WorstCase {
     const LINES: u32 = 490;
     const STEPS: u32 = 20;
     let mut plan = row_of_nodes(STEPS + 4);
     let around = plan.add_loop(0, STEPS + 3);
-    let first = plan.add_line(0, 1, 601);
+    let first = plan.add_line(0, 1, 6_000 + SHORT);
     for _ in 1..LINES {
-        plan.add_line(0, 1, 1);
+        plan.add_line(0, 1, SHORT);
     }
     let road: Vec<u32> = (1..=STEPS)
-        .map(|node| plan.add_line(node, node + 1, 1))
+        .map(|node| plan.add_line(node, node + 1, SHORT))
         .collect();
-    let last = plan.add_line(STEPS + 1, STEPS + 2, 1_201);
+    let last = plan.add_line(STEPS + 1, STEPS + 2, 12_000 + SHORT);
     for _ in 1..LINES {
-        plan.add_line(STEPS + 1, STEPS + 2, 1);
+        plan.add_line(STEPS + 1, STEPS + 2, SHORT);
     }
     let last_leg = [&[first], road.as_slice(), &[last]].concat();
     let mut legs = vec![around.to_vec(); MOST_LEGS - 1];
@@ -431,8 +439,8 @@ const LOOP_CLASSES: u32 = 7;
 fn add_loops(plan: &mut MapPlan) -> Vec<u32> {
     let mut lines = Vec::new();
     for number in 1..=LOOPS {
-        lines.push(plan.add_line(0, number, 600));
-        let back = plan.add_line(number, 0, 600);
+        lines.push(plan.add_line(0, number, 6_000));
+        let back = plan.add_line(number, 0, 6_000);
         let class = (number + LOOP_CLASSES).saturating_sub(LOOPS);
         plan.lines[back as usize].frc = class as u8;
         lines.push(back);
@@ -468,9 +476,9 @@ fn loops_before_a_hub() -> WorstCase {
     let mut plan = row_of_nodes(LOOPS + 3);
     let lines = add_loops(&mut plan);
     let hub = [LOOPS + 1, LOOPS + 2];
-    let first = plan.add_line(0, hub[0], 1);
+    let first = plan.add_line(0, hub[0], SHORT);
     for _ in 1..EACH {
-        plan.add_line(0, hub[0], 1);
+        plan.add_line(0, hub[0], SHORT);
     }
     add_hub(&mut plan, hub, EACH);
     loops_case("loops of 8 classes, hub", plan, first, lines)
@@ -483,9 +491,9 @@ fn loops_before_a_steep_hub() -> WorstCase {
     const EACH_WAY: u32 = 240;
     let mut plan = row_of_nodes(LOOPS + STEPS + 3);
     let lines = add_loops(&mut plan);
-    let first = plan.add_line(0, LOOPS + 1, 1);
+    let first = plan.add_line(0, LOOPS + 1, SHORT);
     for _ in 1..FIRST_LINES {
-        plan.add_line(0, LOOPS + 1, 1);
+        plan.add_line(0, LOOPS + 1, SHORT);
     }
     let end = add_steep_road(&mut plan, LOOPS + 1, STEPS);
     add_hub(&mut plan, [end, end + 1], EACH_WAY);

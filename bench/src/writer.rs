@@ -125,8 +125,8 @@ impl<'a> Stretch<'a> {
     }
 }
 
-/// The bytes of a stretch cut at these places, for a choice whose differences fit and whose legs
-/// are at most 150,000 long ("The bytes").
+/// The bytes of a stretch cut at these places, for a choice whose differences fit and of whose legs
+/// none is over the longest ("The bytes").
 pub fn reference_bytes(map: &DepotMap, stretch: &Stretch, places: &[usize]) -> Vec<u8> {
     let mut bytes = Vec::with_capacity(LONGEST_REFERENCE);
     bytes.push(STATUS_BYTE);

@@ -4,7 +4,7 @@
 mod forward;
 
 use plain::depot_map::{Ban, DepotMap, Direction};
-use plain::fields::distance_byte;
+use plain::fields::{distance_byte, LONGEST_LEG};
 use plain::legs::{verdict, Leg, LegEnd};
 use plain::maps::{small_map, MapPlan, Xorshift};
 use plain::search::{Before, Bounds, Method, Search};
@@ -86,7 +86,7 @@ fn searches_back_find_what_searches_onward_find() {
         let rng = &mut Xorshift::new(seed);
         let map = map_with_bans(seed, rng);
         let longest = map.lines.iter().map(|line| line.length).max().unwrap();
-        let limit = (rng.within(1, 8) * longest).min(150_000);
+        let limit = (rng.within(1, 8) * longest).min(LONGEST_LEG);
         let back = &mut Search::new(&map, Method::NodeAndLineHeap);
         compare_searches(&map, rng.within(0, 7) as u8, limit, back);
     }
@@ -104,7 +104,7 @@ fn any_leg(map: &DepotMap, rng: &mut Xorshift) -> Leg {
         start: first.start,
         first_marks: first.leaving_marks(),
         lowest_class: rng.within(u32::from(first.frc), 7) as u8,
-        distance: distance_byte(length.min(150_000)),
+        distance: distance_byte(length.min(LONGEST_LEG)),
         end: LegEnd {
             node: last.end,
             last_marks: is_last.then(|| last.arriving_marks()),

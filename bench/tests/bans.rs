@@ -81,9 +81,9 @@ fn stretches_with_a_banned_turn() {
     let plan = ridge(&[(2, 3)]);
     let banned = Err(Refusal::BannedInStretch);
     assert_eq!(write_on(&plan, &[0, 2, 3], 0, 0), banned);
-    assert_eq!(write_on(&plan, &[0, 2, 3], 2000, 0), banned);
-    assert_eq!(write_on(&plan, &[0, 2, 3], 1500, 0), banned);
-    assert_eq!(write_on(&plan, &[0, 2, 3], 0, 1000), banned);
+    assert_eq!(write_on(&plan, &[0, 2, 3], 20_000, 0), banned);
+    assert_eq!(write_on(&plan, &[0, 2, 3], 15_000, 0), banned);
+    assert_eq!(write_on(&plan, &[0, 2, 3], 0, 10_000), banned);
     assert_eq!(
         write_on(&plan, &[2, 3, 0], 0, 0),
         Err(Refusal::LinesNotJoined)

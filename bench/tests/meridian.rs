@@ -15,7 +15,7 @@ const WESTERNMOST: i32 = -18_000_000;
 /// The bytes of the first point's longitude code.
 const LONGITUDE_CODE: std::ops::Range<usize> = 1..4;
 
-/// Nodes in a row, each with a line to the next, 1,000 long and eastward by its steps.
+/// Nodes in a row, each with a line to the next, 100 m long and eastward by its steps.
 fn row(places: &[(i32, i32)]) -> MapPlan {
     let node = |&(longitude, latitude): &(i32, i32)| Node {
         longitude,
@@ -24,7 +24,7 @@ fn row(places: &[(i32, i32)]) -> MapPlan {
     let line = |start: u32| PlannedLine {
         start,
         end: start + 1,
-        length: 1000,
+        length: 10_000,
         frc: 3,
         fow: 3,
         out: steps_at(90),

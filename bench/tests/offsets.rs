@@ -42,21 +42,24 @@ fn ridge_of([first, last]: [u32; 2]) -> MapPlan {
     plan
 }
 
-/// On legs of 1000 an offset has 0.256 parts a decimetre: 1 has 0.256, 2 has 0.512, 498 has 127.488, 500 has
-/// 128, 994 has 254.464, and 999 has 255.744, which would be 256. Halves are 3.90625 apart, from 1.95 on: byte
-/// 1 ends before 5.86, 7F is 494.14 to 498.05, 80 to 501.95, FE is 990.23 to 994.14.
+/// On legs of 10,000 an offset has 0.0256 parts a centimetre: 1 has 0.0256, 19 has 0.486, 20 has 0.512, 4,980
+/// has 127.488, 5,000 has 128, 9,941 has 254.49, and 9,999 has 255.97, which would be 256. Halves are 39.0625
+/// apart, from 19.53 on: byte 1 ends before 58.59, 7F is 4941.41 to 4980.47, 80 to 5019.53, FE is 9902.34 to
+/// 9941.41.
 #[test]
 fn both_offsets_on_the_ridge() {
     let plan = ridge(&[]);
     for (pos, neg, rest, spans) in [
         (0, 0, "18", [(0, 0), (0, 0)]),
-        (1, 0, "5800", [(1, 1), (0, 0)]),
-        (0, 1, "3800", [(0, 0), (1, 1)]),
-        (2, 1, "780100", [(2, 5), (1, 1)]),
-        (1, 2, "780001", [(1, 1), (2, 5)]),
-        (500, 498, "78807F", [(499, 501), (495, 498)]),
-        (994, 999, "78FEFF", [(991, 994), (995, 999)]),
-        (999, 994, "78FFFE", [(995, 999), (991, 994)]),
+        (1, 0, "5800", [(1, 19), (0, 0)]),
+        (0, 1, "3800", [(0, 0), (1, 19)]),
+        (1, 1, "780000", [(1, 19), (1, 19)]),
+        (20, 19, "780100", [(20, 58), (1, 19)]),
+        (19, 20, "780001", [(1, 19), (20, 58)]),
+        (5_000, 0, "5880", [(4_981, 5_019), (0, 0)]),
+        (5_000, 4_980, "78807F", [(4_981, 5_019), (4_942, 4_980)]),
+        (9_941, 9_999, "78FEFF", [(9_903, 9_941), (9_942, 9_999)]),
+        (9_999, 9_941, "78FFFE", [(9_942, 9_999), (9_903, 9_941)]),
     ] {
         let reference = format!("0B0000000000001B680103E800001B680103E800001B{rest}");
         let written = write_on(&plan, &[0, 1], pos, neg);
@@ -65,27 +68,27 @@ fn both_offsets_on_the_ridge() {
     }
 }
 
-/// Of 512 the offsets 1 and 511 are exactly at halves, 0.5 and 255.5, and go up, the latter to 256; of 1000
-/// they are 0.256 and 130.816. FF begins at 509 of 512. On 1000, 83 begins at 261 * 1000 / 512 = 509.8 and ends
-/// before 263 * 1000 / 512 = 513.7.
+/// Of 512 the offsets 1 and 511 are exactly at halves, 0.5 and 255.5, and go up, the latter to 256; of 10,000
+/// they are 0.0256 and 13.08. FF begins at 509 of 512. On 10,000, 00 ends before 10,000 / 512 = 19.5, and 0D
+/// begins at 25 * 10,000 / 512 = 488.3 and ends before 27 * 10,000 / 512 = 527.3.
 #[test]
 fn each_offset_on_its_own_leg() {
     for (lengths, offset, legs, rest, spans) in [
-        ([512, 1000], 1, ["00", "01"], "0100", [(1, 2), (1, 1)]),
-        ([1000, 512], 1, ["01", "00"], "0001", [(1, 1), (1, 2)]),
+        ([512, 10_000], 1, ["00", "01"], "0100", [(1, 2), (1, 19)]),
+        ([10_000, 512], 1, ["01", "00"], "0001", [(1, 19), (1, 2)]),
         (
-            [512, 1000],
+            [512, 10_000],
             511,
             ["00", "01"],
-            "FF83",
-            [(509, 511), (510, 513)],
+            "FF0D",
+            [(509, 511), (489, 527)],
         ),
         (
-            [1000, 512],
+            [10_000, 512],
             511,
             ["01", "00"],
-            "83FF",
-            [(510, 513), (509, 511)],
+            "0DFF",
+            [(489, 527), (509, 511)],
         ),
     ] {
         let plan = ridge_of(lengths);
@@ -98,15 +101,15 @@ fn each_offset_on_its_own_leg() {
     }
 }
 
-/// What is left of an offset counts, on what is left of the lines: 2 on line 1, and 2 on line 0.
+/// What is left of an offset counts, on what is left of the lines: 20 on line 1, and 20 on line 0.
 #[test]
 fn offsets_with_lines_skipped_whole() {
     let plan = ridge(&[]);
     let on_line_1 = "0B0001D20000001B680103E800001B5801";
     let on_line_0 = "0B0000000000001B680103E800001B3801";
     for (pos, neg, reference, line, spans) in [
-        (1002, 0, on_line_1, 1, [(2, 5), (0, 0)]),
-        (0, 1002, on_line_0, 0, [(0, 0), (2, 5)]),
+        (10_020, 0, on_line_1, 1, [(20, 58), (0, 0)]),
+        (0, 10_020, on_line_0, 0, [(0, 0), (20, 58)]),
     ] {
         let written = write_on(&plan, &[0, 1], pos, neg);
         assert_eq!(written, bytes(reference).unwrap());
@@ -139,34 +142,34 @@ fn bytes_that_no_offset_gives() {
     }
 }
 
-/// On a leg of 1024 a byte begins at two decimetres for each odd 512th: 7F at 506, 80 at 510, 81 at 514. On
-/// one of 1000, 80 begins at 499 and 81 at 502, since 257 * 1000 / 512 is 501.95.
+/// On a leg of 10,240 a byte begins at 20 for each odd 512th: 7F at 253 * 20 = 5,060, 80 at 5,100, 81 at 5,140,
+/// 82 at 5,180. On one of 10,000, 80 begins at 4,981 and 81 at 5,020, since 257 * 10,000 / 512 is 5019.53.
 #[test]
 fn least_offsets_that_reach_the_total() {
     let refused = Err(Refusal::OffsetByte);
     for (length, rest, expected) in [
-        (1024, "8080", Ok([(510, 513), (510, 513)])),
-        (1024, "7F81", Ok([(506, 509), (514, 517)])),
-        (1024, "8081", refused),
-        (1024, "8180", refused),
-        (1000, "8080", Ok([(499, 501), (499, 501)])),
-        (1000, "8081", refused),
+        (10_240, "8080", Ok([(5_100, 5_139), (5_100, 5_139)])),
+        (10_240, "7F81", Ok([(5_060, 5_099), (5_140, 5_179)])),
+        (10_240, "8081", refused),
+        (10_240, "8180", refused),
+        (10_000, "8080", Ok([(4_981, 5_019), (4_981, 5_019)])),
+        (10_000, "8081", refused),
     ] {
         let reference = format!("0B0000000000001B680103E800001B78{rest}");
-        let spans = spans_on(&ridge_of([length, 1000]), &reference);
+        let spans = spans_on(&ridge_of([length, 10_000]), &reference);
         assert_eq!(spans, expected, "{length} {rest}");
     }
 }
 
-/// Byte FF begins at 509 * 1000 / 512 = 994.1: 995 and 999 have equal bytes. They are 4 apart, which is over a
-/// 256th of the leg, 3.9, and below three 512ths of it, 5.9.
+/// Byte FF begins at 509 * 10,000 / 512 = 9941.4: 9,942 and 9,999 have equal bytes. They are 57 apart, which is
+/// over a 256th of the leg, 39.06, and below three 512ths of it, 58.6.
 #[test]
 fn stretches_with_equal_bytes() {
     let plan = ridge(&[]);
     let on_each_leg = [|offset| (offset, 0), |offset| (0, offset)];
     for offsets in on_each_leg {
         let mut spans = HashMap::new();
-        for offset in 1..1000 {
+        for offset in 1..10_000 {
             let (pos, neg) = offsets(offset);
             let written = write_on(&plan, &[0, 1], pos, neg);
             let (least, greatest) = spans.entry(written).or_insert((offset, offset));
@@ -175,9 +178,9 @@ fn stretches_with_equal_bytes() {
         // Every byte has an offset on this leg.
         assert_eq!(spans.len(), 256);
         let apart = spans.values().map(|(least, greatest)| greatest - least);
-        assert_eq!(apart.clone().max(), Some(4));
-        assert!(apart.clone().all(|apart| 512 * apart < 3 * 1000));
-        assert_eq!(apart.filter(|apart| 256 * apart >= 1000).count(), 1);
+        assert_eq!(apart.clone().max(), Some(57));
+        assert!(apart.clone().all(|apart| 512 * apart < 3 * 10_000));
+        assert_eq!(apart.filter(|apart| 256 * apart >= 10_000).count(), 1);
         for (reference, (least, greatest)) in spans {
             let read = read_on(&plan, &reference).unwrap();
             let span = match offsets(1) {

@@ -4,7 +4,7 @@ mod forward;
 mod ridge;
 
 use plain::depot_map::{DepotMap, Line, Node};
-use plain::fields::{distance_byte, Steps};
+use plain::fields::{distance_byte, Steps, DISTANCE_STEP};
 use plain::hexadecimal::bytes;
 use plain::legs::{matching_first_lines, Leg, LegEnd, Verdict};
 use plain::maps::{small_map, steps_at, MapPlan, PlannedLine, Xorshift};
@@ -17,18 +17,18 @@ use ridge::{refusal_of, ridge};
 
 const ROOM: usize = 17;
 
-/// Line 1 of the ridge: from (1000, 0), whose longitude code is 466, to (2000, 0); FRC 3, FOW 3, 1000
+/// Line 1 of the ridge: from (1000, 0), whose longitude code is 466, to (2000, 0); FRC 3, FOW 3, 10,000
 /// long, sectors 8 and 24.
 const HYDRANT: &str = "2B0001D20000005B680103E800009B5880";
 const WITHOUT_OFFSET: &str = "2B0001D20000001B680103E800001B18";
 
-/// From node 0 to node 3 of the ridge, with sectors 8 and 24 and the D of 2,000.
+/// From node 0 to node 3 of the ridge, with sectors 8 and 24 and the D of 20,000.
 const OVER_THE_RIDGE: &str = "2B000000000000DB680307D000005B5880";
 
 fn hydrant() -> Point {
     Point {
         line: 1,
-        offset: 500,
+        offset: 5_000,
         orientation: 1,
         side: 2,
     }
@@ -90,9 +90,9 @@ fn white_paper_map() -> MapPlan {
     MapPlan {
         nodes: nodes.map(node).to_vec(),
         lines: vec![
-            line(1, 0, 920, 42, 202),
-            line(0, 1, 920, 202, 42),
-            line(1, 2, 1400, 154, 334),
+            line(1, 0, 9_200, 42, 202),
+            line(0, 1, 9_200, 202, 42),
+            line(1, 2, 14_000, 154, 334),
         ],
         bans: Vec::new(),
     }
@@ -105,35 +105,36 @@ fn node((longitude, latitude): (i32, i32)) -> Node {
     }
 }
 
-/// 28 m along the line, on its left side (13.2.3). That is 256 * 280 / 920 = 77.91 parts. The paper rounds
+/// 28 m along the line, on its left side (13.2.3). That is 256 * 2,800 / 9,200 = 77.91 parts. The paper rounds
 /// them down and has 4D as its offset byte; the nearest is 78, which is 4E. Halves are odd 512ths: 4E
-/// begins at 155 * 920 / 512 = 278.5 and ends before 157 * 920 / 512 = 282.1. The paper's own byte begins at
-/// 153 * 920 / 512 = 274.9: it is 27.5 to 27.8 m, and the paper says 27.8.
+/// begins at 155 * 9,200 / 512 = 2785.2 and ends before 157 * 9,200 / 512 = 2821.1. The paper's own byte begins
+/// at 153 * 9,200 / 512 = 2749.2: it is 27.50 to 27.85 m, and the paper says 27.8.
 #[test]
 fn the_white_papers_example() {
     let plan = white_paper_map();
     let point = Point {
         line: 1,
-        offset: 280,
+        offset: 2_800,
         orientation: 0,
         side: 2,
     };
     let written = "2B045BA023467E125101FFCEFFB492434E";
     let papers_own = "2B045BA023467E125101FFCEFFB492434D";
     assert_eq!(write_on(&plan, point), Ok(bytes(written).unwrap()));
-    for (reference, span) in [(written, (279, 282)), (papers_own, (275, 278))] {
+    for (reference, span) in [(written, (2_786, 2_821)), (papers_own, (2_750, 2_785))] {
         assert_eq!(read_on(&plan, reference), Ok(reading(1, span, 0, 2)));
     }
 }
 
-/// Byte 80 on a leg of 1000 begins at 255 * 1000 / 512 = 498.05 and ends before 257 * 1000 / 512 = 501.95.
+/// Byte 80 on a leg of 10,000 begins at 255 * 10,000 / 512 = 4980.47 and ends before
+/// 257 * 10,000 / 512 = 5019.53.
 #[test]
 fn a_hydrant_on_the_ridge() {
     let plan = ridge(&[]);
     assert_eq!(write_on(&plan, hydrant()), Ok(bytes(HYDRANT).unwrap()));
     let read = read_on(&plan, HYDRANT).unwrap();
-    assert_eq!(read, reading(1, (499, 501), 1, 2));
-    let printed = "lines 1 offset 499 501 orientation 1 side 2\n1";
+    assert_eq!(read, reading(1, (4_981, 5_019), 1, 2));
+    let printed = "lines 1 offset 4981 5019 orientation 1 side 2\n1";
     assert_eq!(read.to_string(), printed);
     // Line 3, from (1000, 1000) to (2000, 0), with sectors 12 and 24 and a D of 0.
     let on_slope = "2B0001D20001D21B6C0003E8FC181B18";
@@ -141,22 +142,25 @@ fn a_hydrant_on_the_ridge() {
     assert_eq!(read_on(&plan, on_slope), Ok(reading(3, (0, 0), 0, 0)));
 }
 
-/// The flag looks at the offset, and not at its byte. An offset has 0.256 parts a decimetre: 1 has 0.256 and
-/// 2 has 0.512, 5 has 1.28 and 6 has 1.536, 9 has 2.304 and 10 has 2.56; 990 has 253.44 and 991 has 253.696,
-/// 994 has 254.464 and 995 has 254.72; 998 has 255.488 and 999 has 255.744, which would be 256.
+/// The flag looks at the offset, and not at its byte. An offset has 0.0256 parts a centimetre: 19 has 0.486 and
+/// 20 has 0.512, 58 has 1.485 and 59 has 1.510, 97 has 2.483 and 98 has 2.509; 9,902 has 253.491 and 9,903 has
+/// 253.517, 9,941 has 254.490 and 9,942 has 254.515; 9,980 has 255.488 and 9,981 has 255.514, which would be
+/// 256.
 #[test]
 fn offsets_of_a_hydrant() {
     let plan = ridge(&[]);
     for (offset, rest, span) in [
         (0, "18", (0, 0)),
-        (1, "5800", (1, 1)),
-        (2, "5801", (2, 5)),
-        (5, "5801", (2, 5)),
-        (6, "5802", (6, 9)),
-        (994, "58FE", (991, 994)),
-        (995, "58FF", (995, 999)),
-        (998, "58FF", (995, 999)),
-        (999, "58FF", (995, 999)),
+        (1, "5800", (1, 19)),
+        (19, "5800", (1, 19)),
+        (20, "5801", (20, 58)),
+        (58, "5801", (20, 58)),
+        (59, "5802", (59, 97)),
+        (9_941, "58FE", (9_903, 9_941)),
+        (9_942, "58FF", (9_942, 9_999)),
+        (9_980, "58FF", (9_942, 9_999)),
+        (9_981, "58FF", (9_942, 9_999)),
+        (9_999, "58FF", (9_942, 9_999)),
     ] {
         let point = Point {
             offset,
@@ -188,15 +192,15 @@ fn every_orientation_and_side() {
     }
 }
 
-/// The leg is a last leg of 2,000: byte 80 begins at 255 * 2000 / 512 = 996.1 and ends before
-/// 257 * 2000 / 512 = 1003.9 along all of the lines.
+/// The leg is a last leg of 20,000: byte 80 begins at 255 * 20,000 / 512 = 9960.9 and ends before
+/// 257 * 20,000 / 512 = 10,039.1 along all of the lines.
 #[test]
 fn a_received_point_along_several_lines() {
     for (bans, lines) in [([(2, 3)], vec![0, 1]), ([(0, 1)], vec![0, 2, 3])] {
         let plan = ridge(&bans);
         let expected = PointReading {
             lines,
-            ..reading(0, (997, 1003), 3, 1)
+            ..reading(0, (9_961, 10_039), 3, 1)
         };
         assert_eq!(read_on(&plan, OVER_THE_RIDGE), Ok(expected.clone()));
         let reference = bytes(OVER_THE_RIDGE).unwrap();
@@ -231,9 +235,9 @@ fn refusals_of_the_writer_in_order() {
     assert_eq!(refused(point), Some(Refusal::NoSuchLines));
     point.line = 1;
     assert_eq!(refused(point), Some(Refusal::OffsetsReachTotal));
-    point.offset = 1000;
+    point.offset = 10_000;
     assert_eq!(refused(point), Some(Refusal::OffsetsReachTotal));
-    point.offset = 999;
+    point.offset = 9_999;
     assert_eq!(refused(point), Some(Refusal::OrientationOrSide));
     (point.orientation, point.side) = (3, 3);
     assert_eq!(refused(point), Some(Refusal::NoUsablePoints));
@@ -285,8 +289,8 @@ fn with_line_beside(length: u32, out: Steps, back: Steps) -> MapPlan {
     plan
 }
 
-/// Lines beside each other are told apart by D or by a sector at either end. Lengths of D 1 are 586 to
-/// 1,171.
+/// Lines beside each other are told apart by D or by a sector at either end. Lengths of D 1 are 5,860 to
+/// 11,719.
 #[test]
 fn lines_beside_each_other() {
     let PlannedLine { out, back, .. } = ridge(&[]).lines[1];
@@ -295,13 +299,13 @@ fn lines_beside_each_other() {
         north: -200,
     };
     for (length, out, back, is_told) in [
-        (1000, out, back, false),
-        (586, out, back, false),
-        (1171, out, back, false),
-        (585, out, back, true),
-        (1172, out, back, true),
-        (1000, south, back, true),
-        (1000, out, south, true),
+        (10_000, out, back, false),
+        (5_860, out, back, false),
+        (11_719, out, back, false),
+        (5_859, out, back, true),
+        (11_720, out, back, true),
+        (10_000, south, back, true),
+        (10_000, out, south, true),
     ] {
         let plan = with_line_beside(length, out, back);
         for line in [1, 4] {
@@ -330,8 +334,9 @@ fn a_way_around() {
     let written = |plan: &MapPlan| write_on(plan, at_start(1));
     assert_eq!(written(&with_way_around(&[])), refused);
     assert_eq!(written(&with_way_around(&[(2, 3)])), accepted);
+    // With line 2 they are 11,719 and 11,720 long.
     let mut plan = with_way_around(&[]);
-    for (length, expected) in [(671, &refused), (672, &accepted)] {
+    for (length, expected) in [(6_719, &refused), (6_720, &accepted)] {
         plan.lines[3].length = length;
         assert_eq!(&written(&plan), expected, "{length}");
     }
@@ -344,7 +349,7 @@ fn classes_of_a_way_around() {
     plan.nodes.push(node((1500, 500)));
     let between = PlannedLine {
         end: 4,
-        length: 100,
+        length: 1_000,
         ..plan.lines[3]
     };
     plan.lines[3].start = 4;
@@ -360,16 +365,16 @@ fn classes_of_a_way_around() {
 #[test]
 fn every_last_line_counts() {
     let mut plan = with_way_around(&[]);
-    plan.lines[3].length = 672;
+    plan.lines[3].length = 6_720;
     let mut shorter = plan.lines[3];
-    shorter.length = 100;
+    shorter.length = 1_000;
     plan.lines.push(shorter);
     let refused = Err(Refusal::NoUsablePoints);
     assert_eq!(write_on(&plan, at_start(1)), refused);
-    // The ways are then 500 and 1,172 long, and line 1 alone gives its D.
-    plan.lines[4].length = 85;
+    // The ways are then 5,859 and 11,720 long, and line 1 alone gives its D.
+    plan.lines[4].length = 859;
     assert!(write_on(&plan, at_start(1)).is_ok());
-    plan.lines[4].length = 86;
+    plan.lines[4].length = 860;
     assert_eq!(write_on(&plan, at_start(1)), refused);
 }
 
@@ -394,7 +399,7 @@ fn differences_fit_16_bits() {
             read.expect("what is written is read")
         });
         let expected = match fits {
-            true => Ok(reading(0, (499, 501), 1, 2)),
+            true => Ok(reading(0, (4_981, 5_019), 1, 2)),
             false => Err(Refusal::NoUsablePoints),
         };
         assert_eq!(read, expected, "{from:?} {to:?}");
@@ -484,8 +489,8 @@ fn legs_without_one_reading() {
 
 /// Also where the line buffer is too short. Offset 1 of 100 gives 3, since 256 / 100 is 2.56, and 2 gives 5.
 /// The least leg with an offset of byte 0 is 513 long: 256 / 512 is exactly a half, and goes up. The least
-/// with one of byte 255 is 171 long: 256 * 169 / 170 is 254.494 and 256 * 170 / 171 is 254.503. Of 585 it
-/// begins at 509 * 585 / 512 = 581.6.
+/// with one of byte 255 is 171 long: 256 * 169 / 170 is 254.494 and 256 * 170 / 171 is 254.503. Of 5,859, the
+/// longest of D 0, it begins at 509 * 5,859 / 512 = 5824.7, and byte 0 ends before 5,859 / 512 = 11.4.
 #[test]
 fn bytes_that_no_offset_gives() {
     for (length, byte, span) in [
@@ -504,7 +509,8 @@ fn bytes_that_no_offset_gives() {
         (170, 254, Some((169, 169))),
         (170, 255, None),
         (171, 255, Some((170, 170))),
-        (585, 255, Some((582, 584))),
+        (DISTANCE_STEP - 1, 255, Some((5_825, 5_858))),
+        (DISTANCE_STEP - 1, 0, Some((1, 11))),
     ] {
         let mut plan = ridge(&[]);
         plan.lines[1].length = length;

@@ -2,6 +2,7 @@
 //! maps of the benchmark; without bans and with many.
 
 use plain::depot_map::{Ban, DepotMap};
+use plain::fields::LONGEST_LEG;
 use plain::maps::{
     chain, grid, hub, random_graph, small_map, steep, Bans, Lengths, MapPlan, PlannedLine, Xorshift,
 };
@@ -136,11 +137,20 @@ fn plans() -> [MapPlan; 6] {
     plans.map(|plan| plan.shuffled(5))
 }
 
+const LIMITS: [u32; 6] = [
+    50_000,
+    150_000,
+    LONGEST_LEG,
+    LONGEST_LEG,
+    LONGEST_LEG,
+    LONGEST_LEG,
+];
+
 fn check_that_searches_agree(plan: &MapPlan) {
     let rng = &mut Xorshift::new(5);
     let map = DepotMap::decode(&plan.encode()).unwrap();
     let mut searches = METHODS.map(|method| Search::new(&map, method));
-    for limit in [5_000, 15_000, 150_000, 150_000, 150_000, 150_000] {
+    for limit in LIMITS {
         let bounds = Bounds {
             first: rng.below(map.lines.len() as u32),
             class: rng.within(5, 7) as u8,
@@ -205,13 +215,13 @@ fn searches_agree_with_bans_in_rows() {
     }
 }
 
-/// Lengths of earlier searches are not reset before some 28,000 searches of this limit.
+/// Lengths of earlier searches are not reset before some 2,800 searches of the longest limit.
 #[test]
 fn a_search_does_not_see_the_ones_before_it() {
     let plan = small_map(7).with_bans(7, 5, Bans::Spread);
     let map = DepotMap::decode(&plan.encode()).unwrap();
     let all_bounds: Vec<Bounds> = (0..map.lines.len() as u32)
-        .flat_map(|first| [2, 400, 150_000].map(|limit| (first, limit)))
+        .flat_map(|first| [2, 4_000, LONGEST_LEG].map(|limit| (first, limit)))
         .map(|(first, limit)| Bounds {
             first,
             class: 7,

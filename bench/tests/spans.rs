@@ -1,11 +1,18 @@
 //! Offset bytes against trying every 256th of the leg, and their spans against trying every offset.
 
-use plain::fields::{offset_byte, offset_span};
+use plain::fields::{offset_byte, offset_span, LONGEST_LEG};
 use plain::outcome::Span;
 
-/// Multiples of 512, where offsets are exactly at a half, beside them, and the longest leg.
+/// Multiples of 512, where offsets are exactly at a half, beside them, the leg of the ridge, and the longest.
 const LONG_LEGS: [u32; 8] = [
-    2048, 2559, 65_536, 75_001, 131_072, 149_504, 149_999, 150_000,
+    2048,
+    2559,
+    10_000,
+    750_001,
+    1_048_576,
+    1_499_648,
+    LONGEST_LEG - 1,
+    LONGEST_LEG,
 ];
 
 fn short_legs() -> impl Iterator<Item = u32> {
@@ -80,6 +87,9 @@ fn bytes_are_the_nearest_256ths() {
 /// 256 * 1 / 512 is 0.5, 256 * 3 / 512 is 1.5, 256 * 509 / 512 is 254.5, and 256 * 511 / 512 is 255.5,
 /// which goes up to 256. 256 / 513 is 0.499 and 256 / 511 is 0.501; 256 / 100 is 2.56. 256 * 499 / 1000
 /// is 127.74 and 256 * 501 / 1000 is 128.26; with 498 and 502 it is 127.49 and 128.51.
+///
+/// On the ridge's leg of 10,000 a 512th is 19.53: 255 of them are 4980.5, and 257 are 5019.5. So offset 1
+/// has byte 0, as far as 19; 9,999 is nearest to 256. The longest leg has 512ths of 2929.7.
 #[test]
 fn bytes_at_the_edges() {
     for (offset, leg_length, byte) in [
@@ -97,17 +107,34 @@ fn bytes_at_the_edges() {
         (499, 1000, 128),
         (501, 1000, 128),
         (502, 1000, 129),
+        (1, 10_000, 0),
+        (19, 10_000, 0),
+        (20, 10_000, 1),
+        (4_980, 10_000, 127),
+        (4_981, 10_000, 128),
+        (5_019, 10_000, 128),
+        (5_020, 10_000, 129),
+        (9_999, 10_000, 255),
+        (1, LONGEST_LEG, 0),
+        (2_929, LONGEST_LEG, 0),
+        (2_930, LONGEST_LEG, 1),
+        (LONGEST_LEG - 1, LONGEST_LEG, 255),
     ] {
         assert_eq!(offset_byte(offset, leg_length), byte, "{offset}");
     }
 }
 
 /// Byte 0 is below 1 of 512 parts, and byte 255 from 509 on: 509 * 170 / 512 is 169.004 and
-/// 509 * 171 / 512 is 169.998.
+/// 509 * 171 / 512 is 169.998. 509 * 10,000 / 512 is 9941.4, and 509 * 1,500,000 / 512 is 1,491,210.9.
 #[test]
 fn spans_at_the_edges() {
     for (byte, leg_length, span) in [
         (0x80, 1000, Some((499, 501))),
+        (0x80, 10_000, Some((4_981, 5_019))),
+        (0, 10_000, Some((1, 19))),
+        (255, 10_000, Some((9_942, 9_999))),
+        (0, LONGEST_LEG, Some((1, 2_929))),
+        (255, LONGEST_LEG, Some((1_491_211, LONGEST_LEG - 1))),
         (1, 100, None),
         (3, 100, Some((1, 1))),
         (0, 512, None),
@@ -138,9 +165,9 @@ fn offsets_with_equal_bytes_are_less_than_three_512ths_apart() {
             );
         }
     }
-    // A 256th of 1,000 is 3.9, and three 512ths are 5.9; 509 of 512 parts are 994.1. Of 149,504, which is
-    // 512 * 292, they are 584, 876 and 509 * 292 = 148,628: with one offset more it would be 876.
-    for (least, leg_length, apart) in [(995, 1000, 4), (148_628, 149_504, 875)] {
+    // A 256th of 1,000 is 3.9, and three 512ths are 5.9; 509 of 512 parts are 994.1. Of 1,499,648, which is
+    // 512 * 2,929, they are 5,858, 8,787 and 509 * 2,929 = 1,490,861: with one offset more it would be 8,787.
+    for (least, leg_length, apart) in [(995, 1000, 4), (1_490_861, 1_499_648, 8_786)] {
         let greatest = leg_length - 1;
         let bytes = [least - 1, least, greatest].map(|offset| offset_byte(offset, leg_length));
         assert_eq!(bytes, [254, 255, 255]);

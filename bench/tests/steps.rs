@@ -4,7 +4,7 @@
 mod ridge;
 
 use plain::depot_map::{Ban, DepotMap, Node};
-use plain::fields::Steps;
+use plain::fields::{Steps, LONGEST_LINE};
 use plain::hexadecimal::{bytes, digits};
 use plain::maps::{number_parts, push_number, MapPlan, PlannedLine, LINE_NUMBERS};
 use plain::outcome::{Outcome, Refusal, WORK_AREA};
@@ -77,13 +77,14 @@ fn pairs() -> impl Iterator<Item = (usize, usize)> {
     lines.map(|east| (east, east + 1))
 }
 
+/// Its lengths are 10,000 = 78 * 128 + 16, and 5,000 = 39 * 128 + 8.
 #[test]
 fn the_bytes_of_the_ridge() {
     let lines = [
-        "0001E8070303C203FA0132FA01",
-        "0103E8070303C203FA0132FA01",
-        "0102F4030303FA01C203FA0132",
-        "0203F403030387036D328102",
+        "0001904E0303C203FA0132FA01",
+        "0103904E0303C203FA0132FA01",
+        "010288270303FA01C203FA0132",
+        "02038827030387036D328102",
     ];
     let numbers = Numbers::ridge();
     for (number, line) in lines.into_iter().enumerate() {
@@ -92,7 +93,8 @@ fn the_bytes_of_the_ridge() {
     }
 }
 
-/// Offset 500 of 1000 is 128 parts, and byte 80 is what has 127.5 to below 128.5: 498.05 to below 501.95.
+/// Offset 5,000 of 10,000 is 128 parts, and byte 80 is what has 127.5 to below 128.5: 4980.47 to below
+/// 5019.53.
 #[test]
 fn the_tie_at_the_ridge() {
     let map = ridge(&[]).encode();
@@ -102,9 +104,9 @@ fn the_tie_at_the_ridge() {
     };
     assert_eq!(written(0), Ok(bytes(THREE_POINTS).unwrap()));
     let with_offset = "0B0000000000001B680103E800001B680103E800001B5880";
-    assert_eq!(written(500), Ok(bytes(with_offset).unwrap()));
+    assert_eq!(written(5_000), Ok(bytes(with_offset).unwrap()));
     let printed = read(&map, &bytes(with_offset).unwrap(), WORK_AREA, 1024).unwrap();
-    assert_eq!(printed.to_string(), "lines 2 pos 499 501 neg 0 0\n0\n1");
+    assert_eq!(printed.to_string(), "lines 2 pos 4981 5019 neg 0 0\n0\n1");
 }
 
 #[test]
@@ -307,7 +309,7 @@ fn the_longest_map() {
     let line = |number: u32| PlannedLine {
         start: 128 + number % 2,
         end: 129 - number % 2,
-        length: 16_384,
+        length: LONGEST_LINE,
         frc: 7,
         fow: 7,
         out: steps,

@@ -7,7 +7,7 @@ mod ridge;
 use std::cmp::Reverse;
 
 use plain::depot_map::{Ban, DepotMap};
-use plain::fields::{distance_byte, LONGEST_LEG};
+use plain::fields::{distance_byte, DISTANCE_STEP, LONGEST_LEG};
 use plain::hexadecimal::digits;
 use plain::legs::{Leg, LegEnd, Verdict};
 use plain::maps::{random_walk, small_map, MapPlan, Turns, Xorshift};
@@ -352,8 +352,8 @@ fn every_number_of_tests_on_the_ridge() {
 #[test]
 fn a_last_line_that_is_a_first_line_too() {
     let mut plan = ridge(&[]);
-    for (line, (start, end, length)) in [(0, 1, 1), (1, 0, 1), (0, 1, 587)].into_iter().enumerate()
-    {
+    let lines = [(0, 1, 1), (1, 0, 1), (0, 1, DISTANCE_STEP + 1)];
+    for (line, (start, end, length)) in lines.into_iter().enumerate() {
         plan.lines[line].start = start;
         plan.lines[line].end = end;
         plan.lines[line].length = length;
@@ -375,14 +375,15 @@ fn a_last_line_that_is_a_first_line_too() {
 fn tests_of_what_remains_and_room_for_what_is_found() {
     let map = DepotMap::decode(&ridge(&[]).encode()).unwrap();
     let write = |pos, neg, tests, room| write_on_map(&map, &[0, 1], pos, neg, tests, room);
-    for (pos, neg) in [(1000, 0), (0, 1000)] {
+    for (pos, neg) in [(10_000, 0), (0, 10_000)] {
         assert_eq!(write(pos, neg, 0, 459), Err(Refusal::TooFewTests));
         let written = write(pos, neg, 9, 16).unwrap();
         assert_eq!((written.tests, written.excess), (1, 0));
         assert_eq!(write(pos, neg, 1, 15), Err(Refusal::ByteRoom));
         assert_eq!(write(pos, neg, 0, 15), Err(Refusal::TooFewTests));
     }
-    assert_eq!(write(1000, 1000, 0, 459), Err(Refusal::OffsetsReachTotal));
+    let all_skipped = write(10_000, 10_000, 0, 459);
+    assert_eq!(all_skipped, Err(Refusal::OffsetsReachTotal));
     assert_eq!(write(0, 0, 3, 22), Err(Refusal::ByteRoom));
     assert_eq!(write(0, 0, 2, 22), Err(Refusal::TooFewTests));
 }

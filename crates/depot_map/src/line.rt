@@ -58,7 +58,7 @@ fn read_attributes(map: &[u8], from: usize, work: &mut [u32], at: usize) -> Read
 {
     let why = Fault::Line;
     let len = field(map, from, 1, GREATEST_LINE_LENGTH, why);
-    let Read::Got(decimetres, after_len) = len else {
+    let Read::Got(line_length, after_len) = len else {
         return len;
     };
     let frc = field(map, after_len, 0, GREATEST_FRC, why);
@@ -77,7 +77,7 @@ fn read_attributes(map: &[u8], from: usize, work: &mut [u32], at: usize) -> Read
     let Read::Got(sector_back, _) = back else {
         return back;
     };
-    work[at + 2] = decimetres;
+    work[at + 2] = line_length;
     work[at + 3] = class;
     work[at + 4] = form;
     work[at + 5] = sector_out;

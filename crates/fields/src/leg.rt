@@ -6,7 +6,7 @@ ghost use Rattle.model.specs.Field.{distance};
 ghost use Rattle.fields.specs.Leg.{LongestLeg};
 ghost use Prim.Native.Nat.{_<_};
 
-// Byte D of a length in decimetres.
+// Byte D of a length in centimetres.
 pub fn distance(length: u32) -> u32
     ensures { λ r. ⌜ r ≡ distance length ⌝ }
 {

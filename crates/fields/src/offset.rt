@@ -29,7 +29,7 @@ pub enum Offsets {
     Nowhere,
 }
 
-// The least offset from 1 on whose byte is at least `byte`: half way before `byte` 256ths of the leg, which are `own` 512ths of a decimetre, rounded up.
+// The least offset from 1 on whose byte is at least `byte`: half way before `byte` 256ths of the leg, which are `own` 512ths of a centimetre, rounded up.
 fn first_offset(leg: u32, byte: u32, own: u64) -> u32
     requires { ⌜ (byte ≤ greatestOffsetByte) × (own ≡ 2 * byte * leg) ⌝ }
     ensures { λ r. ⌜ FirstOffset leg byte r ⌝ }

@@ -12,6 +12,7 @@ pub mod Tie
 pub mod RidgeCalls
 pub mod Texts
 pub mod WrongWriters
+pub mod Centimetres
 pub mod Pentagon
 pub mod Unfinished
 pub mod WrongTests

@@ -11,6 +11,7 @@ pub mod Numbers
 pub mod Ranges
 pub mod Steps
 pub mod Cut
+pub mod Lengths
 pub mod Nearest
 pub mod Spans
 pub mod OffsetSpans
@@ -46,4 +47,5 @@ pub mod HostDemand3
 pub mod HostPointTrip
 pub mod SameChoice
 pub mod AsBefore
+pub mod Tenfold
 pub mod Cases

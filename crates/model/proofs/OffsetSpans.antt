@@ -44,7 +44,7 @@ module _ (leg : ℕ) where
       flagged (last ((509 * leg + 511) / 512) (omega arith) (omega (arith, long))) (last (leg - 1) (omega (arith, long)) (omega (arith, long)))
       λ o (g : Gives leg greatestOffsetByte o). (omega (arith, from-254 o g), omega (arith, g .inside))
 
-  -- On a leg of 512 times `n` its ends are three 512ths apart, less one decimetre: a lesser bound would not do.
+  -- On a leg of 512 times `n` its ends are three 512ths apart, less one centimetre: a lesser bound would not do.
   pub byte-255-widest : (n : ℕ) → 0 < n → leg ≡ 512 * n → SpanRead leg (byte greatestOffsetByte) (span (509 * n) (512 * n - 1))
   byte-255-widest n some e =
       let least : (509 * leg + 511) / 512 ≡ 509 * n = omega (arith, e) in

@@ -11,9 +11,9 @@ codeSize c = (c * 33_554_432 + 36_000_000) / 72_000_000
 unfoldable pub code : ℕ → ℕ → ℕ
 code half c = cond (leb half c) (codeSize (c - half)) ((16_777_216 - codeSize (half - c)) % 16_777_216)
 
--- "D: leg length divided by 586, rounded down." 586 decimetres are OpenLR's 58.6 m.
+-- "D is the leg's length divided by 5,860, rounded down" (W8). 5,860 centimetres are OpenLR's 58.6 m.
 abbrev pub distanceStep : ℕ
-distanceStep = 586
+distanceStep = 5_860
 
 unfoldable pub distance : ℕ → ℕ
 distance length = length / distanceStep

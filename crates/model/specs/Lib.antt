@@ -1,5 +1,5 @@
--- What the promises mean. In the order of paper 01, as far as one definition needs another; PointAlong and PointTrip are paper 02's W5, LegTests and BestFound
--- its W7.
+-- What the promises mean. In the order of paper 01, as far as one definition needs another; AsBefore is paper 02's W2, PointAlong and PointTrip are its W5,
+-- LegTests and BestFound its W7, and Tenfold its W8.
 pub mod Number
 pub mod Field
 pub mod Sector
@@ -27,4 +27,5 @@ pub mod HostDemand3
 pub mod PointTrip
 pub mod HostPointTrip
 pub mod AsBefore
+pub mod Tenfold
 pub mod BestFound

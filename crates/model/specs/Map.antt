@@ -40,7 +40,8 @@ pub record Map : Type 0 where
 abbrev pub noLine : Line
 noLine = record { start = 0; end = 0; length = 0; frc = 0; fow = 0; out = 0; back = 0 }
 
--- "Count of nodes (2 to 512)", "count of lines (1 to 1,024)", "length is in decimetres, 1 to 150,000". W1: "a count of 0 to 512" pairs.
+-- "Count of nodes (2 to 512)", "count of lines (1 to 1,024)", "a line is 1 to 1,500,000", in centimetres (W8). W1: "a count of 0 to 512"
+-- pairs.
 abbrev pub greatestNodeCount : ℕ
 greatestNodeCount = 512
 
@@ -48,7 +49,7 @@ abbrev pub greatestLineCount : ℕ
 greatestLineCount = 1_024
 
 abbrev pub greatestLineLength : ℕ
-greatestLineLength = 150_000
+greatestLineLength = 1_500_000
 
 abbrev pub greatestBanCount : ℕ
 greatestBanCount = 512

@@ -25,9 +25,9 @@ abbrev pub Arrives : Map → Arrival → List ℕ → Type 0
 Arrives m any ls = Unit {0}
 Arrives m (matching a) ls = arriving m (lastOf ls) ≡ a
 
--- "Its length is at most 150,000."
+-- "Its length is at most" the leg limit, which follows the unit: 1,500,000 centimetres (W8).
 abbrev pub greatestLegLength : ℕ
-greatestLegLength = 150_000
+greatestLegLength = 1_500_000
 
 -- "All such connected lists (D aside)": every condition but D and least length. "No leg's reading may contain a banned pair, and least length
 -- is taken among lists without one" (W1): a connected list has none, since each of its lines follows the one before it.

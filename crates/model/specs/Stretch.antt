@@ -8,7 +8,7 @@ use Rattle.model.specs.Map.{Map}
 use Rattle.model.specs.Lines.{lineAt, banned, total}
 use Rattle.model.specs.Refusal.{Refused, row}
 
--- Line numbers in order, and the positive and the negative offset in decimetres.
+-- Line numbers in order, and the positive and the negative offset in centimetres (W8).
 pub record Stretch : Type 0 where
   pub lines : List ℕ
   pub pos : ℕ

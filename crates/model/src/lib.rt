@@ -35,7 +35,7 @@ pub enum Refusal {
     Unfinished,
 }
 
-// The least and the greatest offset, in decimetres, that an offset byte may stand for. 0 and 0 where there is no byte.
+// The least and the greatest offset, in centimetres, that an offset byte may stand for. 0 and 0 where there is no byte.
 pub struct Span {
     pub least: u32,
     pub greatest: u32,

@@ -3,25 +3,25 @@
 // How many numbers of the work area a call uses (specs/Work.antt).
 pub const WORK_LENGTH: usize = 14_336;
 
-// The greatest count of nodes, of lines and of banned turns, and the greatest length of a line in decimetres (specs/Map.antt).
+// The greatest count of nodes, of lines and of banned turns, and the greatest length of a line in centimetres (specs/Map.antt).
 pub const GREATEST_NODE_COUNT: u32 = 512;
 
 pub const GREATEST_LINE_COUNT: u32 = 1_024;
 
 pub const GREATEST_BAN_COUNT: u32 = 512;
 
-pub const GREATEST_LINE_LENGTH: u32 = 150_000;
+pub const GREATEST_LINE_LENGTH: u32 = 1_500_000;
 
 // What is added to a step where the map stores it, and the greatest number so stored (specs/Sector.antt).
 pub const STEP_ADDED: u32 = 250;
 
 pub const GREATEST_STEP: u32 = 500;
 
-// The greatest length of a leg in decimetres (specs/Reading.antt).
-pub const GREATEST_LEG_LENGTH: u32 = 150_000;
+// The greatest length of a leg in centimetres (specs/Reading.antt).
+pub const GREATEST_LEG_LENGTH: u32 = 1_500_000;
 
-// Decimetres to a step of byte D: 58.6 m (specs/Field.antt).
-pub const DISTANCE_STEP: u32 = 586;
+// Centimetres to a step of byte D: 58.6 m (specs/Field.antt).
+pub const DISTANCE_STEP: u32 = 5_860;
 
 // An offset byte counts 256ths of a leg, and the greatest byte (specs/Field.antt).
 pub const OFFSET_STEPS: u64 = 256;

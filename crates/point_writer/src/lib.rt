@@ -128,7 +128,7 @@ fn on_area(
     }
 }
 
-// Writes a point along a line on a map: `offset` decimetres from where the line starts, with its orientation and side of road. An answer that it is
+// Writes a point along a line on a map: `offset` centimetres from where the line starts, with its orientation and side of road. An answer that it is
 // written has the count of bytes, which stand first in `bytes`. The work area needs 14,336 numbers. They are 0 afterwards.
 pub fn write_point(
     map: &[u8],

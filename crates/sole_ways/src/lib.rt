@@ -1,6 +1,7 @@
 // Which legs of a stretch are sole ways: no other way from their first line to where they end is as short. They are tested in order of their start, then
 // their end, row by row, by searches from the first line of a row. A search serves many legs of its row, and a leg that is a sole way tells so of those that start later and
 // end where it does.
+use model::limits::GREATEST_LEG_LENGTH;
 use row::test_row;
 ghost use mathlib.Core.Path.{_≡_};
 ghost use Prim.Native.Nat.{_+_, _*_, _≤_, _<_, min};
@@ -19,8 +20,8 @@ mod part;
 pub mod row;
 mod test;
 
-// How long the legs of the first row are guessed to get: 1 km.
-const FIRST_REACH: u32 = 10_000;
+// How long the legs of the first row are guessed to get: 1 km, a fifteenth of the longest leg.
+const FIRST_REACH: u32 = GREATEST_LEG_LENGTH / 15;
 
 // The last position that legs from position `i` are tested to, of `count`, where `left` tests may be made.
 fn row_end(i: usize, count: usize, left: usize) -> usize

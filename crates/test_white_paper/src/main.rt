@@ -14,6 +14,7 @@ use fields::leg::Attributes;
 use fields::leg::distance;
 use fields::offset::offset_byte;
 use fields::sector::sector;
+use model::limits::DISTANCE_STEP;
 use model::limits::STEP_ADDED;
 use model::number_of;
 use references::leg::leg_at;
@@ -112,7 +113,14 @@ fn show_point(number: usize, a: Attributes) {
     print_hundredths(b" - ", a.sector as u64 * 1_125 + 1_125);
 }
 
-// What the bytes say of the lines at each point and of the legs between them. A step of the distance has 58.6 m.
+// The lengths that give a byte D, in metres and tenths as the table has them. They are in centimetres here.
+fn print_distance(d: u32) {
+    let from = d as u64 * DISTANCE_STEP as u64;
+    print_tenths(b" ", from / 10);
+    print_tenths(b" - ", (from + DISTANCE_STEP as u64) / 10);
+}
+
+// What the bytes say of the lines at each point and of the legs between them.
 fn show_points(bytes: &[u8], points: usize)
     requires { ⌜ SoundBytes (now bytes) points ⌝ }
 {
@@ -124,8 +132,7 @@ fn show_points(bytes: &[u8], points: usize)
         k += 1;
         show_point(k, leg.leaves);
         print(b" FRC", leg.lowest as u64);
-        print_tenths(b" ", leg.distance as u64 * 586);
-        print_tenths(b" - ", leg.distance as u64 * 586 + 586);
+        print_distance(leg.distance);
         if let Arrival::Matching(a) = arrival {
             show_point(k + 1, a);
         }
@@ -151,17 +158,17 @@ fn show_fields() {
         b"\nTable 79: ",
         sector(STEP_ADDED + 141, STEP_ADDED - 141) as u64,
     );
-    print(b"\nTable 80: ", distance(5_610) as u64);
+    print(b"\nTable 80: ", distance(56_100) as u64);
     print(
         b"\nTable 84: ",
         sector(STEP_ADDED - 146, STEP_ADDED - 136) as u64,
     );
-    print(b"\nTable 85: ", distance(2_740) as u64);
+    print(b"\nTable 85: ", distance(27_400) as u64);
     print(
         b"\nTable 89: ",
         sector(STEP_ADDED - 188, STEP_ADDED + 68) as u64,
     );
-    print(b"\nTable 90: ", offset_byte(5_610, 1_500) as u64);
+    print(b"\nTable 90: ", offset_byte(56_100, 15_000) as u64);
     write(b"\n");
 }
 

@@ -148,7 +148,7 @@ fn on_area(
     }
 }
 
-// Writes a stretch of lines with its offsets, in decimetres, on a map, by `tests` leg tests at most. An answer that it is written has the count of bytes,
+// Writes a stretch of lines with its offsets, in centimetres, on a map, by `tests` leg tests at most. An answer that it is written has the count of bytes,
 // which stand first in `bytes`, the tests made, and by how many points at most the reference exceeds the fewest. The work area needs 14,336 numbers. They
 // are 0 afterwards.
 pub fn write(

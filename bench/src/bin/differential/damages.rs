@@ -2,19 +2,22 @@
 
 use plain::depot_map::{Ban, DepotMap};
 use plain::fields::{
-    coordinate_code, place_of_p, NEGATIVE_FLAG, POSITIVE_FLAG, SHORTEST_REFERENCE,
+    coordinate_code, place_of_p, LONGEST_LINE, NEGATIVE_FLAG, POSITIVE_FLAG, SHORTEST_REFERENCE,
 };
 use plain::maps::{number_parts, push_number, MapPlan, Xorshift, LINE_NUMBERS, PAIR_NUMBERS};
 
-use crate::inputs::{random_bytes, EASTERNMOST, MOST_BANS, WESTERNMOST};
+use crate::inputs::{random_bytes, EASTERNMOST, EDGE_LENGTHS, MOST_BANS, WESTERNMOST};
 use crate::points::{hops, legs, Hop};
 
 /// At the edges of the ranges of a map's numbers.
 #[rustfmt::skip]
 const EDGE_NUMBERS: [u32; 21] = [
-    0, 1, 2, 7, 8, 250, 500, 501, 511, 512, 513, 1024, 1025, 150_000, 150_001,
+    0, 1, 2, 7, 8, 250, 500, 501, 511, 512, 513, 1024, 1025, LONGEST_LINE, LONGEST_LINE + 1,
     18_000_000, 18_000_001, 35_999_998, 35_999_999, 36_000_000, u32::MAX,
 ];
+
+/// No lengths of lines. The last is too long by one alone.
+const NO_LENGTHS: [u32; 4] = [0, u32::MAX, 10 * LONGEST_LINE, LONGEST_LINE + 1];
 
 /// A step of 0 as it is stored, and steps that are out of range.
 const NO_STEP: u32 = 250;
@@ -24,7 +27,7 @@ const TOO_FAR: [u32; 5] = [501, 502, 511, 512, u32::MAX];
 pub fn damaged_map(rng: &mut Xorshift, plan: &MapPlan) -> Vec<u8> {
     let mut bytes = plan.encode();
     let part = any_part(rng, plan);
-    match rng.below(11) {
+    match rng.below(12) {
         0 => change_bytes(rng, &mut bytes[part..]),
         1 => bytes.truncate(part + rng.below((bytes.len() - part) as u32) as usize),
         2 => bytes.extend(random_bytes(rng, &[1, 2, 7])),
@@ -32,6 +35,7 @@ pub fn damaged_map(rng: &mut Xorshift, plan: &MapPlan) -> Vec<u8> {
         4 => return with_no_turn(rng, plan),
         5 => bytes = random_bytes(rng, &[0, 1, 2, 10, 60]),
         6 | 7 => return with_faulty_steps(rng, plan),
+        8 => return with_other_lengths(rng, plan),
         _ => return with_other_numbers(rng, plan),
     }
     bytes
@@ -94,6 +98,21 @@ fn with_no_turn(rng: &mut Xorshift, plan: &MapPlan) -> Vec<u8> {
         plan.bans.insert(place, ban);
     } else {
         plan.bans[place % MOST_BANS] = ban;
+    }
+    plan.encode()
+}
+
+/// One to three lines become as long as an edge, and half of the times one of them cannot be.
+fn with_other_lengths(rng: &mut Xorshift, plan: &MapPlan) -> Vec<u8> {
+    let mut plan = plan.clone();
+    let line_count = plan.lines.len() as u32;
+    let mut last = 0;
+    for _ in 0..rng.within(1, 3) {
+        last = rng.below(line_count) as usize;
+        plan.lines[last].length = *rng.pick(&EDGE_LENGTHS);
+    }
+    if rng.below(2) == 0 {
+        plan.lines[last].length = *rng.pick(&NO_LENGTHS);
     }
     plan.encode()
 }

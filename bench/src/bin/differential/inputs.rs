@@ -1,7 +1,9 @@
 //! Maps, stretches, offsets and references from a random source.
 
 use plain::depot_map::{Ban, DepotMap, Node};
-use plain::fields::{brought_round, Steps, LONGEST_STEP, STATUS_BYTE};
+use plain::fields::{
+    brought_round, Steps, DISTANCE_STEP, LONGEST_LEG, LONGEST_LINE, LONGEST_STEP, STATUS_BYTE,
+};
 use plain::maps::{
     any_steps, chain, grid, nearest_steps, random_graph, random_walk, small_map, Bans, Lengths,
     MapPlan, PlannedLine, Turns, Xorshift,
@@ -24,9 +26,21 @@ pub const WESTERNMOST: i32 = -18_000_000;
 /// which hold 32,768 westward alone, and half a circle.
 const WIDTHS: [i32; 7] = [2, 32_767, 32_768, 32_768, 32_769, 32_769, 18_000_000];
 
-/// At the edges of D, with and without offsets of byte 255 and of byte 0, and the longest.
-const EDGE_LENGTHS: [u32; 13] = [
-    1, 170, 171, 512, 513, 585, 586, 587, 1171, 1172, 75_000, 149_999, 150_000,
+/// At the edges of D, with and without offsets of byte 255 and of byte 0, and up to the longest.
+pub const EDGE_LENGTHS: [u32; 13] = [
+    1,
+    170,
+    171,
+    512,
+    513,
+    DISTANCE_STEP - 1,
+    DISTANCE_STEP,
+    DISTANCE_STEP + 1,
+    2 * DISTANCE_STEP - 1,
+    2 * DISTANCE_STEP,
+    LONGEST_LEG / 2,
+    LONGEST_LINE - 1,
+    LONGEST_LINE,
 ];
 
 /// Where an offset byte ends and the next begins, in 512ths of the leg: the first two and the last two. From
@@ -38,8 +52,10 @@ pub fn any_small_plan(rng: &mut Xorshift) -> MapPlan {
         0 => zigzag_road(rng),
         _ => small_map(rng.draw()),
     };
-    if rng.below(4) == 0 {
-        make_multiples_of_512(&mut plan);
+    match rng.below(16) {
+        0..=3 => make_multiples_of_512(&mut plan),
+        4 => make_nearly_longest(&mut plan),
+        _ => {}
     }
     if rng.below(4) == 0 {
         for _ in 0..rng.within(1, 4) {
@@ -79,7 +95,7 @@ fn zigzag_road(rng: &mut Xorshift) -> MapPlan {
             plan.lines.push(PlannedLine {
                 start,
                 end,
-                length: rng.within(1, 2_000),
+                length: rng.within(1, 20_000),
                 frc: rng.below(8) as u8,
                 fow: 3,
                 out: any_steps(rng),
@@ -94,6 +110,13 @@ fn zigzag_road(rng: &mut Xorshift) -> MapPlan {
 fn make_multiples_of_512(plan: &mut MapPlan) {
     for line in &mut plan.lines {
         line.length = line.length.next_multiple_of(512);
+    }
+}
+
+/// Many of these lines have a total that does not fit 32 bits once it is taken 256 times.
+fn make_nearly_longest(plan: &mut MapPlan) {
+    for line in &mut plan.lines {
+        line.length = LONGEST_LINE - line.length % 100;
     }
 }
 
@@ -268,7 +291,7 @@ fn any_count(rng: &mut Xorshift) -> u32 {
 }
 
 /// The positive and the negative offset: none, at and beside the ends of lines and the edges of offset
-/// bytes, at and beside the total, and beyond.
+/// bytes, at and beside the total, beyond, and of a sum that has 33 bits.
 pub fn any_offsets(rng: &mut Xorshift, map: &DepotMap, lines: &[u32]) -> (u32, u32) {
     let mut lengths: Vec<u32> = lines.iter().filter_map(|&line| length(map, line)).collect();
     let total: u32 = lengths.iter().sum();
@@ -278,14 +301,26 @@ pub fn any_offsets(rng: &mut Xorshift, map: &DepotMap, lines: &[u32]) -> (u32, u
     match rng.below(32) {
         0 => (pos, total.wrapping_sub(pos)),
         1 => (pos, total.wrapping_sub(pos).wrapping_sub(1)),
-        // The sum would be small again if it were held in 32 bits.
-        2 => (u32::MAX - rng.below(2), rng.below(3)),
-        3 => (rng.below(3), u32::MAX - rng.below(2)),
+        2 => beyond_32_bits(rng, total),
+        3 => {
+            let (neg, pos) = beyond_32_bits(rng, total);
+            (pos, neg)
+        }
         4..=10 => (pos, 0),
         11..=17 => (0, neg),
         18..=24 => (pos, neg),
         _ => (0, 0),
     }
+}
+
+/// Two offsets whose sum is mostly below the total again if it is held in 32 bits. The first is the greatest
+/// that there is or one less, half of what 32 bits hold, or anything.
+fn beyond_32_bits(rng: &mut Xorshift, total: u32) -> (u32, u32) {
+    let firsts = [u32::MAX, u32::MAX - 1, 1 << 31, rng.draw() as u32];
+    let first = *rng.pick(&firsts);
+    let sum = (1 << 32) + u64::from(rng.below(total.saturating_add(2)));
+    let other = sum - u64::from(first);
+    (first, u32::try_from(other).unwrap_or(u32::MAX))
 }
 
 /// How many leg tests may be made for these lines: all for a third of the calls; else often a number that tells
@@ -355,17 +390,20 @@ fn offset(rng: &mut Xorshift, lengths: &[u32]) -> u32 {
     let skipped = rng.within(0, lengths.len().min(3) as u32) as usize;
     let end: u32 = lengths[..skipped].iter().sum();
     let leg = lengths[skipped..].iter().take(rng.within(1, 3) as usize);
-    match rng.below(8) {
+    match rng.below(10) {
         0 => end,
         1 => end + 1,
         2 => end.saturating_sub(1),
         3 => rng.within(0, total),
         4 | 5 => end + offset_at_edge(rng, leg.sum()),
+        6 => 1,
+        7 => lengths.first().map_or(0, |length| length - 1),
         _ => rng.within(0, total / 8),
     }
 }
 
-/// The least offset with a byte, or the greatest with the one before it.
+/// The least offset with a byte, or the greatest with the one before it. 511 times three of the longest lines
+/// is a number of 32 bits.
 pub fn offset_at_edge(rng: &mut Xorshift, leg_length: u32) -> u32 {
     let parts = match rng.below(4) {
         0 => *rng.pick(&EDGE_PARTS),
@@ -410,10 +448,15 @@ fn composed_reference(rng: &mut Xorshift, map: &DepotMap) -> Vec<u8> {
     let (first_leg, last_leg) = (&lines[..places[1]], &lines[places[places.len() - 2]..]);
     let stretch = Stretch {
         lines: &lines,
-        positive: positive % total_length(map, first_leg),
-        negative: negative % total_length(map, last_leg),
+        positive: below_leg(positive, map, first_leg),
+        negative: below_leg(negative, map, last_leg),
     };
     reference_bytes(map, &stretch, &places)
+}
+
+/// An offset brought below a leg of these lines, and below the longest leg.
+pub fn below_leg(offset: u32, map: &DepotMap, lines: &[u32]) -> u32 {
+    offset % total_length(map, lines).min(LONGEST_LEG)
 }
 
 /// A reference with this many lines, at least 64, on a chain: 64 legs to and fro.

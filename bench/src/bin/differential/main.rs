@@ -9,6 +9,7 @@ mod calls;
 mod counts;
 mod damages;
 mod inputs;
+mod length_counts;
 mod memory;
 mod meridian;
 mod offset_counts;

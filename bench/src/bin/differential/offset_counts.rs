@@ -13,7 +13,10 @@ use crate::points::{end_legs, offset_bytes, total_length, with_one_offset};
 /// Of one kind of offsets: the positive or the negative ones of stretches, or those of points.
 #[derive(Default)]
 struct Counts {
-    /// Offsets written: exactly at a half and rounded up, nearest to 256, and with byte 0.
+    /// Offsets written: 1, one before the end of the line, exactly at a half and rounded up, nearest to
+    /// 256, and with byte 0.
+    one: u64,
+    before_end: u64,
     half_up: u64,
     nearest_256: u64,
     written_0: u64,
@@ -30,8 +33,10 @@ struct Counts {
 }
 
 impl Counts {
-    /// Of an offset that is not 0, on a leg that may be written.
-    fn count_written(&mut self, offset: u32, leg_length: u32, byte: u8) {
+    /// Of an offset that is not 0, on a line of a leg that may be written.
+    fn count_written(&mut self, offset: u32, line_length: u32, leg_length: u32, byte: u8) {
+        self.one += u64::from(offset == 1);
+        self.before_end += u64::from(offset + 1 == line_length);
         let quotient = 256 * offset / leg_length;
         let left = 256 * offset % leg_length;
         let is_above = u32::from(byte) > quotient;
@@ -61,18 +66,34 @@ pub struct StretchOffsets {
     /// References with refusal 19 in which there are offsets for both bytes: the least are the total
     /// together, or more.
     together: [u64; 2],
+    /// Refusal 9 for offsets whose sum has 33 bits and would be below the total in 32.
+    beyond_32_bits: u64,
+    /// Stretches written whose total does not fit 32 bits once it is taken 256 times.
+    wide_total: u64,
 }
 
 impl StretchOffsets {
     /// Of what is left of a stretch, and its reference.
     pub fn count_written(&mut self, map: &DepotMap, left: &Stretch, reference: &[u8]) {
         let offsets = [left.positive, left.negative];
+        let end_lines = [left.lines[0], left.lines[left.lines.len() - 1]];
+        let line_lengths = end_lines.map(|line| map.line(line).length);
         let leg_lengths = end_legs(map, reference, left.lines);
         for (kind, byte) in offset_bytes(reference).into_iter().enumerate() {
             if let Some(byte) = byte {
-                self.counts[kind].count_written(offsets[kind], leg_lengths[kind], byte);
+                let (line_length, leg_length) = (line_lengths[kind], leg_lengths[kind]);
+                self.counts[kind].count_written(offsets[kind], line_length, leg_length, byte);
             }
         }
+        let is_wide = total_length(map, left.lines).checked_mul(256).is_none();
+        self.wide_total += u64::from(is_wide);
+    }
+
+    /// Of a stretch with refusal 9.
+    pub fn count_reaching_total(&mut self, map: &DepotMap, given: &Stretch) {
+        let (sum, has_33_bits) = given.positive.overflowing_add(given.negative);
+        let is_below = sum < total_length(map, given.lines);
+        self.beyond_32_bits += u64::from(has_33_bits && is_below);
     }
 
     pub fn count_read(&mut self, map: &DepotMap, reference: &[u8], outcome: &Outcome<Reading>) {
@@ -114,7 +135,12 @@ impl StretchOffsets {
         let title = "offsets of stretches, positive and negative";
         print_counts(title, self.counts.each_ref())?;
         let together = [("least offsets", self.together)];
-        print_rows("stretches refused 19, the total and more", &together)
+        print_rows("stretches refused 19, the total and more", &together)?;
+        let wide = [
+            ("refused 9, the sum of the offsets", [self.beyond_32_bits]),
+            ("written, 256 times the total", [self.wide_total]),
+        ];
+        print_rows("stretches with numbers of more than 32 bits", &wide)
     }
 }
 
@@ -126,8 +152,9 @@ pub struct PointOffsets {
 impl PointOffsets {
     pub fn count_written(&mut self, map: &DepotMap, point: Point, reference: &[u8]) {
         if let [Some(byte), _] = offset_bytes(reference) {
-            let leg_length = map.line(point.line).length;
-            self.counts.count_written(point.offset, leg_length, byte);
+            let length = map.line(point.line).length;
+            self.counts
+                .count_written(point.offset, length, length, byte);
         }
     }
 
@@ -152,6 +179,11 @@ impl PointOffsets {
 
 fn print_counts<const KINDS: usize>(title: &str, of: [&Counts; KINDS]) -> Result<(), String> {
     let rows = [
+        ("written, 1", of.map(|counts| counts.one)),
+        (
+            "written, one before the end of the line",
+            of.map(|counts| counts.before_end),
+        ),
         (
             "written, a half rounded up",
             of.map(|counts| counts.half_up),

@@ -7,8 +7,9 @@ use plain::point::{is_alone, point_bytes, Point};
 use plain::writer::Stretch;
 
 use crate::damages::damaged_reference;
-use crate::inputs::{any_offsets, any_turns, offset_at_edge, random_bytes, shortest_line, walk};
-use crate::points::total_length;
+use crate::inputs::{
+    any_offsets, any_turns, below_leg, offset_at_edge, random_bytes, shortest_line, walk,
+};
 
 /// The greatest length of random bytes, and of a reference that is cut off or goes on.
 const LONGEST: u32 = 20;
@@ -54,12 +55,12 @@ fn any_number(rng: &mut Xorshift) -> u32 {
 fn any_offset(rng: &mut Xorshift, length: u32) -> u32 {
     match rng.below(24) {
         0..=3 => 0,
-        4 => 1,
-        5 | 6 => length - 1,
-        7 => length,
-        8 => length + 1,
-        9 => u32::MAX - rng.below(3),
-        10..=15 => offset_at_edge(rng, length),
+        4 | 5 => 1,
+        6 | 7 => length - 1,
+        8 => length,
+        9 => length + 1,
+        10 => u32::MAX - rng.below(3),
+        11..=15 => offset_at_edge(rng, length),
         _ => rng.below(length),
     }
 }
@@ -85,7 +86,7 @@ fn composed_point(rng: &mut Xorshift, map: &DepotMap) -> Vec<u8> {
     let turns = any_turns(rng, 6);
     let lines = walk(rng, map, count, turns);
     let (positive, _) = any_offsets(rng, map, &lines);
-    let positive = positive % total_length(map, &lines);
+    let positive = below_leg(positive, map, &lines);
     point_along(rng, map, &lines, positive)
 }
 
@@ -102,7 +103,7 @@ fn point_along(rng: &mut Xorshift, map: &DepotMap, lines: &[u32], positive: u32)
 pub fn point_along_chain(rng: &mut Xorshift, map: &DepotMap, count: u32) -> Vec<u8> {
     let between = |node: u32| shortest_line(map, node, node + 1);
     let lines: Vec<u32> = (0..count).filter_map(between).collect();
-    let positive = rng.below(2) * rng.below(count);
+    let positive = rng.below(2) * rng.below(10 * count);
     point_along(rng, map, &lines, positive)
 }
 

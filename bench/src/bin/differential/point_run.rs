@@ -7,6 +7,7 @@ use plain::point::{write_point, Point};
 
 use crate::counts::{count, print_answers, Answers};
 use crate::inputs::{any_reference, random_bytes, room_at_the_edge};
+use crate::length_counts::LengthCounts;
 use crate::meridian::Meridian;
 use crate::offset_counts::PointOffsets;
 use crate::point_calls::{ReadPointCall, WritePointCall};
@@ -26,6 +27,7 @@ pub struct PointRun {
     offsets: PointOffsets,
     meridian: Meridian,
     steps: StepCounts,
+    lengths: LengthCounts,
     counts: PointCounts,
 }
 
@@ -145,9 +147,7 @@ impl PointRun {
         let compared = call.compare();
         let outcome = compared.map_err(|difference| format!("{call}\n{difference}"))?;
         count(&mut self.reads, &outcome);
-        if let Err(Refusal::Step) = outcome {
-            self.steps.count_refused(call.map, step_counts::READER);
-        }
+        self.count_refused(&outcome, call.map, step_counts::READER);
         Ok(outcome)
     }
 
@@ -164,6 +164,9 @@ impl PointRun {
                 self.meridian.count_written(&sample.map, reference);
                 self.offsets
                     .count_written(&sample.map, call.point, reference);
+                let length = sample.map.line(call.point.line).length;
+                self.lengths
+                    .count_written(&sample.map, &[call.point.line], [length; 2]);
                 self.read_back(sample, call, reference)?;
             }
             Err(Refusal::NoUsablePoints) => {
@@ -183,10 +186,17 @@ impl PointRun {
         let compared = call.compare();
         let outcome = compared.map_err(|difference| format!("{call}\n{difference}"))?;
         count(&mut self.writes, &outcome);
-        if let Err(Refusal::Step) = outcome {
-            self.steps.count_refused(call.map, step_counts::WRITER);
-        }
+        self.count_refused(&outcome, call.map, step_counts::WRITER);
         Ok(outcome)
+    }
+
+    /// Of a map that is refused for a step or a length.
+    fn count_refused<T>(&mut self, outcome: &Outcome<T>, map: &[u8], function: usize) {
+        match outcome {
+            Err(Refusal::Step) => self.steps.count_refused(map, function),
+            Err(Refusal::LineField) => self.lengths.count_refused(map, function),
+            _ => {}
+        }
     }
 
     /// The line handed back is the one given, and so are orientation and side; the span holds the
@@ -222,6 +232,7 @@ impl PointRun {
         self.offsets.report()?;
         self.meridian.report("points")?;
         self.steps.report("points")?;
+        self.lengths.report("points")?;
         self.counts.report()?;
         print_answers("write point", &self.writes, &OF_WRITER)?;
         print_answers("read point", &self.reads, &OF_READER)

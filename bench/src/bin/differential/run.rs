@@ -12,10 +12,12 @@ use crate::inputs::{
     any_offsets, any_reference, any_small_plan, any_stretch, any_tests, full_size_plan, more_tests,
     move_over_meridian, random_bytes, reference_along_chain, room_at_the_edge,
 };
+use crate::length_counts::LengthCounts;
 use crate::meridian::Meridian;
 use crate::offset_counts::StretchOffsets;
 use crate::point_inputs::any_point_reference;
 use crate::point_run::PointRun;
+use crate::points::end_legs;
 use crate::step_counts::{self, StepCounts};
 use crate::test_counts::{check_tests_made, check_with_more_tests, TestCounts};
 
@@ -46,6 +48,7 @@ pub struct Run {
     tests: TestCounts,
     meridian: Meridian,
     steps: StepCounts,
+    lengths: LengthCounts,
     points: PointRun,
 }
 
@@ -294,9 +297,7 @@ impl Run {
         let compared = call.compare();
         let outcome = compared.map_err(|difference| format!("{call}\n{difference}"))?;
         count(&mut self.reads, &outcome);
-        if let Err(Refusal::Step) = outcome {
-            self.steps.count_refused(call.map, step_counts::READER);
-        }
+        self.count_refused(&outcome, call.map, step_counts::READER);
         let lines = outcome.as_ref().map_or(0, |reading| reading.lines.len());
         self.most_lines = self.most_lines.max(lines);
         Ok(outcome)
@@ -321,6 +322,8 @@ impl Run {
                 check_tests_made(left.lines.len(), call.tests, written)
                     .map_err(|difference| format!("{call}\n{difference}"))?;
                 self.offsets.count_written(map, &left, reference);
+                let leg_lengths = end_legs(map, reference, left.lines);
+                self.lengths.count_written(map, left.lines, leg_lengths);
                 self.read_back(sample, call, reference, &left)?;
             }
             Err(Refusal::NoUsablePoints) => {
@@ -333,6 +336,7 @@ impl Run {
                 self.meridian
                     .count_too_far(map, &sample.plan, left.lines, is_written);
             }
+            Err(Refusal::OffsetsReachTotal) => self.offsets.count_reaching_total(map, &given),
             Err(Refusal::BannedInStretch) => {
                 let is_skipped = is_banned_where_skipped(map, &given);
                 self.banned_where_skipped += u64::from(is_skipped);
@@ -347,14 +351,21 @@ impl Run {
         let compared = call.compare();
         let outcome = compared.map_err(|difference| format!("{call}\n{difference}"))?;
         count(&mut self.writes, &outcome);
-        if let Err(Refusal::Step) = outcome {
-            self.steps.count_refused(call.map, step_counts::WRITER);
-        }
+        self.count_refused(&outcome, call.map, step_counts::WRITER);
         let length = outcome
             .as_ref()
             .map_or(0, |written| written.reference.len());
         self.longest_reference = self.longest_reference.max(length);
         Ok(outcome)
+    }
+
+    /// Of a map that is refused for a step or a length.
+    fn count_refused<T>(&mut self, outcome: &Outcome<T>, map: &[u8], function: usize) {
+        match outcome {
+            Err(Refusal::Step) => self.steps.count_refused(map, function),
+            Err(Refusal::LineField) => self.lengths.count_refused(map, function),
+            _ => {}
+        }
     }
 
     /// The lines handed back are those left, and each span holds what is left of its offset. The
@@ -391,6 +402,7 @@ impl Run {
         self.offsets.report()?;
         self.meridian.report("stretches")?;
         self.steps.report("stretches")?;
+        self.lengths.report("stretches")?;
         print_answers("write", &self.writes, &OF_WRITER)?;
         print_answers("read", &self.reads, &OF_READER)?;
         self.points.report()

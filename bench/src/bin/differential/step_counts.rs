@@ -7,7 +7,7 @@ use plain::maps::{number_parts, stored_numbers, MapPlan, PlannedLine, LINE_NUMBE
 use crate::counts::print_rows;
 
 /// How many calls of the writer, and how many of the reader, of stretches or of points.
-type Calls = [u64; 2];
+pub type Calls = [u64; 2];
 pub const WRITER: usize = 0;
 pub const READER: usize = 1;
 

@@ -61,7 +61,7 @@ abbrev longerNorth : List Turn → Map
 longerNorth bans =
     record {
       nodes = ridge .nodes;
-      lines = line 0 1 1_000 8 24 ∷ line 1 3 1_000 8 24 ∷ line 1 2 500 0 16 ∷ line 2 3 900 12 24 ∷ [];
+      lines = line 0 1 10_000 8 24 ∷ line 1 3 10_000 8 24 ∷ line 1 2 5_000 0 16 ∷ line 2 3 9_000 12 24 ∷ [];
       bans = bans;
     }
 
@@ -119,7 +119,7 @@ north-read =
 -- "A stretch as given, skipped lines included": 0, 2, 3, also where an offset covers line 0, or lines 2 and 3. After 8, before 9. Lines 2, 3 are taken.
 pub record Stretches : Type 0 where
   pub contains : map (checkStretch barred)
-      (stretchOf (0 ∷ 2 ∷ 3 ∷ []) 0 0 ∷ stretchOf (0 ∷ 2 ∷ 3 ∷ []) 1_000 0 ∷ stretchOf (0 ∷ 2 ∷ 3 ∷ []) 0 1_000 ∷ stretchOf (0 ∷ 2 ∷ 3 ∷ []) 1_000 1_000 ∷ []) ≡
+      (stretchOf (0 ∷ 2 ∷ 3 ∷ []) 0 0 ∷ stretchOf (0 ∷ 2 ∷ 3 ∷ []) 10_000 0 ∷ stretchOf (0 ∷ 2 ∷ 3 ∷ []) 0 10_000 ∷ stretchOf (0 ∷ 2 ∷ 3 ∷ []) 10_000 10_000 ∷ []) ≡
       StretchAnswer.refused (row 21) ∷ StretchAnswer.refused (row 21) ∷ StretchAnswer.refused (row 21) ∷ StretchAnswer.refused (row 21) ∷ []
   pub gap-first : checkStretch barred (stretchOf (0 ∷ 2 ∷ 1 ∷ []) 0 0) ≡ StretchAnswer.refused (row 8)
   pub other-turns : checkStretch barred (stretchOf (2 ∷ 3 ∷ []) 0 0) ≡ remains (stretchOf (2 ∷ 3 ∷ []) 0 0)
@@ -130,7 +130,7 @@ stretches = record { contains = refl; gap-first = refl; other-turns = refl }
 
 -- Whole calls: 21 before 9, and 23 before what either call asks of a map. The map's last pair is of lines 3 and 0, which do not meet.
 pub record Calls : Type 0 where
-  pub stretch-refused : Writes (encoded barred) (stretchOf (0 ∷ 2 ∷ 3 ∷ []) 1_000 1_000) 0 14_336 0 (WriteOutcome.refused (row 21))
+  pub stretch-refused : Writes (encoded barred) (stretchOf (0 ∷ 2 ∷ 3 ∷ []) 10_000 10_000) 0 14_336 0 (WriteOutcome.refused (row 21))
   pub map-refused : Writes (encoded (ridgeWith (turn 0 2 ∷ turn 3 0 ∷ []))) (stretchOf [] 0 0) 0 14_336 0 (WriteOutcome.refused (row 23)) ×
       Reads (encoded (ridgeWith (turn 0 2 ∷ turn 3 0 ∷ []))) [] 14_336 0 (ReadOutcome.refused (row 23))
   pub area-short : Reads (encoded barred) twoPoints 14_335 2 (ReadOutcome.refused (row 1))
@@ -188,7 +188,7 @@ abbrev pub around : Map
 around =
     record {
       nodes = node 0 0 ∷ node 1_000 0 ∷ node 2_000 0 ∷ node 1_000 1_000 ∷ [];
-      lines = line 0 1 600 8 24 ∷ line 1 2 600 8 24 ∷ line 1 3 300 0 16 ∷ line 3 1 300 16 0 ∷ [];
+      lines = line 0 1 6_000 8 24 ∷ line 1 2 6_000 8 24 ∷ line 1 3 3_000 0 16 ∷ line 3 1 3_000 16 0 ∷ [];
       bans = turn 0 1 ∷ [];
     }
 
@@ -268,12 +268,12 @@ unfolding computing finding
 round-allowed = search (connects, arith)
 
 module _ (ls : List ℕ) (first : firstOf ls ≡ 0) where
-  not-shorter : Way ls → 1_800 ≤ total around ls
+  not-shorter : Way ls → 18_000 ≤ total around ls
   unfolding computing
   not-shorter (Way.least e) = omega (arith, ap (total around) e, ap (λ (l : ℕ). total around (way l)) first)
   not-shorter (longer h) = omega (arith, ap (λ (l : ℕ). total around (way l)) first)
 
-  the-same : Way ls → total around ls ≤ 1_800 → ls ≡ 0 ∷ 2 ∷ 3 ∷ 1 ∷ []
+  the-same : Way ls → total around ls ≤ 18_000 → ls ≡ 0 ∷ 2 ∷ 3 ∷ 1 ∷ []
   unfolding computing
   the-same (Way.least e) h = e ∙ ap way first
   the-same (longer k) h = absurd (omega (arith, ap (λ (l : ℕ). total around (way l)) first))

@@ -29,11 +29,11 @@ bypass =
           ∷ record { lon = 18_102_500; lat = 8_899_000 }
           ∷ [];
       lines =
-          record { start = 0; end = 1; length = 1_000; frc = 2; fow = 5; out = 8; back = 24 }
-          ∷ record { start = 1; end = 2; length = 1_000; frc = 4; fow = 1; out = 8; back = 24 }
-          ∷ record { start = 2; end = 4; length = 500; frc = 3; fow = 6; out = 12; back = 26 }
-          ∷ record { start = 1; end = 3; length = 750; frc = 4; fow = 1; out = 0; back = 16 }
-          ∷ record { start = 3; end = 4; length = 750; frc = 3; fow = 6; out = 16; back = 26 }
+          record { start = 0; end = 1; length = 10_000; frc = 2; fow = 5; out = 8; back = 24 }
+          ∷ record { start = 1; end = 2; length = 10_000; frc = 4; fow = 1; out = 8; back = 24 }
+          ∷ record { start = 2; end = 4; length = 5_000; frc = 3; fow = 6; out = 12; back = 26 }
+          ∷ record { start = 1; end = 3; length = 7_500; frc = 4; fow = 1; out = 0; back = 16 }
+          ∷ record { start = 3; end = 4; length = 7_500; frc = 3; fow = 6; out = 16; back = 26 }
           ∷ [];
       bans = [];
     }
@@ -110,15 +110,15 @@ not-fewest-first c = not-preferred (c .preferred ((0 ∷ 1 ∷ []) ∷ (2 ∷ []
 pub also-usable : Usable (good bypass) 0 ((0 ∷ []) ∷ (1 ∷ 2 ∷ []) ∷ [])
 also-usable = before first-line (final last-lines)
 
--- The bytes of the first cut. Codes 46,603 and -46,603; P 2 × 8 + 5, Q 4 × 32 + 8, D 2000 ÷ 586; 2000 east and 500 south.
+-- The bytes of the first cut. Codes 46,603 and -46,603; P 2 × 8 + 5, Q 4 × 32 + 8, D 20,000 ÷ 5,860; 2000 east and 500 south.
 -- P 3 × 8 + 6, Q 3 × 32 + 12, D 0; 500 east and 500 south. P as before, R 64 + 32 + 26.
--- Positive offset 500 is a quarter of the first leg, negative offset 250 is half of the last.
+-- Positive offset 5,000 is a quarter of the first leg, negative offset 2,500 is half of the last.
 abbrev pub bypassBytes : List ℕ
 bypassBytes =
     0x0B ∷ 0x00 ∷ 0xB6 ∷ 0x0B ∷ 0xFF ∷ 0x49 ∷ 0xF5 ∷ 0x15 ∷ 0x88 ∷ 0x03 ∷ 0x07 ∷ 0xD0 ∷ 0xFE ∷ 0x0C ∷ 0x1E ∷ 0x6C ∷ 0x00 ∷ 0x01 ∷ 0xF4 ∷ 0xFE ∷ 0x0C ∷ 0x1E
     ∷ 0x7A ∷ 0x40 ∷ 0x80 ∷ []
 
-pub bypass-written : WriteOn bypass (record { lines = 0 ∷ 1 ∷ 2 ∷ []; pos = 500; neg = 250 }) 6 25 (written bypassBytes 6 0)
+pub bypass-written : WriteOn bypass (record { lines = 0 ∷ 1 ∷ 2 ∷ []; pos = 5_000; neg = 2_500 }) 6 25 (written bypassBytes 6 0)
 unfolding computing
 bypass-written = best-of-all (good-filled bypass) most-lines-first (omega arith)
 

@@ -16,16 +16,16 @@ use Rattle.model.proofs.Cases.Legs.{reading, only, sole, unread, sector
 use Rattle.model.proofs.Cases.Fields.{toAndFro}
 use Rattle.model.proofs.Cases.Ridge.{node, line, ridge, road, leg}
 
--- Lines 0 and 1 of FRC 3, 1000 each, and a shorter way over a line of FRC 5.
+-- Lines 0 and 1 of FRC 3, 10,000 each, and a shorter way over a line of FRC 5.
 abbrev pub detour : Map
 detour =
     record {
       nodes = node 0 0 ∷ node 1_000 0 ∷ node 1_000 1_000 ∷ node 2_000 0 ∷ [];
       lines =
-          line 0 1 1_000 8 24
-          ∷ line 1 3 1_000 8 24
-          ∷ record { start = 1; end = 2; length = 100; frc = 5; fow = 3; out = 0; back = 16 }
-          ∷ line 2 3 100 12 28
+          line 0 1 10_000 8 24
+          ∷ line 1 3 10_000 8 24
+          ∷ record { start = 1; end = 2; length = 1_000; frc = 5; fow = 3; out = 0; back = 16 }
+          ∷ line 2 3 1_000 12 28
           ∷ [];
       bans = [];
     }
@@ -53,16 +53,16 @@ by-class =
           (λ r. refl, (λ r. absurd (omega (arith, r .least (0 ∷ 2 ∷ 3 ∷ []) shortcut refl)), tt));
     }
 
--- A line of 150,000 and one of 1.
+-- A line of 1,500,000 and one of 1.
 abbrev pub long : Map
 long =
     record {
       nodes = node 0 0 ∷ node 1_000 0 ∷ node 2_000 0 ∷ [];
-      lines = line 0 1 150_000 8 24 ∷ line 1 2 1 8 24 ∷ [];
+      lines = line 0 1 1_500_000 8 24 ∷ line 1 2 1 8 24 ∷ [];
       bans = [];
     }
 
--- 150,000 is read, as D 255; 150,001, which gives D 255 as well, is not: refusal 17.
+-- 1,500,000 is read, as D 255; 1,500,001, which gives D 255 as well, is not: refusal 17.
 pub longest-only : Only long (leg 0 1 255 any) (0 ∷ [])
 unfolding computing finding
 longest-only = sole long (leg 0 1 255 any) refl (0 ∷ []) (search (connects, arith)) refl refl
@@ -83,11 +83,11 @@ marks =
     record {
       nodes = node 0 0 ∷ node 1_000 0 ∷ node 2_000 0 ∷ [];
       lines =
-          line 0 1 1_000 8 24
-          ∷ line 1 2 100 8 24
-          ∷ record { start = 1; end = 2; length = 100; frc = 2; fow = 3; out = 8; back = 24 }
-          ∷ record { start = 1; end = 2; length = 100; frc = 3; fow = 4; out = 8; back = 24 }
-          ∷ line 1 2 100 16 8
+          line 0 1 10_000 8 24
+          ∷ line 1 2 1_000 8 24
+          ∷ record { start = 1; end = 2; length = 1_000; frc = 2; fow = 3; out = 8; back = 24 }
+          ∷ record { start = 1; end = 2; length = 1_000; frc = 3; fow = 4; out = 8; back = 24 }
+          ∷ line 1 2 1_000 16 8
           ∷ [];
       bans = [];
     }

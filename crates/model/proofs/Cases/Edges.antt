@@ -1,4 +1,4 @@
--- The cases marked [M] in paper 01, "At the edges", as paper 02 has changed them (W3, W6), as one theorem; and the two numbers of "The depot map".
+-- The cases marked [M] in paper 01, "At the edges", as paper 02 has changed them (W3, W6, W8), as one theorem; and the two numbers of "The depot map".
 use Prim.Native.Nat.{ℕ, _+_, _*_, _-_, _/_, _≤_}
 use mathlib.Core.Path.{_≡_, refl}
 use mathlib.Core.Logic.{_≢_}
@@ -33,7 +33,8 @@ pub record Ends (m : Map) (r : Reference) (lss : List (List ℕ)) (n : ℕ) : Ty
 pub record Edges : Type 0 where
   pub codes : lon 18_000_000 ∷ lon 18_000_001 ∷ lon 17_999_999 ∷ lon 18_000_002 ∷ lon 18_000_003 ∷ lon 18_100_000 ∷ lon 35_999_998 ∷ [] ≡
       0 ∷ 0 ∷ 0 ∷ 1 ∷ 1 ∷ 46_603 ∷ 8_388_607 ∷ []
-  pub distances : distance 585 ∷ distance 586 ∷ distance 150_000 ∷ [] ≡ 0 ∷ 1 ∷ 255 ∷ []
+  -- "The marked D cases take tenfold lengths too" (W8).
+  pub distances : distance 5_850 ∷ distance 5_860 ∷ distance 1_500_000 ∷ [] ≡ 0 ∷ 1 ∷ 255 ∷ []
   -- "(0, 5) gives 0, (5, 5) gives 4, (-5, 0) gives 24" (paper 02, W3, in place of those on bearings).
   pub sectors : sector 250 255 ∷ sector 255 255 ∷ sector 245 250 ∷ [] ≡ 0 ∷ 4 ∷ 24 ∷ []
   -- "On a leg of 512, offset 1 is exactly a half and gives 1"; "byte 80 on a leg of 1000 then means 499 to 501" (W6).
@@ -85,6 +86,11 @@ spanned leg b lo hi low high all = flagged low high all
 pub byte-80 : SpanRead 1_000 (byte 0x80) (span 499 501)
 unfolding computing
 byte-80 = spanned 1_000 0x80 499 501 (omega arith) (omega arith) (λ o g. omega arith)
+
+-- The ridge's own leg: 256 × 4,980.47 ÷ 10,000 is 127.5, and 256 × 5,019.53 ÷ 10,000 is 128.5 (W8).
+pub byte-80-on-the-ridge : SpanRead 10_000 (byte 0x80) (span 4_981 5_019)
+unfolding computing
+byte-80-on-the-ridge = spanned 10_000 0x80 4_981 5_019 (omega arith) (omega arith) (λ o g. omega arith)
 
 -- The only offset of a leg of 2, and the two of a leg of 3.
 pub half-of-2 : SpanRead 2 (byte 0x80) (span 1 1)

@@ -58,14 +58,14 @@ pub record MapCases : Type 0 where
   -- Counts of 1 and 1,024 lines; 0 and 1,025.
   pub line-counts : Refuses 2 (twoNodes [] ∷ twoNodes (1 ∷ []) ∷ twoNodes (0x80 ∷ 0x08 ∷ []) ∷ [])
   pub bad-line-counts : Refuses 3 (twoNodes (0 ∷ []) ∷ twoNodes (0x81 ∷ 0x08 ∷ []) ∷ [])
-  -- Start node, end node (also not shortest), length 1 and 150,000, FRC 7, FOW 7.
+  -- Start node, end node (also not shortest), length 1 and 1,500,000, FRC 7, FOW 7.
   pub line-fields : Refuses 2
       (oneLine (1 ∷ []) ∷ oneLine (0 ∷ 1 ∷ []) ∷ oneLine (0 ∷ 0x80 ∷ 0 ∷ []) ∷ oneLine (0 ∷ 1 ∷ 1 ∷ [])
-      ∷ oneLine (0 ∷ 1 ∷ 0xF0 ∷ 0x93 ∷ 0x09 ∷ []) ∷ oneLine (0 ∷ 1 ∷ 1 ∷ 7 ∷ []) ∷ oneLine (0 ∷ 1 ∷ 1 ∷ 7 ∷ 7 ∷ []) ∷ [])
-  -- Start node 2, end node 2, equal ends (also before a number not shortest), length 0 and 150,001, FRC 8, FOW 8, also before a step of 251.
+      ∷ oneLine (0 ∷ 1 ∷ 0xE0 ∷ 0xC6 ∷ 0x5B ∷ []) ∷ oneLine (0 ∷ 1 ∷ 1 ∷ 7 ∷ []) ∷ oneLine (0 ∷ 1 ∷ 1 ∷ 7 ∷ 7 ∷ []) ∷ [])
+  -- Start node 2, end node 2, equal ends (also before a number not shortest), length 0 and 1,500,001, FRC 8, FOW 8, also before a step of 251.
   pub bad-line-fields : Refuses 5
       (oneLine (2 ∷ []) ∷ oneLine (0 ∷ 2 ∷ []) ∷ oneLine (1 ∷ 1 ∷ []) ∷ oneLine (0 ∷ 0 ∷ 0x80 ∷ 0 ∷ []) ∷ oneLine (0 ∷ 1 ∷ 0 ∷ [])
-      ∷ oneLine (0 ∷ 1 ∷ 0xF1 ∷ 0x93 ∷ 0x09 ∷ []) ∷ oneLine (0 ∷ 1 ∷ 1 ∷ 8 ∷ []) ∷ oneLine (0 ∷ 1 ∷ 1 ∷ 7 ∷ 8 ∷ [])
+      ∷ oneLine (0 ∷ 1 ∷ 0xE1 ∷ 0xC6 ∷ 0x5B ∷ []) ∷ oneLine (0 ∷ 1 ∷ 1 ∷ 8 ∷ []) ∷ oneLine (0 ∷ 1 ∷ 1 ∷ 7 ∷ 8 ∷ [])
       ∷ oneLine (0 ∷ 1 ∷ 1 ∷ 7 ∷ 8 ∷ 0xF5 ∷ 0x03 ∷ []) ∷ [])
   -- Steps (W3). East -250, 250 and 0; with them north -250, 250 and 0, but not both 0; the same of the steps back. Both 0 where the second number is
   -- not shortest.
@@ -84,12 +84,12 @@ pub record MapCases : Type 0 where
       ∷ twoNodes (2 ∷ 0 ∷ 1 ∷ 10 ∷ 3 ∷ 3 ∷ 0xF5 ∷ 0x03 ∷ 0 ∷ 0 ∷ 0 ∷ 9 ∷ []) ∷ [])
   -- The upper ends of all ranges, and nine fields that differ: steps (-240, -150) and (-150, -130).
   pub greatest : decode
-      (2 ∷ 0xFE ∷ 0xA1 ∷ 0x95 ∷ 0x11 ∷ 0x80 ∷ 0xD1 ∷ 0xCA ∷ 0x08 ∷ 0 ∷ 5 ∷ 1 ∷ 0 ∷ 1 ∷ 0xF0 ∷ 0x93 ∷ 0x09 ∷ 7 ∷ 7
+      (2 ∷ 0xFE ∷ 0xA1 ∷ 0x95 ∷ 0x11 ∷ 0x80 ∷ 0xD1 ∷ 0xCA ∷ 0x08 ∷ 0 ∷ 5 ∷ 1 ∷ 0 ∷ 1 ∷ 0xE0 ∷ 0xC6 ∷ 0x5B ∷ 7 ∷ 7
       ∷ 0xF4 ∷ 0x03 ∷ 0xF4 ∷ 0x03 ∷ 0xF4 ∷ 0x03 ∷ 0xF4 ∷ 0x03 ∷ 0 ∷ []) ≡
       whole
       (record {
         nodes = record { lon = 35_999_998; lat = 18_000_000 } ∷ record { lon = 0; lat = 5 } ∷ [];
-        lines = record { start = 0; end = 1; length = 150_000; frc = 7; fow = 7; out = 4; back = 4 } ∷ [];
+        lines = record { start = 0; end = 1; length = 1_500_000; frc = 7; fow = 7; out = 4; back = 4 } ∷ [];
         bans = [];
       })
   pub in-order : decode (oneLine (1 ∷ 0 ∷ 0xAC ∷ 0x02 ∷ 2 ∷ 5 ∷ 10 ∷ 100 ∷ 100 ∷ 120 ∷ 0 ∷ [])) ≡

@@ -44,7 +44,7 @@ abbrev pub islands : Map
 islands =
     record {
       nodes = island 35_999_000 ∷ island 35_999_998 ∷ island 0 ∷ island 1_000 ∷ [];
-      lines = line 0 1 10_600 8 24 ∷ line 1 2 20 8 24 ∷ line 2 3 10_600 8 24 ∷ [];
+      lines = line 0 1 106_000 8 24 ∷ line 1 2 200 8 24 ∷ line 2 3 106_000 8 24 ∷ [];
       bans = [];
     }
 
@@ -56,9 +56,9 @@ islandBytes =
     ∷ 0 ∷ 0xC0 ∷ 0xE3 ∷ 0xBE ∷ 0x03
     ∷ 0xE8 ∷ 0x07 ∷ 0xC0 ∷ 0xE3 ∷ 0xBE ∷ 0x03
     ∷ 3
-    ∷ 0 ∷ 1 ∷ 0xE8 ∷ 0x52 ∷ 3 ∷ 3 ∷ 0xC2 ∷ 0x03 ∷ 0xFA ∷ 0x01 ∷ 50 ∷ 0xFA ∷ 0x01
-    ∷ 1 ∷ 2 ∷ 0x14 ∷ 3 ∷ 3 ∷ 0xC2 ∷ 0x03 ∷ 0xFA ∷ 0x01 ∷ 50 ∷ 0xFA ∷ 0x01
-    ∷ 2 ∷ 3 ∷ 0xE8 ∷ 0x52 ∷ 3 ∷ 3 ∷ 0xC2 ∷ 0x03 ∷ 0xFA ∷ 0x01 ∷ 50 ∷ 0xFA ∷ 0x01
+    ∷ 0 ∷ 1 ∷ 0x90 ∷ 0xBC ∷ 0x06 ∷ 3 ∷ 3 ∷ 0xC2 ∷ 0x03 ∷ 0xFA ∷ 0x01 ∷ 50 ∷ 0xFA ∷ 0x01
+    ∷ 1 ∷ 2 ∷ 0xC8 ∷ 0x01 ∷ 3 ∷ 3 ∷ 0xC2 ∷ 0x03 ∷ 0xFA ∷ 0x01 ∷ 50 ∷ 0xFA ∷ 0x01
+    ∷ 2 ∷ 3 ∷ 0x90 ∷ 0xBC ∷ 0x06 ∷ 3 ∷ 3 ∷ 0xC2 ∷ 0x03 ∷ 0xFA ∷ 0x01 ∷ 50 ∷ 0xFA ∷ 0x01
     ∷ 0
     ∷ []
 
@@ -139,7 +139,7 @@ is-read work room full enough =
 
 -- One line from the one longitude to the other, on the equator, and the stretch of it.
 abbrev pub across : ℕ → ℕ → Map
-across from to = record { nodes = equator from ∷ equator to ∷ []; lines = line 0 1 1_000 8 24 ∷ []; bans = [] }
+across from to = record { nodes = equator from ∷ equator to ∷ []; lines = line 0 1 10_000 8 24 ∷ []; bans = [] }
 
 abbrev pub line-across : Stretch
 line-across = stretchOf (0 ∷ []) 0 0

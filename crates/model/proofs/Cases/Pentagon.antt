@@ -28,7 +28,7 @@ abbrev pub ring : ℕ → Map
 ring east =
     record {
       nodes = node 0 0 ∷ node 30_000 0 ∷ node 40_000 30_000 ∷ record { lon = 17_990_000; lat = 9_030_000 } ∷ node east 50_000 ∷ [];
-      lines = line 0 1 1_000 8 24 ∷ line 1 2 1_000 8 24 ∷ line 2 3 1_000 8 24 ∷ line 3 4 1_000 8 24 ∷ [];
+      lines = line 0 1 10_000 8 24 ∷ line 1 2 10_000 8 24 ∷ line 2 3 10_000 8 24 ∷ line 3 4 10_000 8 24 ∷ [];
       bans = [];
     }
 

@@ -17,8 +17,8 @@ use Rattle.model.proofs.Cases.Computing.{computing}
 use Rattle.model.proofs.Cases.Ways.{finding, connects}
 use Rattle.model.proofs.Cases.Legs.{sole, unread}
 use Rattle.model.proofs.Cases.Fields.{toAndFro, laps}
-use Rattle.model.proofs.Cases.Ridge.{mapBytes, node, line, ridge, road, threeFrom500}
-use Rattle.model.proofs.Cases.Tie.{none, from-500, writes-from-500, reads-from-500}
+use Rattle.model.proofs.Cases.Ridge.{mapBytes, node, line, ridge, road, threeFrom5000}
+use Rattle.model.proofs.Cases.Tie.{none, from-5000, writes-from-5000, reads-from-5000}
 use Rattle.model.proofs.Cases.Conditions.{detour, long}
 
 abbrev legTo : ℕ → ℕ → ℕ → ℕ → Leg
@@ -47,8 +47,8 @@ uneven =
     record {
       nodes = node 0 0 ∷ node 1_000 0 ∷ node 2_000 0 ∷ [];
       lines =
-          line 0 1 1_000 8 24
-          ∷ record { start = 1; end = 2; length = 1_000; frc = 5; fow = 3; out = 8; back = 24 }
+          line 0 1 10_000 8 24
+          ∷ record { start = 1; end = 2; length = 10_000; frc = 5; fow = 3; out = 8; back = 24 }
           ∷ [];
       bans = [];
     }
@@ -118,7 +118,7 @@ pub record Pins : Type 0 where
   pub map-rows : Reads clashing [] 14_336 0 (ReadOutcome.refused (row 6)) × Writes clashing (stretchOf [] 0 0) 0 14_336 0 (WriteOutcome.refused (row 6))
   pub stretch-rows : Writes mapBytes (stretchOf (0 ∷ 2 ∷ 1 ∷ []) 0 0) 0 14_336 0 (WriteOutcome.refused (row 8)) ×
       Writes mapBytes (stretchOf (3 ∷ 0 ∷ 1 ∷ []) 0 0) 0 14_336 0 (WriteOutcome.refused (row 8)) ×
-      Writes mapBytes (stretchOf (0 ∷ []) 1_000 0) 0 14_336 0 (WriteOutcome.refused (row 9))
+      Writes mapBytes (stretchOf (0 ∷ []) 10_000 0) 0 14_336 0 (WriteOutcome.refused (row 9))
   pub form-rows : Reads mapBytes (0x0A ∷ replicate 15 0) 14_336 0 (ReadOutcome.refused (row 13))
   -- Six bytes are no multiple of four.
   pub six-bytes : map (λ bs. checkStretch ridge (hostStretch bs 0 0)) (replicate 6 0 ∷ replicate 7 0 ∷ []) ≡ replicate 2 (StretchAnswer.refused (row 7))
@@ -144,15 +144,15 @@ pins =
       points-first = λ room. ReadOn.no-point refl;
     }
 
--- A host writes the ridge's stretch 0, 1 from 500 on with four tests into a buffer of 24 bytes, and reads it into one of 8.
-pub host-writes : HostWriteCall mapBytes (0 ∷ 0 ∷ 0 ∷ 0 ∷ 1 ∷ 0 ∷ 0 ∷ 0 ∷ []) 500 0 4 (replicate 24 7)
-    (record { refusal = 0; bytes = 24; tests = 3; excess = 0 }) threeFrom500
+-- A host writes the ridge's stretch 0, 1 from 5,000 on with four tests into a buffer of 24 bytes, and reads it into one of 8.
+pub host-writes : HostWriteCall mapBytes (0 ∷ 0 ∷ 0 ∷ 0 ∷ 1 ∷ 0 ∷ 0 ∷ 0 ∷ []) 5_000 0 4 (replicate 24 7)
+    (record { refusal = 0; bytes = 24; tests = 3; excess = 0 }) threeFrom5000
 unfolding computing
 host-writes =
-    record { answered = record { outcome = written threeFrom500 3 0; asked = writes-from-500; answers = refl; buffer-after = refl } }
+    record { answered = record { outcome = written threeFrom5000 3 0; asked = writes-from-5000; answers = refl; buffer-after = refl } }
 
-pub host-reads : HostReadCall mapBytes threeFrom500 (replicate 8 7)
-    (record { refusal = 0; place = 0; lines = 2; posLeast = 499; posGreatest = 501; negLeast = 0; negGreatest = 0 }) (0 ∷ 0 ∷ 0 ∷ 0 ∷ 1 ∷ 0 ∷ 0 ∷ 0 ∷ [])
+pub host-reads : HostReadCall mapBytes threeFrom5000 (replicate 8 7)
+    (record { refusal = 0; place = 0; lines = 2; posLeast = 4_981; posGreatest = 5_019; negLeast = 0; negGreatest = 0 }) (0 ∷ 0 ∷ 0 ∷ 0 ∷ 1 ∷ 0 ∷ 0 ∷ 0 ∷ [])
 unfolding computing
 host-reads =
-    record { answered = record { outcome = read (0 ∷ 1 ∷ []) from-500 none; asked = reads-from-500; answers = refl; buffer-after = refl } }
+    record { answered = record { outcome = read (0 ∷ 1 ∷ []) from-5000 none; asked = reads-from-5000; answers = refl; buffer-after = refl } }

@@ -75,10 +75,10 @@ pub record PointCases : Type 0 where
   pub taken-apart : parsePoint bytes ≡ parsed fields
   pub put-together : pointAlongBytes fields ≡ bytes
   -- The values of its text: latitude 49.60597, and longitude 6.12829, whose code by its own equation is one less than in the bytes; 92 m, and 28 m of them. 256 ×
-  -- 280 ÷ 920 is 77.9: it cuts that to 77, and what is written now is 78 (W6). Byte 77 is 275 to 278 then, without the 280.
+  -- 2,800 ÷ 9,200 is 77.9: it cuts that to 77, and what is written now is 78 (W6). Byte 77 is 2,750 to 2,785 then, without the 2,800.
   pub codes : code 18_000_000 18_612_829 ∷ code 9_000_000 13_960_597 ∷ [] ≡ 0x045B9F ∷ 0x23467E ∷ []
-  pub values : distance 920 ∷ offsetByte 920 280 ∷ [] ≡ 1 ∷ 78 ∷ []
-  pub its-span : SpanRead 920 (byte 77) (record { least = 275; greatest = 278 })
+  pub values : distance 9_200 ∷ offsetByte 9_200 2_800 ∷ [] ≡ 1 ∷ 78 ∷ []
+  pub its-span : SpanRead 9_200 (byte 77) (record { least = 2_750; greatest = 2_785 })
   -- Orientation and side in bits 7 and 6 of their own P, each number in its place. P's bits are never refused.
   pub marks : map (λ x. pointAlongBytes (marked x leftSide)) (0 ∷ 1 ∷ 2 ∷ 3 ∷ []) ≡
       markedBytes 0x12 0x92 ∷ markedBytes 0x52 0x92 ∷ markedBytes 0x92 0x92 ∷ markedBytes 0xD2 0x92 ∷ []
@@ -92,10 +92,10 @@ pub record PointCases : Type 0 where
   pub zero-bits : Refuses 14 (shape 16 0x2B 0 128 ∷ shape 16 0x2B 0 32 ∷ shape 17 0x2B 0 96 ∷ shape 17 0x2B 0xFF 0xFF ∷ shape 16 0x2B 0 0xC0 ∷ [])
   -- A positive flag without its byte, and a byte without its flag.
   pub flag-counts : Refuses 15 (shape 16 0x2B 0 64 ∷ shape 17 0x2B 0xFF 31 ∷ [])
-  -- As given: line 2 is 500 long. 7 before 9 before 25; 3 is the greatest mark.
-  pub no-line : Checks 7 (pointGiven 4 0 0 0 ∷ pointGiven 4_294_967_295 500 4 4 ∷ [])
-  pub outside : Checks 9 (pointGiven 2 500 0 0 ∷ pointGiven 2 4_294_967_295 4 4 ∷ [])
-  pub over-3 : Checks 25 (pointGiven 2 499 4 0 ∷ pointGiven 2 0 0 4 ∷ pointGiven 2 0 4_294_967_295 3 ∷ [])
+  -- As given: line 2 is 5,000 long. 7 before 9 before 25; 3 is the greatest mark.
+  pub no-line : Checks 7 (pointGiven 4 0 0 0 ∷ pointGiven 4_294_967_295 5_000 4 4 ∷ [])
+  pub outside : Checks 9 (pointGiven 2 5_000 0 0 ∷ pointGiven 2 4_294_967_295 4 4 ∷ [])
+  pub over-3 : Checks 25 (pointGiven 2 4_999 4 0 ∷ pointGiven 2 0 0 4 ∷ pointGiven 2 0 4_294_967_295 3 ∷ [])
   -- What a C host gets: a line, its span and its marks; a refusal with its point. The line stands in four bytes, low byte first.
   pub host-told : hostPoint (read (300 ∷ []) (record { least = 120; greatest = 121 }) bothDirections rightSide) ≡
       record { refusal = 0; place = 0; lines = 1; least = 120; greatest = 121; orientation = 3; side = 1 }
@@ -107,7 +107,7 @@ pub record PointCases : Type 0 where
       record { refusal = 10; bytes = 0 } ∷ record { refusal = 0; bytes = 3 } ∷ []
   pub byte-buffers : map (λ o. pointBytesAfter o (7 ∷ 8 ∷ 9 ∷ [])) (written (1 ∷ []) ∷ PointWriteOutcome.refused (row 11) ∷ []) ≡
       (1 ∷ 8 ∷ 9 ∷ []) ∷ (7 ∷ 8 ∷ 9 ∷ []) ∷ []
-  pub taken : map (checkPoint ridge) (pointGiven 2 499 3 3 ∷ pointGiven 3 0 0 0 ∷ []) ≡ passes ∷ passes ∷ []
+  pub taken : map (checkPoint ridge) (pointGiven 2 4_999 3 3 ∷ pointGiven 3 0 0 0 ∷ []) ≡ passes ∷ passes ∷ []
 
 pub point-cases : PointCases
 unfolding computing
@@ -117,7 +117,7 @@ point-cases =
       put-together = refl;
       codes = refl;
       values = refl;
-      its-span = spanned 920 77 275 278 (omega arith) (omega arith) (λ o g. omega arith);
+      its-span = spanned 9_200 77 2_750 2_785 (omega arith) (omega arith) (λ o g. omega arith);
       marks = refl;
       sides = refl;
       lengths = refl;
@@ -138,23 +138,23 @@ point-cases =
 -- ---- a hydrant on the ridge: on line 2, which runs north from node 1, 12 m from its start and on its right side
 
 abbrev pub hydrant : GivenPoint
-hydrant = pointGiven 2 120 noOrientation rightSide
+hydrant = pointGiven 2 1_200 noOrientation rightSide
 
 -- Longitude 1000 has code 466; D is 0, as 50 m are under 58.6; P is 3 × 8 + 3, the last one with 64 for the right side; R has the flag and sector 16; 256 ×
--- 120 ÷ 500 is 61.4.
+-- 1,200 ÷ 5,000 is 61.4.
 abbrev pub hydrantBytes : List ℕ
 hydrantBytes =
     0x2B ∷ 0 ∷ 0x01 ∷ 0xD2 ∷ 0 ∷ 0 ∷ 0 ∷ 0x1B ∷ 0x60 ∷ 0 ∷ 0 ∷ 0 ∷ 0x03 ∷ 0xE8 ∷ 0x5B ∷ 0x50 ∷ 0x3D ∷ []
 
--- A decimetre further along, 256 × 121 ÷ 500 is 61.95: 62, and not 61 (W6).
+-- Two centimetres further along, 256 × 1,202 ÷ 5,000 is 61.54: 62, and not 61 (W6).
 abbrev pub nextHydrant : GivenPoint
-nextHydrant = pointGiven 2 121 noOrientation rightSide
+nextHydrant = pointGiven 2 1_202 noOrientation rightSide
 
 abbrev pub nextBytes : List ℕ
 nextBytes = take 16 hydrantBytes ++ 0x3E ∷ []
 
 abbrev pub hydrantSpan : Span
-hydrantSpan = record { least = 119; greatest = 120 }
+hydrantSpan = record { least = 1_182; greatest = 1_201 }
 
 hydrant-only : Only ridge (legOf ridge true (2 ∷ [])) (2 ∷ [])
 unfolding computing finding
@@ -197,7 +197,7 @@ module _ (work room : ℕ) (full : workLength ≤ work) where
   unfolding computing
   hydrant-read fits =
       let spans : SpansRead ridge (lineReference (alongOf ridge hydrant)) ((2 ∷ []) ∷ []) hydrantSpan none =
-      record { pos-read = spanned 500 0x3D 119 120 (omega arith) (omega arith) (λ o g. omega arith); neg-read = unflagged } in
+      record { pos-read = spanned 5_000 0x3D 1_182 1_201 (omega arith) (omega arith) (λ o g. omega arith); neg-read = unflagged } in
       on-point-reads mapBytes hydrantBytes {a = alongOf ridge hydrant} work room _ full (on-the-ridge .map) refl
       (PointReadOn.accepted
       (ReadOn.every-leg {legs = legOf ridge true (2 ∷ []) ∷ []} refl (LegsRead.only hydrant-only LegsRead.none) (ReadEnd.accepted spans (omega arith) (omega arith))))

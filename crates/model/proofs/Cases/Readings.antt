@@ -15,7 +15,7 @@ use Rattle.model.proofs.Cases.Ridge.{node, line, road, point, leg}
 
 -- Two lines side by side with equal marks, the second one longer.
 abbrev pub pair : Map
-pair = record { nodes = node 0 0 ∷ node 1_000 0 ∷ []; lines = line 0 1 600 8 24 ∷ line 0 1 700 8 24 ∷ []; bans = [] }
+pair = record { nodes = node 0 0 ∷ node 1_000 0 ∷ []; lines = line 0 1 6_000 8 24 ∷ line 0 1 7_000 8 24 ∷ []; bans = [] }
 
 -- The longer one is a reading too: least is "with the same first line".
 pub pair-several : Several pair (leg 0 1 1 any)
@@ -29,12 +29,12 @@ pair-several =
       differ = λ e. let z : _≡_ {A = ℕ} 0 1 = cc in omega arith;
     }
 
--- A line of 100, then two side by side with equal marks, of 500 and 550, then a line more.
+-- A line of 1,000, then two side by side with equal marks, of 5,000 and 5,500, then a line more.
 abbrev pub fork : Map
 fork =
     record {
       nodes = node 0 0 ∷ node 1_000 0 ∷ node 2_000 0 ∷ node 3_000 0 ∷ [];
-      lines = line 0 1 100 8 24 ∷ line 1 2 500 8 24 ∷ line 1 2 550 8 24 ∷ line 2 3 100 8 24 ∷ [];
+      lines = line 0 1 1_000 8 24 ∷ line 1 2 5_000 8 24 ∷ line 1 2 5_500 8 24 ∷ line 2 3 1_000 8 24 ∷ [];
       bans = [];
     }
 
@@ -55,7 +55,7 @@ abbrev pub merge : Map
 merge =
     record {
       nodes = node 0 0 ∷ node 1_000 0 ∷ node 2_000 0 ∷ [];
-      lines = line 0 1 500 8 24 ∷ line 0 1 550 8 24 ∷ line 1 2 100 8 24 ∷ [];
+      lines = line 0 1 5_000 8 24 ∷ line 0 1 5_500 8 24 ∷ line 1 2 1_000 8 24 ∷ [];
       bans = [];
     }
 

@@ -1,4 +1,4 @@
--- The map and the references of paper 01, "The tie at the ridge", by computation.
+-- The map and the references of paper 01, "The tie at the ridge", "with lengths and offset tenfold" (W8), by computation.
 use Prim.Native.Nat.{ℕ, _+_}
 use mathlib.Core.Path.{_≡_, refl}
 use mathlib.Core.Bool.{true, false}
@@ -22,10 +22,10 @@ mapBytes =
     ∷ 0xE8 ∷ 0xD8 ∷ 0xCA ∷ 0x08 ∷ 0xA8 ∷ 0xB0 ∷ 0xA5 ∷ 0x04
     ∷ 0xD0 ∷ 0xE0 ∷ 0xCA ∷ 0x08 ∷ 0xC0 ∷ 0xA8 ∷ 0xA5 ∷ 0x04
     ∷ 4
-    ∷ 0 ∷ 1 ∷ 0xE8 ∷ 0x07 ∷ 3 ∷ 3 ∷ 0xC2 ∷ 0x03 ∷ 0xFA ∷ 0x01 ∷ 50 ∷ 0xFA ∷ 0x01
-    ∷ 1 ∷ 3 ∷ 0xE8 ∷ 0x07 ∷ 3 ∷ 3 ∷ 0xC2 ∷ 0x03 ∷ 0xFA ∷ 0x01 ∷ 50 ∷ 0xFA ∷ 0x01
-    ∷ 1 ∷ 2 ∷ 0xF4 ∷ 0x03 ∷ 3 ∷ 3 ∷ 0xFA ∷ 0x01 ∷ 0xC2 ∷ 0x03 ∷ 0xFA ∷ 0x01 ∷ 50
-    ∷ 2 ∷ 3 ∷ 0xF4 ∷ 0x03 ∷ 3 ∷ 3 ∷ 0x87 ∷ 0x03 ∷ 109 ∷ 50 ∷ 0x81 ∷ 0x02
+    ∷ 0 ∷ 1 ∷ 0x90 ∷ 0x4E ∷ 3 ∷ 3 ∷ 0xC2 ∷ 0x03 ∷ 0xFA ∷ 0x01 ∷ 50 ∷ 0xFA ∷ 0x01
+    ∷ 1 ∷ 3 ∷ 0x90 ∷ 0x4E ∷ 3 ∷ 3 ∷ 0xC2 ∷ 0x03 ∷ 0xFA ∷ 0x01 ∷ 50 ∷ 0xFA ∷ 0x01
+    ∷ 1 ∷ 2 ∷ 0x88 ∷ 0x27 ∷ 3 ∷ 3 ∷ 0xFA ∷ 0x01 ∷ 0xC2 ∷ 0x03 ∷ 0xFA ∷ 0x01 ∷ 50
+    ∷ 2 ∷ 3 ∷ 0x88 ∷ 0x27 ∷ 3 ∷ 3 ∷ 0x87 ∷ 0x03 ∷ 109 ∷ 50 ∷ 0x81 ∷ 0x02
     ∷ 0
     ∷ []
 
@@ -41,17 +41,17 @@ abbrev pub ridge : Map
 ridge =
     record {
       nodes = node 0 0 ∷ node 1_000 0 ∷ node 1_000 1_000 ∷ node 2_000 0 ∷ [];
-      lines = line 0 1 1_000 8 24 ∷ line 1 3 1_000 8 24 ∷ line 1 2 500 0 16 ∷ line 2 3 500 12 24 ∷ [];
+      lines = line 0 1 10_000 8 24 ∷ line 1 3 10_000 8 24 ∷ line 1 2 5_000 0 16 ∷ line 2 3 5_000 12 24 ∷ [];
       bans = [];
     }
 
--- The paper's three references: three points, the same with positive offset 500, and two points.
+-- The paper's three references: three points, the same with positive offset 5,000, and two points.
 abbrev pub threePoints : List ℕ
 threePoints =
     0x0B ∷ 0 ∷ 0 ∷ 0 ∷ 0 ∷ 0 ∷ 0 ∷ 0x1B ∷ 0x68 ∷ 0x01 ∷ 0x03 ∷ 0xE8 ∷ 0 ∷ 0 ∷ 0x1B ∷ 0x68 ∷ 0x01 ∷ 0x03 ∷ 0xE8 ∷ 0 ∷ 0 ∷ 0x1B ∷ 0x18 ∷ []
 
-abbrev pub threeFrom500 : List ℕ
-threeFrom500 =
+abbrev pub threeFrom5000 : List ℕ
+threeFrom5000 =
     0x0B ∷ 0 ∷ 0 ∷ 0 ∷ 0 ∷ 0 ∷ 0 ∷ 0x1B ∷ 0x68 ∷ 0x01 ∷ 0x03 ∷ 0xE8 ∷ 0 ∷ 0 ∷ 0x1B ∷ 0x68 ∷ 0x01 ∷ 0x03 ∷ 0xE8 ∷ 0 ∷ 0 ∷ 0x1B ∷ 0x58 ∷ 0x80 ∷ []
 
 abbrev pub twoPoints : List ℕ
@@ -90,15 +90,15 @@ tie = leg 0 3 3 (matching (road 24))
 pub record Ridge : Type 0 where
   pub map : decode mapBytes ≡ whole ridge
   pub stretch-0 : checkStretch ridge (stretch 0) ≡ remains (stretch 0)
-  pub stretch-500 : checkStretch ridge (stretch 500) ≡ remains (stretch 500)
+  pub stretch-5000 : checkStretch ridge (stretch 5_000) ≡ remains (stretch 5_000)
   pub three-parsed : parse threePoints ≡ parsed (three absent)
-  pub three-from-500-parsed : parse threeFrom500 ≡ parsed (three (byte 0x80))
+  pub three-from-5000-parsed : parse threeFrom5000 ≡ parsed (three (byte 0x80))
   pub two-parsed : parse twoPoints ≡ parsed two
   pub three-bytes : stretchBytes ridge cuts (stretch 0) ≡ threePoints
-  pub three-from-500-bytes : stretchBytes ridge cuts (stretch 500) ≡ threeFrom500
+  pub three-from-5000-bytes : stretchBytes ridge cuts (stretch 5_000) ≡ threeFrom5000
   pub two-bytes : stretchBytes ridge ((0 ∷ 1 ∷ []) ∷ []) (stretch 0) ≡ twoPoints
   pub three-located : locate ridge (three absent) ≡ located threeLegs
-  pub three-from-500-located : locate ridge (three (byte 0x80)) ≡ located threeLegs
+  pub three-from-5000-located : locate ridge (three (byte 0x80)) ≡ located threeLegs
   pub two-located : locate ridge two ≡ located (tie ∷ [])
   pub first-leg : legOf ridge false (0 ∷ []) ≡ leg 0 1 1 any
   pub last-leg : legOf ridge true (1 ∷ []) ≡ leg 1 3 1 (matching (road 24))
@@ -109,15 +109,15 @@ on-the-ridge =
     record {
       map = refl;
       stretch-0 = refl;
-      stretch-500 = refl;
+      stretch-5000 = refl;
       three-parsed = refl;
-      three-from-500-parsed = refl;
+      three-from-5000-parsed = refl;
       two-parsed = refl;
       three-bytes = refl;
-      three-from-500-bytes = refl;
+      three-from-5000-bytes = refl;
       two-bytes = refl;
       three-located = refl;
-      three-from-500-located = refl;
+      three-from-5000-located = refl;
       two-located = refl;
       first-leg = refl;
       last-leg = refl;

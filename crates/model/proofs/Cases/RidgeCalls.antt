@@ -20,11 +20,11 @@ use Rattle.model.proofs.Outcomes.{on-reads, on-writes}
 use Rattle.model.proofs.LegTests.{tests-within, good-filled}
 use Rattle.model.proofs.BestFound.{best-of-all, on-all-tests}
 use Rattle.model.proofs.Cases.Computing.{computing}
-use Rattle.model.proofs.Cases.Edges.{byte-80}
+use Rattle.model.proofs.Cases.Edges.{byte-80-on-the-ridge}
 use Rattle.model.proofs.Cases.Ways.{finding, connects}
 use Rattle.model.proofs.Cases.Legs.{reading, only, sectors}
-use Rattle.model.proofs.Cases.Ridge.{mapBytes, ridge, threePoints, threeFrom500, twoPoints, road, point, stretch, threeLegs, on-the-ridge}
-use Rattle.model.proofs.Cases.Tie.{tie-several, cut-in-two, line-1-untested, none, from-500, legs-read, spans-from-500}
+use Rattle.model.proofs.Cases.Ridge.{mapBytes, ridge, threePoints, threeFrom5000, twoPoints, road, point, stretch, threeLegs, on-the-ridge}
+use Rattle.model.proofs.Cases.Tie.{tie-several, cut-in-two, line-1-untested, none, from-5000, legs-read, spans-from-5000}
 use Rattle.model.specs.declared.ReadAnswer.the-variants as Reader
 use Rattle.model.specs.declared.WriteAnswer.the-variants as Writer
 
@@ -59,9 +59,9 @@ top-only =
     only ridge top refl (2 ∷ 3 ∷ []) (reading ridge top refl (2 ∷ 3 ∷ []) (search (connects, arith)) refl (omega arith))
     (λ r. refl, (λ r. absurd (omega (arith, sectors (r .allowed .leaves))), tt))
 
--- The three points with negative offset 500.
-abbrev pub threeTo500 : List ℕ
-threeTo500 =
+-- The three points with negative offset 5,000.
+abbrev pub threeTo5000 : List ℕ
+threeTo5000 =
     0x0B ∷ 0 ∷ 0 ∷ 0 ∷ 0 ∷ 0 ∷ 0 ∷ 0x1B ∷ 0x68 ∷ 0x01 ∷ 0x03 ∷ 0xE8 ∷ 0 ∷ 0 ∷ 0x1B ∷ 0x68 ∷ 0x01 ∷ 0x03 ∷ 0xE8 ∷ 0 ∷ 0 ∷ 0x1B ∷ 0x38 ∷ 0x80 ∷ []
 
 abbrev threeTo : Reference
@@ -82,18 +82,18 @@ module _ (work room : ℕ) (full : workLength ≤ work) where
       (ReadOn.every-leg (on-the-ridge .three-located) legs-read
       (ReadEnd.accepted (record { pos-read = unflagged; neg-read = unflagged }) (omega arith) (omega arith)))
 
-  pub three-from-500 : 2 ≤ room → Reads mapBytes threeFrom500 work room (read (0 ∷ 1 ∷ []) from-500 none)
+  pub three-from-5000 : 2 ≤ room → Reads mapBytes threeFrom5000 work room (read (0 ∷ 1 ∷ []) from-5000 none)
   unfolding computing
-  three-from-500 fits =
-      on-reads mapBytes threeFrom500 work room _ full (on-the-ridge .map) (on-the-ridge .three-from-500-parsed)
-      (ReadOn.every-leg (on-the-ridge .three-from-500-located) legs-read (ReadEnd.accepted spans-from-500 (omega arith) (omega arith)))
+  three-from-5000 fits =
+      on-reads mapBytes threeFrom5000 work room _ full (on-the-ridge .map) (on-the-ridge .three-from-5000-parsed)
+      (ReadOn.every-leg (on-the-ridge .three-from-5000-located) legs-read (ReadEnd.accepted spans-from-5000 (omega arith) (omega arith)))
 
-  pub three-to-500 : 2 ≤ room → Reads mapBytes threeTo500 work room (read (0 ∷ 1 ∷ []) none from-500)
+  pub three-to-5000 : 2 ≤ room → Reads mapBytes threeTo5000 work room (read (0 ∷ 1 ∷ []) none from-5000)
   unfolding computing
-  three-to-500 fits =
-      on-reads mapBytes threeTo500 {r = threeTo} work room _ full (on-the-ridge .map) refl
+  three-to-5000 fits =
+      on-reads mapBytes threeTo5000 {r = threeTo} work room _ full (on-the-ridge .map) refl
       (ReadOn.every-leg {legs = threeLegs} refl legs-read
-      (ReadEnd.accepted (record { pos-read = unflagged; neg-read = byte-80 }) (omega arith) (omega arith)))
+      (ReadEnd.accepted (record { pos-read = unflagged; neg-read = byte-80-on-the-ridge }) (omega arith) (omega arith)))
 
   pub over-the-top : 2 ≤ room → Reads mapBytes overTheTop work room (read (2 ∷ 3 ∷ []) none none)
   unfolding computing
@@ -120,10 +120,10 @@ module _ (work room : ℕ) (full : workLength ≤ work) where
         on-all-tests mapBytes (stretch 0) tests work room _ full (on-the-ridge .map) (on-the-ridge .stretch-0) all
         (best-of-all (good-filled ridge) cut-in-two (omega arith))
 
-    pub stretch-written-from-500 : 3 ≤ tests → 24 ≤ room → Writes mapBytes (stretch 500) tests work room (written threeFrom500 3 0)
+    pub stretch-written-from-5000 : 3 ≤ tests → 24 ≤ room → Writes mapBytes (stretch 5_000) tests work room (written threeFrom5000 3 0)
     unfolding computing
-    stretch-written-from-500 all fits =
-        on-all-tests mapBytes (stretch 500) tests work room _ full (on-the-ridge .map) (on-the-ridge .stretch-500) all
+    stretch-written-from-5000 all fits =
+        on-all-tests mapBytes (stretch 5_000) tests work room _ full (on-the-ridge .map) (on-the-ridge .stretch-5000) all
         (best-of-all (good-filled ridge) cut-in-two (omega arith))
 
     pub stretch-unfinished : tests ≤ 2 → Writes mapBytes (stretch 0) tests work room (WriteOutcome.refused (row 26))

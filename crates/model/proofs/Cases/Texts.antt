@@ -8,14 +8,14 @@ use Rattle.model.specs.Refusal.{row}
 use Rattle.model.specs.Outcome.{ReadOutcome}
 use Rattle.model.specs.Text.{decimal, text, printedLines, Prints}
 use Rattle.model.proofs.Cases.Computing.{computing}
-use Rattle.model.proofs.Cases.Ridge.{mapBytes, threeFrom500, twoPoints}
-use Rattle.model.proofs.Cases.RidgeCalls.{three-from-500, two-points}
+use Rattle.model.proofs.Cases.Ridge.{mapBytes, threeFrom5000, twoPoints}
+use Rattle.model.proofs.Cases.RidgeCalls.{three-from-5000, two-points}
 
--- lines 2 pos 499 501 neg 0 0, then a row with 0 and a row with 1.
+-- lines 2 pos 4981 5019 neg 0 0, then a row with 0 and a row with 1.
 abbrev linesAtTheRidge : List ℕ
 linesAtTheRidge =
     108 ∷ 105 ∷ 110 ∷ 101 ∷ 115 ∷ 32 ∷ 50
-    ∷ 32 ∷ 112 ∷ 111 ∷ 115 ∷ 32 ∷ 52 ∷ 57 ∷ 57 ∷ 32 ∷ 53 ∷ 48 ∷ 49
+    ∷ 32 ∷ 112 ∷ 111 ∷ 115 ∷ 32 ∷ 52 ∷ 57 ∷ 56 ∷ 49 ∷ 32 ∷ 53 ∷ 48 ∷ 49 ∷ 57
     ∷ 32 ∷ 110 ∷ 101 ∷ 103 ∷ 32 ∷ 48 ∷ 32 ∷ 48 ∷ 10
     ∷ 48 ∷ 10
     ∷ 49 ∷ 10
@@ -30,7 +30,7 @@ abbrev mapRefused : List ℕ
 mapRefused = 114 ∷ 101 ∷ 102 ∷ 117 ∷ 115 ∷ 101 ∷ 100 ∷ 32 ∷ 50 ∷ 10 ∷ []
 
 pub record Texts : Type 0 where
-  pub lines : Prints mapBytes threeFrom500 linesAtTheRidge
+  pub lines : Prints mapBytes threeFrom5000 linesAtTheRidge
   pub tie : Prints mapBytes twoPoints tieAtTheRidge
   pub map-refused : text (ReadOutcome.refused (row 2)) ≡ mapRefused
   pub number-0 : decimal 0 ≡ 48 ∷ []
@@ -43,7 +43,7 @@ pub texts : Texts
 unfolding computing
 texts =
     record {
-      lines = record { outcome = _; reads = three-from-500 workLength printedLines (omega arith) (omega arith); bytes-are = refl };
+      lines = record { outcome = _; reads = three-from-5000 workLength printedLines (omega arith) (omega arith); bytes-are = refl };
       tie = record { outcome = _; reads = two-points workLength printedLines (omega arith); bytes-are = refl };
       map-refused = refl;
       number-0 = refl;

@@ -13,14 +13,14 @@ use Rattle.model.specs.Refusal.{row, rowAt}
 use Rattle.model.specs.Outcome.{every, LegsRead, SpansRead, ReadOutcome, read, ReadEnd, ReadOn, Reads, written, WriteOutcome, WriteBy, WriteOn, Writes}
 use Rattle.model.specs.Span.{unflagged}
 use Rattle.model.proofs.Cases.Computing.{computing}
-use Rattle.model.proofs.Cases.Edges.{byte-80}
+use Rattle.model.proofs.Cases.Edges.{byte-80-on-the-ridge}
 use Rattle.model.proofs.Cases.Ways.{finding, connects}
 use Rattle.model.proofs.Legs.{not-several}
 use Rattle.model.proofs.LegTests.{good-filled, tested-filled, good-as-untested}
 use Rattle.model.proofs.BestFound.{short-of-all, best-of-all}
 use Rattle.model.proofs.Cases.Legs.{reading, only, sole, sectors}
 use Rattle.model.proofs.Cases.Cuts.{cutting, chosen, no-choice-by, passed, second-passed}
-use Rattle.model.proofs.Cases.Ridge.{mapBytes, ridge, threePoints, threeFrom500, twoPoints, road, three, stretch, cuts, leg, threeLegs, tie, on-the-ridge}
+use Rattle.model.proofs.Cases.Ridge.{mapBytes, ridge, threePoints, threeFrom5000, twoPoints, road, three, stretch, cuts, leg, threeLegs, tie, on-the-ridge}
 
 -- From node 0 to node 1 there is line 0 alone; from node 1 to node 3 lines 2, 3 leave in another sector than line 1.
 first-only : Only ridge (leg 0 1 1 any) (0 ∷ [])
@@ -67,9 +67,9 @@ pub writes : Writes mapBytes (stretch 0) 3 14_336 23 (written threePoints 3 0)
 unfolding computing
 writes = best-of-all (good-filled ridge) cut-in-two (omega arith)
 
-pub writes-from-500 : Writes mapBytes (stretch 500) 4 14_336 24 (written threeFrom500 3 0)
+pub writes-from-5000 : Writes mapBytes (stretch 5_000) 4 14_336 24 (written threeFrom5000 3 0)
 unfolding computing
-writes-from-500 = best-of-all (good-filled ridge) cut-in-two (omega arith)
+writes-from-5000 = best-of-all (good-filled ridge) cut-in-two (omega arith)
 
 pub too-few-bytes : Writes mapBytes (stretch 0) 3 14_336 22 (WriteOutcome.refused (row 11))
 unfolding computing
@@ -98,15 +98,15 @@ zero-tests = line-1-untested 0 23 (omega arith)
 abbrev pub none : Span
 none = record { least = 0; greatest = 0 }
 
-abbrev pub from-500 : Span
-from-500 = record { least = 499; greatest = 501 }
+abbrev pub from-5000 : Span
+from-5000 = record { least = 4_981; greatest = 5_019 }
 
 pub legs-read : LegsRead ridge 0 threeLegs (every cuts)
 legs-read = LegsRead.only first-only (LegsRead.only last-only LegsRead.none)
 
-pub spans-from-500 : SpansRead ridge (three (byte 0x80)) cuts from-500 none
+pub spans-from-5000 : SpansRead ridge (three (byte 0x80)) cuts from-5000 none
 unfolding computing
-spans-from-500 = record { pos-read = byte-80; neg-read = unflagged }
+spans-from-5000 = record { pos-read = byte-80-on-the-ridge; neg-read = unflagged }
 
 pub reads : Reads mapBytes threePoints 14_336 1_024 (read (0 ∷ 1 ∷ []) none none)
 unfolding computing
@@ -114,15 +114,15 @@ reads =
     ReadOn.every-leg (on-the-ridge .three-located) legs-read
     (ReadEnd.accepted (record { pos-read = unflagged; neg-read = unflagged }) (omega arith) (omega arith))
 
-pub reads-from-500 : Reads mapBytes threeFrom500 14_336 2 (read (0 ∷ 1 ∷ []) from-500 none)
+pub reads-from-5000 : Reads mapBytes threeFrom5000 14_336 2 (read (0 ∷ 1 ∷ []) from-5000 none)
 unfolding computing
-reads-from-500 =
-    ReadOn.every-leg (on-the-ridge .three-from-500-located) legs-read (ReadEnd.accepted spans-from-500 (omega arith) (omega arith))
+reads-from-5000 =
+    ReadOn.every-leg (on-the-ridge .three-from-5000-located) legs-read (ReadEnd.accepted spans-from-5000 (omega arith) (omega arith))
 
-pub too-few-lines : Reads mapBytes threeFrom500 14_336 1 (ReadOutcome.refused (row 20))
+pub too-few-lines : Reads mapBytes threeFrom5000 14_336 1 (ReadOutcome.refused (row 20))
 unfolding computing
 too-few-lines =
-    ReadOn.every-leg (on-the-ridge .three-from-500-located) legs-read (ReadEnd.no-room spans-from-500 (omega arith) (omega arith))
+    ReadOn.every-leg (on-the-ridge .three-from-5000-located) legs-read (ReadEnd.no-room spans-from-5000 (omega arith) (omega arith))
 
 -- Two points fit both ways: refusal 18 at leg 0.
 pub refuses : Reads mapBytes twoPoints 14_336 1_024 (ReadOutcome.refused (rowAt 18 0))

@@ -30,7 +30,7 @@ abbrev pub farLast : Map
 farLast =
     record {
       nodes = node 0 0 ∷ node 30_000 0 ∷ node 70_000 0 ∷ [];
-      lines = line 0 1 1_000 8 24 ∷ line 1 2 1_000 8 24 ∷ [];
+      lines = line 0 1 10_000 8 24 ∷ line 1 2 10_000 8 24 ∷ [];
       bans = [];
     }
 
@@ -67,7 +67,7 @@ abbrev pub twinsFirst : Map
 twinsFirst =
     record {
       nodes = node 0 0 ∷ node 30_000 0 ∷ node 40_000 30_000 ∷ [];
-      lines = line 0 1 1_000 8 24 ∷ line 0 1 1_000 8 24 ∷ line 1 2 1_000 8 24 ∷ [];
+      lines = line 0 1 10_000 8 24 ∷ line 0 1 10_000 8 24 ∷ line 1 2 10_000 8 24 ∷ [];
       bans = [];
     }
 

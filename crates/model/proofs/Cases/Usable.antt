@@ -28,7 +28,7 @@ abbrev pub wide : Map
 wide =
     record {
       nodes = node 0 0 ∷ node 32_767 0 ∷ node 32_768 0 ∷ [];
-      lines = line 0 1 1_000 8 24 ∷ line 1 2 1_000 8 24 ∷ [];
+      lines = line 0 1 10_000 8 24 ∷ line 1 2 10_000 8 24 ∷ [];
       bans = [];
     }
 

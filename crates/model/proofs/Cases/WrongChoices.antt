@@ -73,11 +73,11 @@ abbrev pub all-of : List ℕ → Stretch
 all-of lines = record { lines = lines; pos = 0; neg = 0 }
 
 abbrev bypassed : Stretch
-bypassed = record { lines = 0 ∷ 1 ∷ 2 ∷ []; pos = 500; neg = 250 }
+bypassed = record { lines = 0 ∷ 1 ∷ 2 ∷ []; pos = 5_000; neg = 2_500 }
 
 -- Two lines in a row, to nodes 32,768 apart: "differences fit 16 bits", and this one does not.
 abbrev pub apart : Node → Node → Map
-apart middle end = record { nodes = node 0 0 ∷ middle ∷ end ∷ []; lines = line 0 1 1_000 8 24 ∷ line 1 2 1_000 8 24 ∷ []; bans = [] }
+apart middle end = record { nodes = node 0 0 ∷ middle ∷ end ∷ []; lines = line 0 1 10_000 8 24 ∷ line 1 2 10_000 8 24 ∷ []; bans = [] }
 
 abbrev pub eastwards : Map
 eastwards = apart (node 1_000 0) (node 32_768 0)
@@ -105,12 +105,12 @@ detour-uncut =
     chosen detour (0 ∷ 2 ∷ []) ((0 ∷ 2 ∷ []) ∷ []) (record { usable = final detour-good; whole = refl })
     (λ c. Preferred.fewer (omega arith), (λ c. Preferred.same, tt))
 
--- Lines of 9000, 5000 and 5000 in a row are one leg.
+-- Lines of 90,000, 50,000 and 50,000 in a row are one leg.
 abbrev pub straight : Map
 straight =
     record {
       nodes = node 0 0 ∷ node 1_000 0 ∷ node 2_000 0 ∷ node 3_000 0 ∷ [];
-      lines = line 0 1 9_000 8 24 ∷ line 1 2 5_000 8 24 ∷ line 2 3 5_000 8 24 ∷ [];
+      lines = line 0 1 90_000 8 24 ∷ line 1 2 50_000 8 24 ∷ line 2 3 50_000 8 24 ∷ [];
       bans = [];
     }
 
@@ -128,13 +128,13 @@ straight-uncut =
     chosen straight (0 ∷ 1 ∷ 2 ∷ []) ((0 ∷ 1 ∷ 2 ∷ []) ∷ []) (record { usable = final straight-good; whole = refl })
     (λ c. Preferred.fewer (omega arith), (λ c. Preferred.fewer (omega arith), (λ c. Preferred.fewer (omega arith), (λ c. Preferred.same, tt))))
 
--- Lines 0, 1, 2 are 2000 long, but 3 is shorter than 1; and 0, 4 is 2000 long, ends at the same node, and arrives as line 2 does.
+-- Lines 0, 1, 2 are 20,000 long, but 3 is shorter than 1; and 0, 4 is 20,000 long, ends at the same node, and arrives as line 2 does.
 abbrev pub sideways : Map
 sideways =
     record {
       nodes = node 0 0 ∷ node 1_000 0 ∷ node 2_000 0 ∷ node 3_000 0 ∷ [];
       lines =
-          line 0 1 100 8 24 ∷ line 1 2 1_800 8 24 ∷ line 2 3 100 8 24 ∷ line 1 2 100 8 24 ∷ line 1 3 1_900 8 24 ∷ [];
+          line 0 1 1_000 8 24 ∷ line 1 2 18_000 8 24 ∷ line 2 3 1_000 8 24 ∷ line 1 2 1_000 8 24 ∷ line 1 3 19_000 8 24 ∷ [];
       bans = [];
     }
 
@@ -146,12 +146,12 @@ not-sideways : Good sideways true (0 ∷ 1 ∷ 2 ∷ []) → ⊥
 unfolding computing
 not-sideways g = omega (arith, g .only .reading .least (0 ∷ 3 ∷ 2 ∷ []) by-3 (refl, refl))
 
--- Lines 0, 1, 2 are 400 long and give D 0, as do 0, 3, 2, which are 300 long.
+-- Lines 0, 1, 2 are 4,000 long and give D 0, as do 0, 3, 2, which are 3,000 long.
 abbrev pub shortcut : Map
 shortcut =
     record {
       nodes = node 0 0 ∷ node 1_000 0 ∷ node 2_000 0 ∷ node 3_000 0 ∷ [];
-      lines = line 0 1 100 8 24 ∷ line 1 2 200 8 24 ∷ line 2 3 100 8 24 ∷ line 1 2 100 8 24 ∷ [];
+      lines = line 0 1 1_000 8 24 ∷ line 1 2 2_000 8 24 ∷ line 2 3 1_000 8 24 ∷ line 1 2 1_000 8 24 ∷ [];
       bans = [];
     }
 

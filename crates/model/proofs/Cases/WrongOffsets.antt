@@ -44,34 +44,34 @@ byte-left pos b tests work bytes taken are all full enough c =
 
 module _ (tests : ℕ) (work bytes : List ℕ) {work′ bytes′ : List ℕ} {a : WriteAnswer} (all : 3 ≤ tests) (full : workLength ≤ length work)
     (enough : 24 ≤ length bytes) where
-  -- 256 × 499 ÷ 1000 is 127.7: 80, and not 7F.
-  pub no-byte-rounded-down : WriteCall mapBytes (stretch 499) tests work bytes a work′ bytes′ → (getD bytes′ 23 0 ≡ 0x80 → ⊥) → ⊥
+  -- 256 × 4,981 ÷ 10,000 is 127.5: 80, and not 7F.
+  pub no-byte-rounded-down : WriteCall mapBytes (stretch 4_981) tests work bytes a work′ bytes′ → (getD bytes′ 23 0 ≡ 0x80 → ⊥) → ⊥
   unfolding computing
-  no-byte-rounded-down c other = other (byte-left 499 0x80 tests work bytes refl refl all full enough c)
+  no-byte-rounded-down c other = other (byte-left 4_981 0x80 tests work bytes refl refl all full enough c)
 
-  -- 256 × 999 ÷ 1000 is 255.7, nearest to 256: FF, and not 00.
-  pub no-wrapped-byte : WriteCall mapBytes (stretch 999) tests work bytes a work′ bytes′ → (getD bytes′ 23 0 ≡ 0xFF → ⊥) → ⊥
+  -- 256 × 9,999 ÷ 10,000 is 255.97, nearest to 256: FF, and not 00.
+  pub no-wrapped-byte : WriteCall mapBytes (stretch 9_999) tests work bytes a work′ bytes′ → (getD bytes′ 23 0 ≡ 0xFF → ⊥) → ⊥
   unfolding computing
-  no-wrapped-byte c other = other (byte-left 999 0xFF tests work bytes refl refl all full enough c)
+  no-wrapped-byte c other = other (byte-left 9_999 0xFF tests work bytes refl refl all full enough c)
 
--- Byte FF on 1000.
-last-span : SpanRead 1_000 (byte 0xFF) (span 995 999)
+-- Byte FF on 10,000.
+last-span : SpanRead 10_000 (byte 0xFF) (span 9_942 9_999)
 unfolding computing
-last-span = spanned 1_000 0xFF 995 999 (omega arith) (omega arith) (λ o g. omega arith)
+last-span = spanned 10_000 0xFF 9_942 9_999 (omega arith) (omega arith) (λ o g. omega arith)
 
-from-last : (work room : ℕ) → workLength ≤ work → 2 ≤ room → Reads mapBytes (threeWith 0xFF) work room (read (0 ∷ 1 ∷ []) (span 995 999) none)
+from-last : (work room : ℕ) → workLength ≤ work → 2 ≤ room → Reads mapBytes (threeWith 0xFF) work room (read (0 ∷ 1 ∷ []) (span 9_942 9_999) none)
 unfolding computing
 from-last work room full enough =
     on-reads mapBytes (threeWith 0xFF) {r = three (byte 0xFF)} work room _ full (on-the-ridge .map) refl
     (ReadOn.every-leg {legs = threeLegs} refl legs-read
     (ReadEnd.accepted (record { pos-read = last-span; neg-read = unflagged }) (omega arith) (omega (arith, enough))))
 
--- A bound of a 256th, as it was before, that a span's ends would keep: those of FF on 1000 are four apart.
+-- A bound of a 256th, as it was before, that a span's ends would keep: those of FF on 10,000 are 57 apart.
 pub no-bound-of-a-256th : ((leg b : ℕ) (s : Span) → SpanRead leg (byte b) s → 256 * (s .greatest - s .least) < leg) → ⊥
-no-bound-of-a-256th bound = omega (arith, bound 1_000 0xFF (span 995 999) last-span)
+no-bound-of-a-256th bound = omega (arith, bound 10_000 0xFF (span 9_942 9_999) last-span)
 
--- 998 is the greatest offset whose nearest number of 256ths is 255; 999 is written as FF too.
+-- 9,980 is the greatest offset whose nearest number of 256ths is 255; those from 9,981 on are written as FF too.
 pub no-last-span-cut : (work lines : List ℕ) {n : ℕ} {pos neg : Span} {work′ lines′ : List ℕ} → workLength ≤ length work → 2 ≤ length lines →
-    ReadCall mapBytes (threeWith 0xFF) work lines (Reader.Read n pos neg) work′ lines′ → (pos ≡ span 995 999 → ⊥) → ⊥
+    ReadCall mapBytes (threeWith 0xFF) work lines (Reader.Read n pos neg) work′ lines′ → (pos ≡ span 9_942 9_999 → ⊥) → ⊥
 no-last-span-cut work lines full enough c other =
-    other (let e = counted (0 ∷ 1 ∷ []) (span 995 999) none (from-last (length work) (length lines) full enough) c in cc)
+    other (let e = counted (0 ∷ 1 ∷ []) (span 9_942 9_999) none (from-last (length work) (length lines) full enough) c in cc)

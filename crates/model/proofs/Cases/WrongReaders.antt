@@ -14,9 +14,9 @@ use Rattle.model.specs.Refusal.{Refused, rowAt, refusalOf}
 use Rattle.model.specs.Outcome.{ReadOutcome, read, Reads}
 use Rattle.model.specs.Work.{workLength, cleared, placed}
 use Rattle.model.specs.Call.{linesAfter, ReadAnswers, ReadCall}
-use Rattle.model.proofs.Cases.Ridge.{mapBytes, threePoints, threeFrom500, twoPoints}
-use Rattle.model.proofs.Cases.Tie.{none, from-500}
-use Rattle.model.proofs.Cases.RidgeCalls.{read-as, read-answer, overTheTop, threeTo500, two-points, three-points, three-from-500, three-to-500, over-the-top}
+use Rattle.model.proofs.Cases.Ridge.{mapBytes, threePoints, threeFrom5000, twoPoints}
+use Rattle.model.proofs.Cases.Tie.{none, from-5000}
+use Rattle.model.proofs.Cases.RidgeCalls.{read-as, read-answer, overTheTop, threeTo5000, two-points, three-points, three-from-5000, three-to-5000, over-the-top}
 use Rattle.model.specs.declared.ReadAnswer.the-variants as Reader
 
 -- Where these lines and spans are the outcome, every call answers their count and the spans, and leaves the lines in its buffer.
@@ -94,17 +94,17 @@ module _ (work lines : List ℕ) (full : workLength ≤ length work) where
         let e = left (0 ∷ 1 ∷ []) none none outcome c in
         other (ap (λ (ls : List ℕ). getD ls 0 0) e, ap (λ (ls : List ℕ). getD ls 1 0) e)
 
-    -- With positive offset 500: one that gives another span than 499 to 501, or gives it for the negative offset.
+    -- With positive offset 5,000: one that gives another span than 4,981 to 5,019, or gives it for the negative offset.
     pub no-other-span : {n : ℕ} {pos neg : Span} {work′ lines′ : List ℕ} →
-        ReadCall mapBytes threeFrom500 work lines (Reader.Read n pos neg) work′ lines′ → ((pos ≡ from-500) × (neg ≡ none) → ⊥) → ⊥
+        ReadCall mapBytes threeFrom5000 work lines (Reader.Read n pos neg) work′ lines′ → ((pos ≡ from-5000) × (neg ≡ none) → ⊥) → ⊥
     no-other-span c other =
-        let e = counted (0 ∷ 1 ∷ []) from-500 none (three-from-500 (length work) (length lines) full enough) c in other (cc, cc)
+        let e = counted (0 ∷ 1 ∷ []) from-5000 none (three-from-5000 (length work) (length lines) full enough) c in other (cc, cc)
 
-    -- With negative offset 500: one that goes by the positive flag.
+    -- With negative offset 5,000: one that goes by the positive flag.
     pub no-other-negative-span : {n : ℕ} {pos neg : Span} {work′ lines′ : List ℕ} →
-        ReadCall mapBytes threeTo500 work lines (Reader.Read n pos neg) work′ lines′ → ((pos ≡ none) × (neg ≡ from-500) → ⊥) → ⊥
+        ReadCall mapBytes threeTo5000 work lines (Reader.Read n pos neg) work′ lines′ → ((pos ≡ none) × (neg ≡ from-5000) → ⊥) → ⊥
     no-other-negative-span c other =
-        let e = counted (0 ∷ 1 ∷ []) none from-500 (three-to-500 (length work) (length lines) full enough) c in other (cc, cc)
+        let e = counted (0 ∷ 1 ∷ []) none from-5000 (three-to-5000 (length work) (length lines) full enough) c in other (cc, cc)
 
     -- Over the top: one that hands back the lines of a leg in another order.
     pub no-other-order : {a : ReadAnswer} {work′ lines′ : List ℕ} → ReadCall mapBytes overTheTop work lines a work′ lines′ →

@@ -26,7 +26,7 @@ use Rattle.model.specs.declared.ReadAnswer.the-variants as Reader
 
 -- One line that leaves in a sector, and the stretch of it.
 abbrev slanted : ℕ → Map
-slanted sector = record { nodes = node 0 0 ∷ node 1_000 0 ∷ []; lines = line 0 1 1_000 sector 24 ∷ []; bans = [] }
+slanted sector = record { nodes = node 0 0 ∷ node 1_000 0 ∷ []; lines = line 0 1 10_000 sector 24 ∷ []; bans = [] }
 
 abbrev the-line : Stretch
 the-line = stretchOf (0 ∷ []) 0 0
@@ -35,7 +35,7 @@ the-line = stretchOf (0 ∷ []) 0 0
 abbrev slantedBytes : ℕ → ℕ → ℕ → ℕ → List ℕ
 slantedBytes e e′ n n′ =
     2 ∷ 0x80 ∷ 0xD1 ∷ 0xCA ∷ 0x08 ∷ 0xC0 ∷ 0xA8 ∷ 0xA5 ∷ 0x04 ∷ 0xE8 ∷ 0xD8 ∷ 0xCA ∷ 0x08 ∷ 0xC0 ∷ 0xA8 ∷ 0xA5 ∷ 0x04
-    ∷ 1 ∷ 0 ∷ 1 ∷ 0xE8 ∷ 0x07 ∷ 3 ∷ 3 ∷ e ∷ e′ ∷ n ∷ n′ ∷ 50 ∷ 0xFA ∷ 0x01 ∷ 0 ∷ []
+    ∷ 1 ∷ 0 ∷ 1 ∷ 0x90 ∷ 0x4E ∷ 3 ∷ 3 ∷ e ∷ e′ ∷ n ∷ n′ ∷ 50 ∷ 0xFA ∷ 0x01 ∷ 0 ∷ []
 
 -- (250, 1), which is 89.8 degrees, and (250, 250), which is 45.
 abbrev nearlyEast : List ℕ

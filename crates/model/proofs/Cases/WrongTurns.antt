@@ -40,7 +40,7 @@ module _ (work room : ℕ) (full : workLength ≤ work) where
       (ReadOn.every-leg {legs = tie ∷ []} refl (LegsRead.only tie-north LegsRead.none)
       (ReadEnd.accepted (record { pos-read = unflagged; neg-read = unflagged }) (omega arith) (omega arith)))
 
-  skipped-refused : (tests : ℕ) → Writes (encoded barred) (stretchOf (0 ∷ 2 ∷ 3 ∷ []) 1_000 0) tests work room (WriteOutcome.refused (row 21))
+  skipped-refused : (tests : ℕ) → Writes (encoded barred) (stretchOf (0 ∷ 2 ∷ 3 ∷ []) 10_000 0) tests work room (WriteOutcome.refused (row 21))
   unfolding computing encoding
   skipped-refused tests = rw (le-ltb work workLength full) refl
 
@@ -56,5 +56,5 @@ module _ (work lines : List ℕ) (full : workLength ≤ length work) {work′ li
 
 -- A writer that looks for bans in what an offset leaves: it would write lines 2, 3.
 pub no-skipped-ban : (tests : ℕ) (work bytes : List ℕ) {work′ bytes′ : List ℕ} {n made excess : ℕ} → workLength ≤ length work →
-    WriteCall (encoded barred) (stretchOf (0 ∷ 2 ∷ 3 ∷ []) 1_000 0) tests work bytes (Writer.Written n made excess) work′ bytes′ → ⊥
+    WriteCall (encoded barred) (stretchOf (0 ∷ 2 ∷ 3 ∷ []) 10_000 0) tests work bytes (Writer.Written n made excess) work′ bytes′ → ⊥
 no-skipped-ban tests work bytes full c = no-bytes-where-refused (row 21) (skipped-refused (length work) (length bytes) full tests) c

@@ -29,12 +29,12 @@ use Rattle.model.proofs.Cases.Tie.{none}
 use Rattle.model.proofs.Cases.WrongReaders.{counted, no-list-where-refused, only-this-refusal}
 use Rattle.model.specs.declared.ReadAnswer.the-variants as Reader
 
--- The ridge with a line of 1000 after it, from node 3 on to node 4.
+-- The ridge with a line of 10,000 after it, from node 3 on to node 4.
 abbrev pub beyond : Map
 beyond =
     record {
       nodes = node 0 0 ∷ node 1_000 0 ∷ node 1_000 1_000 ∷ node 2_000 0 ∷ node 3_000 0 ∷ [];
-      lines = line 0 1 1_000 8 24 ∷ line 1 3 1_000 8 24 ∷ line 1 2 500 0 16 ∷ line 2 3 500 12 24 ∷ line 3 4 1_000 8 24 ∷ [];
+      lines = line 0 1 10_000 8 24 ∷ line 1 3 10_000 8 24 ∷ line 1 2 5_000 0 16 ∷ line 2 3 5_000 12 24 ∷ line 3 4 10_000 8 24 ∷ [];
       bans = [];
     }
 
@@ -121,17 +121,17 @@ module _ (work lines : List ℕ) (full : workLength ≤ length work) {work′ li
       (refusalOf why ≡ rowAt 16 1 → ⊥) → ⊥
   no-point-before why c other = other (only-this-refusal (rowAt 16 1) (no-node-at-1 (length work) (length lines) full) c)
 
--- The detour with a line of 1000 after it: lines 0 and 1 are the only reading of the first leg, since line 2 is of a lower class.
+-- The detour with a line of 10,000 after it: lines 0 and 1 are the only reading of the first leg, since line 2 is of a lower class.
 abbrev pub detourBeyond : Map
 detourBeyond =
     record {
       nodes = node 0 0 ∷ node 1_000 0 ∷ node 1_000 1_000 ∷ node 2_000 0 ∷ node 3_000 0 ∷ [];
       lines =
-          line 0 1 1_000 8 24
-          ∷ line 1 3 1_000 8 24
-          ∷ record { start = 1; end = 2; length = 100; frc = 5; fow = 3; out = 0; back = 16 }
-          ∷ line 2 3 100 12 28
-          ∷ line 3 4 1_000 8 24
+          line 0 1 10_000 8 24
+          ∷ line 1 3 10_000 8 24
+          ∷ record { start = 1; end = 2; length = 1_000; frc = 5; fow = 3; out = 0; back = 16 }
+          ∷ line 2 3 1_000 12 28
+          ∷ line 3 4 10_000 8 24
           ∷ [];
       bans = [];
     }
@@ -147,7 +147,7 @@ after-detour : Only detourBeyond (leg 3 4 1 (matching (road 24))) (4 ∷ [])
 unfolding computing finding
 after-detour = sole detourBeyond (leg 3 4 1 (matching (road 24))) refl (4 ∷ []) (search (connects, arith)) refl refl
 
--- After the line of 150,000, the one of 1.
+-- After the line of 1,500,000, the one of 1.
 after-longest : Only long (leg 1 2 0 (matching (road 24))) (1 ∷ [])
 unfolding computing finding
 after-longest = sole long (leg 1 2 0 (matching (road 24))) refl (1 ∷ []) (search (connects, arith)) refl refl
@@ -192,6 +192,6 @@ module _ (work lines : List ℕ) (full : workLength ≤ length work) (enough : 3
   pub no-other-attributes : ReadCall (encoded marks) (bytesOf overMarks) work lines a work′ lines′ → (a ≡ Reader.Read 2 none none → ⊥) → ⊥
   no-other-attributes c other = other (counted (0 ∷ 1 ∷ []) none none (by-marked-line (length work) (length lines) full enough) c)
 
-  -- One that does not look as far as D says: it would find no reading of the line of 150,000.
+  -- One that does not look as far as D says: it would find no reading of the line of 1,500,000.
   pub no-shorter-limit : ReadCall (encoded long) (bytesOf overLong) work lines a work′ lines′ → (a ≡ Reader.Read 2 none none → ⊥) → ⊥
   no-shorter-limit c other = other (counted (0 ∷ 1 ∷ []) none none (by-longest (length work) (length lines) full enough) c)

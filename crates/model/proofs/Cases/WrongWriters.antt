@@ -11,8 +11,8 @@ use Rattle.model.specs.Stretch.{Stretch}
 use Rattle.model.specs.Work.{workLength, placed}
 use Rattle.model.specs.Outcome.{written, WriteOutcome, Writes}
 use Rattle.model.specs.Call.{bytesAfter, WriteAnswers, WriteCall}
-use Rattle.model.proofs.Cases.Ridge.{mapBytes, threePoints, threeFrom500, stretch}
-use Rattle.model.proofs.Cases.RidgeCalls.{write-as, write-answer, stretch-written, stretch-written-from-500}
+use Rattle.model.proofs.Cases.Ridge.{mapBytes, threePoints, threeFrom5000, stretch}
+use Rattle.model.proofs.Cases.RidgeCalls.{write-as, write-answer, stretch-written, stretch-written-from-5000}
 use Rattle.model.specs.declared.Refusal.the-variants as Why
 use Rattle.model.specs.declared.WriteAnswer.the-variants as Writer
 
@@ -71,7 +71,7 @@ module _ (tests : ℕ) (work bytes : List ℕ) (all : 3 ≤ tests) (full : workL
 
 -- With positive offset 500: a writer that flags the other offset, or gives another byte than 80.
 pub no-other-offset : (tests : ℕ) (work bytes : List ℕ) {work′ bytes′ : List ℕ} {a : WriteAnswer} → 3 ≤ tests → workLength ≤ length work →
-    24 ≤ length bytes → WriteCall mapBytes (stretch 500) tests work bytes a work′ bytes′ → ((getD bytes′ 22 0 ≡ 0x58) × (getD bytes′ 23 0 ≡ 0x80) → ⊥) → ⊥
+    24 ≤ length bytes → WriteCall mapBytes (stretch 5_000) tests work bytes a work′ bytes′ → ((getD bytes′ 22 0 ≡ 0x58) × (getD bytes′ 23 0 ≡ 0x80) → ⊥) → ⊥
 no-other-offset tests work bytes all full enough c other =
-    let e = left threeFrom500 3 0 (stretch-written-from-500 (length work) (length bytes) full tests all enough) c in
+    let e = left threeFrom5000 3 0 (stretch-written-from-5000 (length work) (length bytes) full tests all enough) c in
     other (ap (λ (bs : List ℕ). getD bs 22 0) e, ap (λ (bs : List ℕ). getD bs 23 0) e)

@@ -6,10 +6,10 @@ use Rattle.test_white_paper.proofs.show_points.Statement.{statement}
 use Rattle.test_white_paper.proofs.show_points.Tie as tie
 
 abbrev Inv-loop : tie.InvT-loop
-Inv-loop bytes points places k₀ t8 t9 t10 k = k ≤ points
+Inv-loop bytes points places k₀ t8 k = k ≤ points
 
 abbrev μ-loop : tie.MeasureT-loop
-μ-loop bytes points places k₀ t8 t9 t10 k = points - k
+μ-loop bytes points places k₀ t8 k = points - k
 
 loop-holds : tie.Need-loop-holds Inv-loop μ-loop
 loop-holds c = search needs
@@ -35,38 +35,14 @@ cast-print c = search needs
 print-requires : tie.Need-print-requires Inv-loop μ-loop
 print-requires c κs = search needs
 
-slice-aggregate-print-tenths : tie.Need-slice-aggregate-print-tenths Inv-loop μ-loop
-slice-aggregate-print-tenths c = search needs
-
-cast-print-tenths : tie.Need-cast-print-tenths Inv-loop μ-loop
-cast-print-tenths c = search needs
-
-mul-print-tenths : tie.Need-mul-print-tenths Inv-loop μ-loop
-mul-print-tenths c = search needs
-
-print-tenths-requires : tie.Need-print-tenths-requires Inv-loop μ-loop
-print-tenths-requires c κs = search needs
-
-slice-aggregate-print-tenths-2 : tie.Need-slice-aggregate-print-tenths-2 Inv-loop μ-loop
-slice-aggregate-print-tenths-2 c = search needs
-
-cast-print-tenths-2 : tie.Need-cast-print-tenths-2 Inv-loop μ-loop
-cast-print-tenths-2 c = search needs
-
-mul-print-tenths-2 : tie.Need-mul-print-tenths-2 Inv-loop μ-loop
-mul-print-tenths-2 c = search needs
-
-add-print-tenths : tie.Need-add-print-tenths Inv-loop μ-loop
-add-print-tenths c = search needs
-
-print-tenths-requires-2 : tie.Need-print-tenths-requires-2 Inv-loop μ-loop
-print-tenths-requires-2 c κs = search needs
+print-distance-requires : tie.Need-print-distance-requires Inv-loop μ-loop
+print-distance-requires c κs = search needs
 
 enum-known-arrival : tie.Need-enum-known-arrival Inv-loop μ-loop
 enum-known-arrival c = search needs
 
 add-show-point : tie.Need-add-show-point Inv-loop μ-loop
-add-show-point c = omega (arith, c .before .before .before .before .before .before .before .before .before .before .before .before .before .before .before .loop-test .taken, c .before .before .before .before .before .before .before .before .before .before .before .before .before .before .before .before .before .before .pre .few)
+add-show-point c = omega (arith, c .before .before .before .before .before .before .before .before .before .before .loop-test .taken, c .before .before .before .before .before .before .before .before .before .before .before .before .before .pre .few)
 
 show-point-requires-2 : tie.Need-show-point-requires-2 Inv-loop μ-loop
 show-point-requires-2 c κs = search needs
@@ -103,15 +79,7 @@ show-points-spec =
     slice-aggregate-print
     cast-print
     print-requires
-    slice-aggregate-print-tenths
-    cast-print-tenths
-    mul-print-tenths
-    print-tenths-requires
-    slice-aggregate-print-tenths-2
-    cast-print-tenths-2
-    mul-print-tenths-2
-    add-print-tenths
-    print-tenths-requires-2
+    print-distance-requires
     enum-known-arrival
     add-show-point
     show-point-requires-2

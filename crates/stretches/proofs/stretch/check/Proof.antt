@@ -8,6 +8,7 @@ use Rattle.work_area.specs.Area.{Held}
 use Rattle.stretches.specs.Stretch.{Known}
 use Rattle.stretches.proofs.Stretches.{known-all}
 use Rattle.stretches.proofs.Checks.{no-lines, too-many, no-such-line, not-joined, banned-turn, too-far, left}
+use Rattle.stretches.proofs.Sums.{offsets-fit}
 use borrow.Author.Needs.{needs}
 use native.Mathlib.Omega.{arith}
 use Rattle.stretches.proofs.stretch.check.Statement.{statement}
@@ -69,7 +70,7 @@ wide-requires-2 : tie.Need-wide-requires-2
 wide-requires-2 c κs = search needs
 
 add-if6 : tie.Need-add-if6
-add-if6 c = search needs
+add-if6 c = omega (arith, offsets-fit {pos = c .before .wide .result} {neg = c .wide2 .result} (omega arith) (omega arith))
 
 returns-6 : tie.Need-returns-6
 unfolding refusalOf
