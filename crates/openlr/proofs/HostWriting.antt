@@ -8,6 +8,7 @@ use lib.ListN.{length, take}
 use lib.Seq.{take-all, length-take-le}
 use lib.Dec.{ltb}
 use borrow.Author.Tests.{ltb-true, ltb-false, lt-ltb, ne-eqb}
+use Rattle.model.proofs.Answering.{told-written}
 use Rattle.model.proofs.Opened.{opens-by}
 use Rattle.model.specs.declared.Refusal.{Refusal}
 use Rattle.model.specs.declared.WriteAnswer.{WriteAnswer}
@@ -51,14 +52,6 @@ stretch-stands mb stretch ns pos neg tests work room o e h =
 
 -- ---- the answer
 
-told-written : {a : WriteAnswer} {o : WriteOutcome} {count made excess : ℕ} → WriteAnswers a o → a ≡ Written count made excess →
-    (bs : List ℕ) × (o ≡ written bs made excess) × (count ≡ length bs)
-told-written {made = made} {excess = excess} (bytes {bs = bs} {made = made′} {excess = excess′}) e =
-    let same : made′ ≡ made = cc in
-    let over : excess′ ≡ excess = cc in
-    (bs, rw (same, over) refl, cc)
-told-written refusal e = absurd (let z : _≡_ {A = ℕ} 0 1 = cc in omega arith)
-
 told-refused : {a : WriteAnswer} {o : WriteOutcome} {why : Refusal} → WriteAnswers a o → a ≡ Refused why → o ≡ WriteOutcome.refused (refusalOf why)
 told-refused bytes e = absurd (let z : _≡_ {A = ℕ} 0 1 = cc in omega arith)
 told-refused refusal e = cc
@@ -79,7 +72,7 @@ pub host-wrote-bytes : {a : WriteAnswer} {o : WriteOutcome} {count made excess :
 unfolding hostWritten
 host-wrote-bytes {made = made} {excess = excess} e h =
     let t = told-written h e in
-    ap (λ (n : ℕ). record { refusal = 0; bytes = n; tests = made; excess = excess }) (t .2) ∙ ap hostWritten (sym (t .1))
+    ap (λ (n : ℕ). record { refusal = 0; bytes = n; tests = made; excess = excess }) (sym (t .2)) ∙ ap hostWritten (sym (t .1))
 
 pub host-wrote-none : {a : WriteAnswer} {o : WriteOutcome} {why : Refusal} {n : ℕ} → a ≡ Refused why → n ≡ numberOf (refusalOf why) → WriteAnswers a o →
     record { refusal = n; bytes = 0; tests = 0; excess = 0 } ≡ hostWritten o

@@ -1,6 +1,6 @@
 -- A host's calls of the writer of points.
 use Prim.Native.Nat.{ℕ, _≤_}
-use mathlib.Core.Path.{_≡_, refl, sym, ap, subst, _∙_}
+use mathlib.Core.Path.{_≡_, sym, ap, subst, _∙_}
 use mathlib.Core.List.{List}
 use native.Mathlib.Omega.{arith}
 use lib.ListN.{length}
@@ -11,12 +11,8 @@ use Rattle.model.specs.Refusal.{numberOf, refusalOf}
 use Rattle.model.specs.Work.{workLength}
 use Rattle.model.specs.PointAlong.{longestPoint, GivenPoint, PointWriteOutcome, PointWrites, PointWriteAnswers, PointWriteAnswered}
 use Rattle.model.specs.Host.{HostPointWritten, hostPointWritten, HostPointWriteCall}
+use Rattle.model.proofs.Answering.{told-point}
 use Rattle.model.proofs.PointTrip.{point-written-few}
-
-told-written : {a : PointWriteAnswer} {o : PointWriteOutcome} {count : ℕ} → PointWriteAnswers a o → a ≡ Written count →
-    (bs : List ℕ) × (o ≡ PointWriteOutcome.written bs) × (count ≡ length bs)
-told-written (PointWriteAnswers.bytes {bs = bs}) e = (bs, refl, cc)
-told-written PointWriteAnswers.refusal e = absurd (let z : _≡_ {A = ℕ} 0 1 = cc in omega arith)
 
 told-refused : {a : PointWriteAnswer} {o : PointWriteOutcome} {why : Refusal} → PointWriteAnswers a o → a ≡ Refused why →
     o ≡ PointWriteOutcome.refused (refusalOf why)
@@ -27,7 +23,7 @@ told-refused PointWriteAnswers.refusal e = cc
 pub point-count-small : (mb : List ℕ) (p : GivenPoint) {room room′ : List ℕ} {a : PointWriteAnswer} →
     PointWriteAnswered (PointWrites mb p workLength (length room)) room room′ a → (count : ℕ) → a ≡ Written count → count ≤ longestPoint
 point-count-small mb p {room = room} d count e =
-    let t = told-written (d .answers) e in
+    let t = told-point (d .answers) e in
     let w = point-written-few mb (t .0) p workLength (length room)
     (subst (λ (o : PointWriteOutcome). PointWrites mb p workLength (length room) o) (t .1) (d .asked)) in
     omega (arith, t .2, w .1)
@@ -36,7 +32,7 @@ point-count-small mb p {room = room} d count e =
 pub host-wrote-point : {a : PointWriteAnswer} {o : PointWriteOutcome} {count : ℕ} → a ≡ Written count → PointWriteAnswers a o →
     record { refusal = 0; bytes = count } ≡ hostPointWritten o
 unfolding hostPointWritten
-host-wrote-point e h = let t = told-written h e in ap (λ (n : ℕ). record { refusal = 0; bytes = n }) (t .2) ∙ ap hostPointWritten (sym (t .1))
+host-wrote-point e h = let t = told-point h e in ap (λ (n : ℕ). record { refusal = 0; bytes = n }) (sym (t .2)) ∙ ap hostPointWritten (sym (t .1))
 
 pub host-wrote-no-point : {a : PointWriteAnswer} {o : PointWriteOutcome} {why : Refusal} {n : ℕ} → a ≡ Refused why → n ≡ numberOf (refusalOf why) →
     PointWriteAnswers a o → record { refusal = n; bytes = 0 } ≡ hostPointWritten o

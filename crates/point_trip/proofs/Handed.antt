@@ -4,13 +4,13 @@ use mathlib.Core.Path.{_≡_, refl, sym, ap, subst, _∙_}
 use mathlib.Core.List.{List}
 use native.Mathlib.Omega.{arith}
 use lib.ListN.{length, take}
-use Rattle.model.specs.PointAlong.{PointReadOutcome, read, GivenPoint, PointWriteOutcome, PointWrites, pointLinesAfter, pointBytesAfter, PointReadAnswers, PointWriteAnswers, PointReadCall, PointWriteCall}
+use Rattle.model.specs.PointAlong.{PointReadOutcome, read, GivenPoint, PointWriteOutcome, PointWrites, pointLinesAfter, pointBytesAfter, PointReadAnswers, PointReadCall, PointWriteCall}
 use Rattle.model.specs.PointTrip.{PointBack, PointsAlike}
+use Rattle.model.proofs.Answering.{told-point}
 use Rattle.model.proofs.PointTrip.{point-trip}
 use Rattle.model.specs.declared.Span.{Span}
 use Rattle.model.specs.declared.PointReadAnswer.{PointReadAnswer}
 use Rattle.model.specs.declared.PointReadAnswer.the-variants.{Read}
-use Rattle.model.specs.declared.PointWriteAnswer.{PointWriteAnswer}
 use Rattle.model.specs.declared.PointWriteAnswer.the-variants.{Written}
 use Rattle.round_trip.proofs.Wrote.{WroteBytes, bytes-first, fit}
 use Rattle.point_trip.specs.Told.{HandedBack}
@@ -19,16 +19,11 @@ use Rattle.point_trip.specs.Told.{HandedBack}
 pub record Wrote (mb : List ℕ) (p : GivenPoint) (w b b′ : List ℕ) (count : ℕ) : Type 0 where
   pub so : WroteBytes (λ bs. PointWrites mb p (length w) (length b) (PointWriteOutcome.written bs)) b b′ count
 
-written-list : {a : PointWriteAnswer} {o : PointWriteOutcome} {count : ℕ} → PointWriteAnswers a o → a ≡ Written count →
-    (bs : List ℕ) × (o ≡ PointWriteOutcome.written bs) × (length bs ≡ count)
-written-list {count = count} (PointWriteAnswers.bytes {bs = bs}) e = let size : length bs ≡ count = cc in (bs, refl, size)
-written-list PointWriteAnswers.refusal e = absurd (let z : _≡_ {A = ℕ} 0 1 = cc in omega arith)
-
 pub wrote : {mb : List ℕ} {p : GivenPoint} {w b w′ b′ : List ℕ} {count : ℕ} → PointWriteCall mb p w b (Written count) w′ b′ → Wrote mb p w b b′ count
 unfolding pointBytesAfter
 wrote {mb} {p} {w} {b} call =
     let d = call .called .answered in
-    let k = written-list (d .answers) refl in
+    let k = told-point (d .answers) refl in
     record {
       so = record {
         list = k .0;

@@ -26,6 +26,7 @@ use Rattle.model.specs.Call.{bytesAfter, WriteAnswers, WriteAnswered}
 use Rattle.model.specs.PointAlong.{shortestPoint, longestPoint, lineReference, GivenPoint, ownLeg, alongOf, givenBytes, PointWriteOutcome, PointWriteOn, pointBytesAfter, PointWriteAnswers, PointWriteAnswered}
 use Rattle.model.proofs.Joining.{as-many}
 use Rattle.model.proofs.Bytes.{byte-p}
+use Rattle.model.proofs.Answering.{told-written}
 use Rattle.model.proofs.BestFound.{ordinary-on}
 use Rattle.model.proofs.PointBytes.{point-size, few-offsets}
 use Rattle.model.proofs.PointTrip.{as-stretch}
@@ -106,15 +107,6 @@ module _ (m : Map) (p : GivenPoint) where
       absurd (omega (arith, full, h, size, line-few m p .1))
   by-refused o full (Ordinary.accepted c h) e = absurd (let z : _≡_ {A = ℕ} 0 1 = cc in omega arith)
 
-  written-list : {a : WriteAnswer} {o : WriteOutcome} {count made excess : ℕ} → WriteAnswers a o → a ≡ Written count made excess →
-      (bs : List ℕ) × (o ≡ written bs made excess) × (length bs ≡ count)
-  written-list {count = count} {made = made} {excess = excess} (WriteAnswers.bytes {bs = bs} {made = made′} {excess = excess′}) e =
-      let size : length bs ≡ count = cc in
-      let same : made′ ≡ made = cc in
-      let over : excess′ ≡ excess = cc in
-      (bs, rw (same, over) refl, size)
-  written-list WriteAnswers.refusal e = absurd (let z : _≡_ {A = ℕ} 0 1 = cc in omega arith)
-
   -- The line's bytes stand first, and so many are answered.
   pub record OwnWritten (before after : List ℕ) (count : ℕ) : Type 0 where
     pub good-line : Good m true (ownLeg p)
@@ -126,7 +118,7 @@ module _ (m : Map) (p : GivenPoint) where
       WriteAnswered (WriteOn m (ownStretch p) oneMade (length before)) before after a → a ≡ Written count made excess → OwnWritten before after count
   unfolding bytesAfter
   own-written {before} d e =
-      let k = written-list (d .answers) e in
+      let k = told-written (d .answers) e in
       let g = by-accepted (d .outcome) (one-test (d .outcome) (d .asked)) (k .1) in
       let size = ap (λ (l : List ℕ). length l) (sym (g .1)) ∙ k .2 in
       record {

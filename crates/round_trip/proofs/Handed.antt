@@ -6,14 +6,13 @@ use native.Mathlib.Omega.{arith}
 use lib.ListN.{length, take}
 use Rattle.model.specs.Stretch.{Stretch}
 use Rattle.model.specs.Outcome.{ReadOutcome, read, WriteOutcome, written, Writes}
-use Rattle.model.specs.Work.{placed}
-use Rattle.model.specs.Call.{linesAfter, bytesAfter, ReadAnswers, lines, refusal, WriteAnswers, WriteAnswered, ReadCall, WriteCall}
+use Rattle.model.specs.Call.{linesAfter, bytesAfter, ReadAnswers, lines, refusal, ReadCall, WriteCall}
 use Rattle.model.specs.Demand3.{ReadBack, Alike}
+use Rattle.model.proofs.Answering.{told-written}
 use Rattle.model.proofs.Demand3.{demand3}
 use Rattle.model.specs.declared.Span.{Span}
 use Rattle.model.specs.declared.ReadAnswer.{ReadAnswer}
 use Rattle.model.specs.declared.ReadAnswer.the-variants.{Read}
-use Rattle.model.specs.declared.WriteAnswer.{WriteAnswer}
 use Rattle.model.specs.declared.WriteAnswer.the-variants.{Written}
 use Rattle.round_trip.specs.Trip.{HandedBack}
 use Rattle.round_trip.proofs.Wrote.{WroteBytes, bytes-first, fit}
@@ -24,21 +23,12 @@ pub record Wrote (mb : List ℕ) (s : Stretch) (tests : ℕ) (w b b′ : List �
   pub excess : ℕ
   pub so : WroteBytes (λ bs. Writes mb s tests (length w) (length b) (written bs made excess)) b b′ count
 
-written-list : {a : WriteAnswer} {o : WriteOutcome} {count made excess : ℕ} → WriteAnswers a o → a ≡ Written count made excess →
-    (bs : List ℕ) × (o ≡ written bs made excess) × (length bs ≡ count)
-written-list {count = count} {made = made} {excess = excess} (WriteAnswers.bytes {bs = bs} {made = made′} {excess = excess′}) e =
-    let size : length bs ≡ count = cc in
-    let same : made′ ≡ made = cc in
-    let over : excess′ ≡ excess = cc in
-    (bs, rw (same, over) refl, size)
-written-list WriteAnswers.refusal e = absurd (let z : _≡_ {A = ℕ} 0 1 = cc in omega arith)
-
 pub wrote : {mb : List ℕ} {s : Stretch} {tests : ℕ} {w b w′ b′ : List ℕ} {count made excess : ℕ} →
     WriteCall mb s tests w b (Written count made excess) w′ b′ → Wrote mb s tests w b b′ count
 unfolding bytesAfter
 wrote {mb} {s} {tests} {w} {b} {made = made} {excess = excess} call =
     let d = call .called .answered in
-    let k = written-list (d .answers) refl in
+    let k = told-written (d .answers) refl in
     record {
       made = made;
       excess = excess;
