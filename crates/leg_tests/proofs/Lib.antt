@@ -10,3 +10,4 @@ pub mod Walking
 pub mod LeavingLists
 pub mod ArrivalLists
 pub mod Straight
+pub mod FirstLeg

@@ -1,11 +1,11 @@
 -- The tests of a stretch's legs: which of them may be used (paper 01, "What counts as a reading", last paragraph; W7: as many as may be tested).
 -- Number 65 × i + j of a table is for the leg from position `i` to position `j`, and number 65 × i for the line at position `i`.
-use Rattle.work_area.specs.Area.{searchFrom, searchTo, linesFrom, bansTo}
+use Rattle.work_area.specs.Area.{linesFrom, bansTo}
 use Rattle.work_area.specs.Mirror.{mirror}
 use Rattle.model.specs.Map.{Map}
 use Rattle.model.specs.Reading.{greatestLegLength, Leg, Allowed, Reading}
-use Rattle.model.specs.LegTests.{testedGood}
-use Prim.Native.Nat.{ℕ, _+_, _*_, _-_, _≤_, _<_}
+use Rattle.model.specs.LegTests.{turn, testedGood}
+use Prim.Native.Nat.{ℕ, _*_, _-_, _≤_, _<_}
 use mathlib.Core.Path.{_≡_}
 use mathlib.Core.Bool.{Bool, true, false}
 use mathlib.Core.Logic.{_≢_}
@@ -203,6 +203,19 @@ pub record ColumnTested (m : Map) (lines : ℕ) (s : List ℕ) (j : ℕ) (a b w 
   pub worked : Worked m lines w v
 
 -- ---- the whole table
+
+-- The first leg is marked if it is tested, and no other is.
+pub record FirstMarked (n made : ℕ) (a b : List ℕ) : Type 0 where
+  pub one : made ≤ 1
+  pub says : (i j : ℕ) → i < j → j ≤ n → Marks (turn n i (j - i) ≤ made) (mark b i j)
+  pub kept : Kept 0 (65 * n) a b
+
+-- The legs that are tested are marked where they are sole ways. Of the work area only what searches use, and the map's lines on the way, were changed.
+pub record SoleTested (m : Map) (lines : ℕ) (s : List ℕ) (made : ℕ) (a b w v : List ℕ) : Type 0 where
+  pub says : (i j : ℕ) → i < j → j ≤ length s → Marks ((turn (length s) i (j - i) ≤ made) × SoleLeg m s i j) (mark b i j)
+  pub kept : Kept 0 (65 * length s) a b
+  pub set : Set m lines v
+  pub area : Kept linesFrom bansTo w v
 
 -- Every leg whose number is 1 is a sole way.
 abbrev pub SoleLegs : Map → List ℕ → List ℕ → Type 0

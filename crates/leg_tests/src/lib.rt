@@ -18,6 +18,7 @@ use way_lengths::Terminus;
 use work_area::END;
 use work_area::SECTOR_BACK;
 ghost use mathlib.Core.Path.{_≡_};
+ghost use mathlib.Core.Logic.{_⊎_};
 ghost use Prim.Native.Nat.{_*_, _≤_, _<_};
 ghost use lib.ListN.{length};
 ghost use Rattle.model.specs.Map.{Map};
@@ -28,7 +29,7 @@ ghost use Rattle.buffers.specs.Kept.{Kept};
 ghost use Rattle.search_cells.specs.Area.{Set};
 ghost use Rattle.stretches.specs.Stretch.{Known};
 ghost use Rattle.sole_ways.specs.SoleWays.{Blank};
-ghost use Rattle.leg_tests.specs.LegTests.{Noted, NotesKept, SoleColumn, SoleLegs, ColumnTested, LegsSifted, AllTested};
+ghost use Rattle.leg_tests.specs.LegTests.{Noted, NotesKept, FirstMarked, SoleTested, SoleColumn, SoleLegs, ColumnTested, LegsSifted, AllTested};
 ghost use Rattle.leg_tests.specs.Leaving.{Leaving};
 
 mod alone;
@@ -112,6 +113,66 @@ fn sift_legs(work: &mut [u32], lines: usize, stretch: &[u32], table: &mut [u8])
     }
 }
 
+// Where the first leg is the only one to test: gives it 1 if a test may be made. A leg of one line is a sole way, since a way that goes on from its line is longer.
+fn mark_first(stretch: &[u32], tests: usize, table: &mut [u8]) -> usize
+    requires { ⌜ (0 < length (now stretch)) × (65 * length (now stretch) ≤ length (now table)) × Blank (now table) ⌝ }
+    requires { ⌜ (length (now stretch) ≤ 1) ⊎ (tests ≤ 1) ⌝ }
+    ensures { λ r. ⌜ (r ≡ testsMade (length (now (stretch .entry))) tests)
+        × FirstMarked (length (now (stretch .entry))) r (now (table .entry)) (now (table .exit)) ⌝ }
+{
+    if tests == 0 {
+        return 0;
+    }
+    table[1] = 1;
+    1
+}
+
+// Tests whether legs are sole ways, row by row on the map turned round: the tests made.
+fn test_turned(
+    work: &mut [u32],
+    lines: usize,
+    stretch: &[u32],
+    tests: usize,
+    table: &mut [u8],
+) -> usize
+    requires { ⌜ (length (now stretch) ≤ 64) × (65 * length (now stretch) ≤ length (now table)) × Blank (now table) ⌝ }
+    requires { ⌜ ((m : Map) × Set m lines (now work) × Connected m (now stretch)) ⌝ }
+    ensures { λ r. ⌜ r ≡ testsMade (length (now (stretch .entry))) tests ⌝ }
+    ensures { λ r. ⌜ ((m : Map) → Set m lines (now (work .entry)) → Connected m (now (stretch .entry))
+        → SoleTested m lines (now (stretch .entry)) r (now (table .entry)) (now (table .exit)) (now (work .entry)) (now (work .exit))) ⌝ }
+{
+    let mut arrivals: [u32; ARRIVALS_LENGTH] = [0; ARRIVALS_LENGTH];
+    list_firsts(work, lines, stretch, &mut arrivals);
+    list_nexts(work, lines, &mut arrivals);
+    turn_round(work, lines);
+    let tested = test_rows(work, lines, stretch, tests, &arrivals, table);
+    turn_round(work, lines);
+    tested
+}
+
+// The same, without a search where the first leg is the only one to test.
+fn test_sole_ways(
+    work: &mut [u32],
+    lines: usize,
+    stretch: &[u32],
+    tests: usize,
+    table: &mut [u8],
+) -> usize
+    requires { ⌜ (length (now stretch) ≤ 64) × (65 * length (now stretch) ≤ length (now table)) × Blank (now table) ⌝ }
+    requires { ⌜ ((m : Map) × Set m lines (now work) × Connected m (now stretch)) ⌝ }
+    ensures { λ r. ⌜ r ≡ testsMade (length (now (stretch .entry))) tests ⌝ }
+    ensures { λ r. ⌜ ((m : Map) → Set m lines (now (work .entry)) → Connected m (now (stretch .entry))
+        → SoleTested m lines (now (stretch .entry)) r (now (table .entry)) (now (table .exit)) (now (work .entry)) (now (work .exit))) ⌝ }
+{
+    if stretch.len() <= 1 {
+        return mark_first(stretch, tests, table);
+    }
+    if tests <= 1 {
+        return mark_first(stretch, tests, table);
+    }
+    test_turned(work, lines, stretch, tests, table)
+}
+
 // Tests as many legs of a stretch as it may, or all, in order of their start, then their end: the tests made. Number 65 * i + j of the table becomes 1 where the
 // leg from position `i` to position `j` is tested good.
 pub fn test_legs(
@@ -127,12 +188,7 @@ pub fn test_legs(
     ensures { λ r. ⌜ ((m : Map) → Set m lines (now (work .entry)) → Connected m (now (stretch .entry))
         → AllTested m lines (now (stretch .entry)) r (now (table .entry)) (now (table .exit)) (now (work .entry)) (now (work .exit))) ⌝ }
 {
-    let mut arrivals: [u32; ARRIVALS_LENGTH] = [0; ARRIVALS_LENGTH];
-    list_firsts(work, lines, stretch, &mut arrivals);
-    list_nexts(work, lines, &mut arrivals);
-    turn_round(work, lines);
-    let made = test_rows(work, lines, stretch, tests, &arrivals, table);
-    turn_round(work, lines);
+    let made = test_sole_ways(work, lines, stretch, tests, table);
     sift_legs(work, lines, stretch, table);
     made
 }

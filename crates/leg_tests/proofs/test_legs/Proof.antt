@@ -1,95 +1,24 @@
--- `test_legs` meets its contract: what the rows say on the map turned round, and the columns on the map itself, is said of the legs tested good.
-use Rattle.leg_tests.proofs.ArrivalLists.{arriving}
+-- `test_legs` meets its contract: what is said of sole ways, and of what the columns leave of them, is said of the legs tested good.
 use Rattle.leg_tests.proofs.SoleLegs.{good-sole}
-use Rattle.leg_tests.proofs.Straight.{sole-leg-alike, tested-marks, rows-straight}
+use Rattle.leg_tests.proofs.Straight.{tested-marks}
 use Rattle.leg_tests.proofs.Termini.{own-there}
 use Rattle.leg_tests.proofs.Trials.{all-known, leg-of}
-use Rattle.leg_tests.specs.LegTests.{SoleLegs}
-use Rattle.sole_ways.specs.SoleWays.{mark, Marks, Asked, SoleLeg, Arriving, RowsTested}
 use Rattle.sole_ways.proofs.Marks.{mark-sound}
-use Rattle.turning.specs.Turned.{Turned}
-use Rattle.turning.proofs.Straight.{mirrored-twice, alike-back, connected-alike, set-back}
-use Rattle.search_cells.specs.Area.{Set}
-use Rattle.work_area.specs.Mirror.{mirror}
 use Rattle.buffers.proofs.Kept.{kept-then, kept-within}
-use Rattle.model.specs.Lines.{Connected}
-use Rattle.model.specs.Map.{Map}
-use lib.ListN.{length}
-use mathlib.Core.Path.{refl, _∙_}
-use Prim.Native.Nat.{ℕ, _≤_, _<_}
 use native.Mathlib.Omega.{arith}
 use borrow.Author.Needs.{needs}
 use Rattle.leg_tests.proofs.test_legs.Statement.{statement}
 use Rattle.leg_tests.proofs.test_legs.Tie as tie
 
--- The lists of the lines that arrive are made, and the map is turned round.
-module _ (c : tie.After-turn-round) (m : Map) (set : Set m (c .before .before .before .before .before .before .before .before .before .before .before .before .before .args .lines) (c .before .before .before .before .before .before .before .before .before .before .before .before .before .args .work .now)) where
-  lists : let a = c .before .before .before .before .before .before .before .before .before .before .before .before .before .args in Arriving (mirror m) (a .lines) (a .stretch .now) (c .before .before .before .list-nexts .last .1 .1 .0)
-  lists =
-      let at-list-nexts = c .before .before .before in
-      let start = c .before .before .before .before .before .before .before .before .before .before .before .before .before in
-      arriving (start .args .stretch .now) (start .pre .0 .0) refl (at-list-nexts .before .before .before .before .list-firsts .ensures m set) (at-list-nexts .list-nexts .ensures m set)
-
-  turned : let a = c .before .before .before .before .before .before .before .before .before .before .before .before .before .args in Turned m (a .lines) (a .work .now) (c .turn-round .last .0)
-  turned = c .turn-round .ensures m set
-
--- The rows are tested there.
-module _ (c : tie.After-test-rows) (m : Map) (set : Set m (c .before .before .before .before .before .before .before .before .before .before .before .before .before .before .before .before .before .before .before .args .lines) (c .before .before .before .before .before .before .before .before .before .before .before .before .before .before .before .before .before .before .before .args .work .now)) (joint : Connected m (c .before .before .before .before .before .before .before .before .before .before .before .before .before .before .before .before .before .before .before .args .stretch .now)) where
-  rows : let a = c .before .before .before .before .before .before .before .before .before .before .before .before .before .before .before .before .before .before .before .args in
-      RowsTested (mirror m) (a .lines) (a .stretch .now) (c .test-rows .result) (a .table .now) (c .test-rows .last .1 .1 .1 .1 .1 .0) (c .before .before .before .before .before .before .turn-round .last .0) (c .test-rows .last .0)
-  rows =
-      let at-turn-round = c .before .before .before .before .before .before in
-      c .test-rows .ensures .1 (mirror m) (turned at-turn-round m set .set) (connected-alike (alike-back (mirrored-twice m)) joint) (lists at-turn-round m set)
-
-slice-aggregate-list-firsts : tie.Need-slice-aggregate-list-firsts
-slice-aggregate-list-firsts c = search needs
-
-list-firsts-requires : tie.Need-list-firsts-requires
-list-firsts-requires c κs = let p = c .before .before .before .before .before .pre in ((all-known (p .1 .1) (p .1 .2), p .0 .0, refl), (p .1 .0, p .1 .1))
-
-slice-aggregate-list-nexts : tie.Need-slice-aggregate-list-nexts
-slice-aggregate-list-nexts c = search needs
-
-list-nexts-requires : tie.Need-list-nexts-requires
-list-nexts-requires c κs = search needs
-
-turn-round-requires : tie.Need-turn-round-requires
-turn-round-requires c κs = search needs
-
-slice-aggregate-test-rows : tie.Need-slice-aggregate-test-rows
-slice-aggregate-test-rows c = search needs
-
-test-rows-requires : tie.Need-test-rows-requires
-test-rows-requires c κs =
-    let at-turn-round = c .before .before .before .before .before in
-    let p = at-turn-round .before .before .before .before .before .before .before .before .before .before .before .before .before .pre in
-    let q = p .1 in (
-      (p .0 .0, p .0 .1, all-known (q .1) (q .2), p .0 .2),
-      (mirror (q .0), turned at-turn-round (q .0) (q .1) .set, connected-alike (alike-back (mirrored-twice (q .0))) (q .2), lists at-turn-round (q .0) (q .1)),
-    )
-
-turn-round-requires-2 : tie.Need-turn-round-requires-2
-turn-round-requires-2 c κs =
-    let at-test-rows = c .before .before .before .before .before in
-    let q = at-test-rows .before .before .before .before .before .before .before .before .before .before .before .before .before .before .before .before .before .before .before .pre .1 in
-    (mirror (q .0), rows at-test-rows (q .0) (q .1) (q .2) .worked .set)
+test-sole-ways-requires : tie.Need-test-sole-ways-requires
+test-sole-ways-requires c κs = search needs
 
 sift-legs-requires : tie.Need-sift-legs-requires
 sift-legs-requires c κs =
-    let at-test-rows = c .before .before .before .before .before .before .before .before .before .before in
-    let start = at-test-rows .before .before .before .before .before .before .before .before .before .before .before .before .before .before .before .before .before .before .before in
-    let p = start .pre in
+    let p = c .before .before .before .before .before .before .before .before .before .before .before .before .pre in
     let q = p .1 in
-    let r = rows at-test-rows (q .0) (q .1) (q .2) in
-    let back = c .before .before .before .before .turn-round2 .ensures (mirror (q .0)) (r .worked .set) in (
-      (p .0 .0, omega (arith, p .0 .1, r .kept .same)),
-      (
-        q .0,
-        set-back (q .1 .held .formed) (back .set),
-        q .2,
-        λ i j h l one. mark-sound _ (rows-straight (q .0) (at-test-rows .test-rows .result) r i j h l) one .1,
-      ),
-    )
+    let t = c .before .before .before .before .before .before .test-sole-ways .ensures .1 (q .0) (q .1) (q .2) in
+    ((p .0 .0, omega (arith, p .0 .1, t .kept .same)), (q .0, t .set, q .2, λ i j h l one. mark-sound _ (t .says i j h l) one .1))
 
 same-length : tie.Need-same-length
 same-length c = search needs
@@ -99,47 +28,23 @@ same-length-2 c = search needs
 
 returns : tie.Need-returns
 returns c =
-    let at-test-rows = c .before .before .before .before .before .before .before .before .before .before .before .before .before .before .before in
-    let start = at-test-rows .before .before .before .before .before .before .before .before .before .before .before .before .before .before .before .before .before .before .before in
-    let a = start .args in
-    let p = start .pre .0 in
-    let s = a .stretch .now in
-    let made = at-test-rows .test-rows .result in (
-      at-test-rows .test-rows .ensures .0,
+    let start = c .before .before .before .before .before .before .before .before .before .before .before .before .before .before .before .before .before in
+    let s = start .args .stretch .now in
+    let tested = c .before .before .before .before .before .before .before .before .before .before .before .test-sole-ways in (
+      tested .ensures .0,
       λ m set joint.
-          let r = rows at-test-rows m set joint in
-          let there = turned (at-test-rows .before .before .before .before .before .before) m set in
-          let back = c .before .before .before .before .before .before .before .before .before .turn-round2 .ensures (mirror m) (r .worked .set) in
-          let now-set = set-back (set .held .formed) (back .set) in
-          let straight = rows-straight m made r in
-          let k = c .before .before .before .before .sift-legs .ensures m now-set joint (λ i j h l one. mark-sound _ (straight i j h l) one .1) in
-          let known = all-known set joint in
+          let t = tested .ensures .1 m set joint in
+          let k = c .before .before .before .before .sift-legs .ensures m (t .set) joint (λ i j h l one. mark-sound _ (t .says i j h l) one .1) in
           record {
             tested = λ i j h l.
-                tested-marks s made i j h l
-                (λ g. good-sole (leg-of set joint (p .0) h l) (own-there (set .held) s known j (omega arith) l .1) g)
-                (straight i j h l) (k .tested i j h l);
-            kept = kept-then (r .kept) (k .kept);
+                tested-marks s (tested .result) i j h l
+                (λ g. good-sole (leg-of set joint (start .pre .0 .0) h l) (own-there (set .held) s (all-known set joint) j (omega arith) l .1) g)
+                (t .says i j h l) (k .tested i j h l);
+            kept = kept-then (t .kept) (k .kept);
             set = k .worked .set;
-            area = kept-then (there .kept)
-                (kept-then (kept-within (omega arith) (omega arith) (r .worked .kept))
-                (kept-then (back .kept) (kept-within (omega arith) (omega arith) (k .worked .kept))));
+            area = kept-then (t .area) (kept-within (omega arith) (omega arith) (k .worked .kept));
           },
     )
 
 pub test-legs-spec : {M : Type 1} → statement M
-test-legs-spec =
-    tie.close
-    (tie.spec
-    slice-aggregate-list-firsts
-    list-firsts-requires
-    slice-aggregate-list-nexts
-    list-nexts-requires
-    turn-round-requires
-    slice-aggregate-test-rows
-    test-rows-requires
-    turn-round-requires-2
-    sift-legs-requires
-    same-length
-    same-length-2
-    returns)
+test-legs-spec = tie.close (tie.spec test-sole-ways-requires sift-legs-requires same-length same-length-2 returns)
