@@ -3,6 +3,8 @@ pub mod Slices
 pub mod Sums
 pub mod Sole
 pub mod Steps
+pub mod Walls
+pub mod Walking
 pub mod Parts
 pub mod Working
 pub mod Going

@@ -1,6 +1,6 @@
 -- The legs of a row while one after another is tested.
 use Prim.Native.Nat.{ℕ, _+_, _*_, _-_, _≤_, _<_}
-use mathlib.Core.Path.{_≡_, refl, sym, _∙_, ap, subst}
+use mathlib.Core.Path.{_≡_, sym, _∙_, subst}
 use mathlib.Core.Bool.{true, false}
 use mathlib.Core.List.{List}
 use native.Mathlib.Omega.{arith}
@@ -8,7 +8,7 @@ use lib.ListN.{length, getD, set}
 use lib.Seq.{slice}
 use Rattle.model.specs.Map.{Map}
 use Rattle.model.specs.Reading.{greatestLegLength}
-use Rattle.model.specs.Lines.{Connected, total}
+use Rattle.model.specs.Lines.{Connected, total, lowest}
 use Rattle.buffers.specs.Kept.{Kept}
 use Rattle.buffers.specs.Decides.{Decides}
 use Rattle.buffers.proofs.Kept.{kept-then}
@@ -19,11 +19,14 @@ use Rattle.way_lengths.specs.Ways.{line}
 use Rattle.sole_ways.specs.declared.part.Part.{Part}
 use Rattle.sole_ways.specs.declared.ahead.Along.{Along}
 use Rattle.sole_ways.specs.declared.test.SoleTest.{SoleTest}
-use Rattle.sole_ways.specs.SoleWays.{mark, SoleLeg, SoleWay, ownEnd, Measures, OneMore, Worked, Follows, FollowsIf, OnTrial, LegTested, RowBefore, RowCleared, RowTested}
+use Rattle.sole_ways.specs.declared.wall.Wall.{Wall}
+use Rattle.sole_ways.specs.SoleWays.{mark, SoleLeg, SoleWay, ownEnd, noneFrom, Measures, OneMore, Worked, Follows, FollowsIf, OnTrial, LegTested, WalledIf, Bars, RowBefore, RowCleared, RowTested}
 use Rattle.sole_ways.proofs.Sole.{next-sole, none-further, none-longer}
+use Rattle.sole_ways.proofs.Slices.{lowest-then}
+use Rattle.sole_ways.proofs.Walls.{barred}
 use Rattle.sole_ways.proofs.Working.{worked-none, worked-then}
 use Rattle.sole_ways.proofs.Parts.{measures-none}
-use Rattle.sole_ways.proofs.Rows.{RowUpTo, row-start, row-yes, row-no, row-stop}
+use Rattle.sole_ways.proofs.Rows.{RowUpTo, row-yes, row-no, row-stop}
 
 -- The legs up to the end of a part are tested.
 pub record InRow (m : Map) (lines : ℕ) (s : List ℕ) (i end : ℕ) (a b w v : List ℕ) (along : Along) (p : Part) : Type 0 where
@@ -34,7 +37,7 @@ pub record InRow (m : Map) (lines : ℕ) (s : List ℕ) (i end : ℕ) (a b w v :
   pub worked : Worked m lines w v
 
 pub in-row-start : {m : Map} {lines : ℕ} (s : List ℕ) {i end : ℕ} {a w : List ℕ} → i ≤ length s → RowUpTo (mirror m) s i end a a i → Set m lines w →
-    InRow m lines s i end a a w w (record { class = 0; limit = 0; to = 0 }) (record { from = i; to = i; class = 0; length = 0 })
+    InRow m lines s i end a a w w (record { class = 0; limit = 0; to = 0 }) (noneFrom i)
 in-row-start {m} s {i = i} h row set =
     record { measured = measures-none (mirror m) s i h; row = row; start = omega arith; follows = λ some. absurd (omega arith); worked = worked-none set }
 
@@ -80,6 +83,14 @@ module _ {m : Map} {lines : ℕ} {s : List ℕ} {i end : ℕ} {a b w v : List �
   in-row-long long =
       row-stop (k .row) (k .worked)
       (λ q h l. none-longer s joint i (r .to) q (omega (arith, to-is, after)) (omega (arith, to-is, h)) (omega (arith, l, inside)) (omega (arith, sum, long)))
+
+  -- It has another way that is as short: so have the later ones.
+  pub in-row-barred : {wall : Wall} → WalledIf (mirror m) s wall → Bars wall r → RowTested m lines s i end a b w v
+  in-row-barred walled (some, from, to, class) =
+      let classes = subst (λ (x : ℕ). r .class ≡ lowest (mirror m) (slice x (r .to) s)) from-is (next .classes) in
+      row-stop (k .row) (k .worked)
+      (λ q h l. barred s joint (walled some) i q (omega (arith, from, from-is)) (omega (arith, to, to-is, h)) (omega (arith, l, inside))
+      (omega (arith, class, classes, lowest-then (mirror m) s i (r .to) q (omega (arith, to-is, after)) (omega (arith, to-is, h)) (omega (arith, l, inside)))))
 
   -- It is tested.
   module _ {u : List ℕ} {t : SoleTest} (short : r .length ≤ greatestLegLength) (tested : LegTested m lines s r v u t) where

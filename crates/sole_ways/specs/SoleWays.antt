@@ -6,7 +6,7 @@ use Rattle.model.specs.Map.{Map}
 use Rattle.model.specs.Reading.{greatestLegLength}
 use Prim.Native.Nat.{ℕ, _+_, _*_, _-_, _≤_, _<_, max}
 use mathlib.Core.Path.{_≡_}
-use mathlib.Core.Bool.{cond, true, false}
+use mathlib.Core.Bool.{cond, false}
 use mathlib.Core.Logic.{_≢_}
 use mathlib.Core.List.{List}
 use lib.ListN.{length, getD}
@@ -23,6 +23,8 @@ use Rattle.stretches.specs.Stretch.{Known}
 use Rattle.sole_ways.specs.declared.part.Part.{Part}
 use Rattle.sole_ways.specs.declared.ahead.Along.{Along}
 use Rattle.sole_ways.specs.declared.test.SoleTest.{SoleTest}
+use Rattle.sole_ways.specs.declared.wall.Wall.{Wall}
+use Rattle.model.specs.Lines as model
 
 -- The number of a leg in a table: number 65 × i + j is for the leg from position `i` to position `j`.
 abbrev pub mark : List ℕ → ℕ → ℕ → ℕ
@@ -57,6 +59,10 @@ pub record Measures (m : Map) (s : List ℕ) (p : Part) : Type 0 where
   pub inside : p .to ≤ length s
   pub classes : p .class ≡ lowest m (slice (p .from) (p .to) s)
   pub sum : p .length ≡ total m (slice (p .from) (p .to) s)
+
+-- The part from a position that has no line yet.
+abbrev pub noneFrom : ℕ → Part
+noneFrom i = record { from = i; to = i; class = 0; length = 0 }
 
 -- A part with one line more.
 pub record OneMore (p r : Part) : Type 0 where
@@ -154,6 +160,34 @@ pub record LegTested (m : Map) (lines : ℕ) (s : List ℕ) (p : Part) (w v : Li
   pub start : r .along .to ≤ p .to
   pub broken : r .sole ≡ false → r .along .to < p .to → SoleWay (mirror m) (slice (p .from) (p .to) s) (line (getD s (p .to - 1) 0)) → ⊥
   pub worked : Worked m lines w v
+
+-- ---- walls
+
+-- Another line than the stretch's own may stand before that at position `to`, and is as near.
+pub record Joins (m : Map) (lines : ℕ) (s : List ℕ) (to : ℕ) (w : List ℕ) (last : ℕ) : Type 0 where
+  pub known : last < lines
+  pub follows : model.Follows (mirror m) last (getD s to 0)
+  pub differs : last ≢ getD s (to - 1) 0
+  pub near : lengthTo w last ≤ lengthTo w (getD s (to - 1) 0)
+
+-- From the line at position `from` some way comes to such a line, and is no longer than the stretch up to position `to`.
+pub record Walled (m : Map) (s : List ℕ) (wall : Wall) : Type 0 where
+  pub ordered : wall .from < wall .to
+  pub inside : wall .to < length s
+  pub last : ℕ
+  pub other : List ℕ
+  pub way : Way m (wall .class) (line (getD s (wall .from) 0)) (line last) other
+  pub follows : model.Follows m last (getD s (wall .to) 0)
+  pub differs : last ≢ getD s (wall .to - 1) 0
+  pub short : total m other ≤ total m (slice (wall .from) (wall .to) s)
+
+-- The same where some wall is known: `to` is not 0.
+abbrev pub WalledIf : Map → List ℕ → Wall → Type 0
+WalledIf m s wall = 0 < wall .to → Walled m s wall
+
+-- The part has both ends of the way, and a class that allows it.
+abbrev pub Bars : Wall → Part → Type 0
+Bars wall p = (0 < wall .to) × (p .from ≤ wall .from) × (wall .to ≤ p .to) × (wall .class ≤ p .class)
 
 -- ---- a row of legs
 

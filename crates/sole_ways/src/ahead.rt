@@ -24,6 +24,12 @@ pub struct Along {
     pub to: usize,
 }
 
+pub const NOT_SEARCHED: Along = Along {
+    class: 0,
+    limit: 0,
+    to: 0,
+};
+
 // A length, or the greatest that a leg can have where that is less.
 fn within_leg(len: u32) -> u32
     ensures { λ r. ⌜ r ≡ min len greatestLegLength ⌝ }

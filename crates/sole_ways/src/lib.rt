@@ -2,7 +2,9 @@
 // their end, row by row, by searches from the first line of a row. A search serves many legs of its row, and a leg that is a sole way tells so of those that start later and
 // end where it does.
 use model::limits::GREATEST_LEG_LENGTH;
+use row::Row;
 use row::test_row;
+use wall::NO_WALL;
 ghost use mathlib.Core.Path.{_≡_};
 ghost use Prim.Native.Nat.{_+_, _*_, _≤_, _<_, min};
 ghost use lib.ListN.{length};
@@ -19,6 +21,7 @@ pub mod along;
 mod part;
 pub mod row;
 mod test;
+mod wall;
 
 // How long the legs of the first row are guessed to get: 1 km, a fifteenth of the longest leg.
 const FIRST_REACH: u32 = GREATEST_LEG_LENGTH / 15;
@@ -49,14 +52,17 @@ pub fn test_rows(
         → RowsTested m lines (now (stretch .entry)) r (now (table .entry)) (now (table .exit)) (now (work .entry)) (now (work .exit))) ⌝ }
 {
     let mut left = tests;
-    let mut reach = FIRST_REACH;
+    let mut row = Row {
+        reach: FIRST_REACH,
+        wall: NO_WALL,
+    };
     let mut i: usize = 0;
     while i < stretch.len() {
         if left == 0 {
             return tests;
         }
         let end = row_end(i, stretch.len(), left);
-        reach = test_row(work, lines, stretch, i, end, arrivals, reach, table);
+        row = test_row(work, lines, stretch, i, end, arrivals, row, table);
         left -= end - i;
         i += 1;
     }

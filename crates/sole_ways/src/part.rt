@@ -3,6 +3,7 @@ use stretches::lines::field_of;
 use stretches::lines::greater;
 use work_area::FRC;
 use work_area::LENGTH;
+ghost use mathlib.Core.Path.{_≡_};
 ghost use Prim.Native.Nat.{_≤_, _<_};
 ghost use lib.ListN.{length};
 ghost use Rattle.model.specs.Map.{Map};
@@ -10,13 +11,25 @@ ghost use Rattle.model.specs.Reading.{greatestLegLength};
 ghost use Rattle.work_area.specs.Area.{Held};
 ghost use Rattle.work_area.specs.Mirror.{mirror};
 ghost use Rattle.stretches.specs.Stretch.{Known};
-ghost use Rattle.sole_ways.specs.SoleWays.{Measures, OneMore};
+ghost use Rattle.sole_ways.specs.SoleWays.{noneFrom, Measures, OneMore};
 
 pub struct Part {
     pub from: usize,
     pub to: usize,
     pub class: u32,
     pub length: u32,
+}
+
+// The part from position `i` that has no line yet.
+pub fn none_from(i: usize) -> Part
+    ensures { λ r. ⌜ r ≡ noneFrom i ⌝ }
+{
+    Part {
+        from: i,
+        to: i,
+        class: 0,
+        length: 0,
+    }
 }
 
 // The part with the next line of the stretch.
