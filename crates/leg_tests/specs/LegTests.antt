@@ -210,7 +210,7 @@ pub record FirstMarked (n made : ℕ) (a b : List ℕ) : Type 0 where
   pub says : (i j : ℕ) → i < j → j ≤ n → Marks (turn n i (j - i) ≤ made) (mark b i j)
   pub kept : Kept 0 (65 * n) a b
 
--- The legs that are tested are marked where they are sole ways. Of the work area only what searches use, and the map's lines on the way, were changed.
+-- The legs that are tested are marked where they are sole ways. Before the map's lines and past the banned turns the work area is as it was.
 pub record SoleTested (m : Map) (lines : ℕ) (s : List ℕ) (made : ℕ) (a b w v : List ℕ) : Type 0 where
   pub says : (i j : ℕ) → i < j → j ≤ length s → Marks ((turn (length s) i (j - i) ≤ made) × SoleLeg m s i j) (mark b i j)
   pub kept : Kept 0 (65 * length s) a b

@@ -17,13 +17,12 @@ use Rattle.way_lengths.specs.Ways.{line, node, Ends, Way}
 use Rattle.sole_ways.specs.SoleWays.{SoleUnder, SoleWay, ownEnd, SoleLeg}
 use Rattle.sole_ways.proofs.Slices.{slice-then, first-of-slice, last-of-slice, total-then, lowest-then, lowest-join, slice-connected, connected-other, connected-for}
 
--- A lesser class has fewer ways.
+-- A way of a class is one of a greater class, so a lesser class has fewer ways.
+pub way-wider : {m : Map} {c d : ℕ} {from to : Terminus} {ls : List ℕ} → c ≤ d → Way m c from to ls → Way m d from to ls
+way-wider h w = record { connected = w .connected; starts = w .starts; ends = w .ends; classes = omega (arith, w .classes) }
+
 pub sole-lower : {m : Map} {c d : ℕ} {ls : List ℕ} {to : Terminus} → c ≤ d → SoleUnder m d ls to → SoleUnder m c ls to
-sole-lower h s =
-    record {
-      only = λ other way short. s .only other
-          (record { connected = way .connected; starts = way .starts; ends = way .ends; classes = omega (arith, way .classes) }) short;
-    }
+sole-lower {d = d} h s = record { only = λ other way short. s .only other (way-wider {d = d} h way) short }
 
 module _ {m : Map} {c : ℕ} {to : Terminus} (front ls : List ℕ) (some : 0 < length front) (more : 0 < length ls) (joint : Connected m (front ++ ls)) where
   -- The later lines of a sole way are one.

@@ -17,11 +17,7 @@ use Rattle.way_lengths.proofs.Plain.{total-more, way-more, same-before}
 use Rattle.sole_ways.specs.declared.wall.Wall.{Wall}
 use Rattle.sole_ways.specs.SoleWays.{SoleUnder, SoleLeg, Walled}
 use Rattle.sole_ways.proofs.Slices.{slice-then, first-of-slice, last-of-slice, slice-more, total-slice-more, lowest-then, lowest-slice-more, slice-connected, next-follows}
-use Rattle.sole_ways.proofs.Sole.{sole-later, sole-upto, own-ends}
-
--- A way of a class is one of a greater class.
-way-wider : {m : Map} {c d : ℕ} {from to : Terminus} {ls : List ℕ} → c ≤ d → Way m c from to ls → Way m d from to ls
-way-wider h w = record { connected = w .connected; starts = w .starts; ends = w .ends; classes = omega (arith, w .classes) }
+use Rattle.sole_ways.proofs.Sole.{way-wider, sole-later, sole-upto, own-ends}
 
 module _ {m : Map} (s : List ℕ) (joint : Connected m s) where
   -- A part that is sole is so from each of its positions.
