@@ -3,12 +3,12 @@
 # `make bench` measures against plain Rust (`make bench ROWS=read`: of one kind; `make bench ROWS=worst`: maps made against reader and writer, which no
 # other run has and which may take minutes),
 # `make count` counts the proved writer's searches and leg tests, `make host` runs a C host on the ridge and on the islands,
-# `make hydrant` one that marks a hydrant on the ridge,
+# `make hydrant` one that marks a hydrant on the ridge, `make morning` one that sends several stretches of the ridge in one message,
 # `make test-host` tests the C functions, `make test-plain` tests plain Rust and holds it to the stored cases,
 # `make differential` holds the C functions to plain Rust (`make differential CALLS=1000000 SEED=2`),
 # `make counts` counts definitions, code, proofs and tests, `make contracts` prints every function's contract (`make contracts SINCE=REVISION`: what changed in
 # them), `make figures` makes docs/FIGURES.md anew.
-.PHONY: ridge ridge-ban islands test bench count archive host hydrant test-host test-plain differential counts contracts figures
+.PHONY: ridge ridge-ban islands test bench count archive host hydrant morning test-host test-plain differential counts contracts figures
 .DELETE_ON_ERROR:
 
 CALLS = 400000
@@ -39,7 +39,7 @@ target/bin/openlr_show: $(SOURCES)
 test:
 	bash .ci/run
 
-bench: target/staticlib/libmeasured.a
+bench: target/staticlib/libmeasured.a $(ARCHIVE)
 	$(CARGO) run --release $(PLAIN) --features measured --bin bench -- $(ROWS)
 
 count:
@@ -69,18 +69,29 @@ hydrant: $(ARCHIVE)
 	$(CC) $(C_FLAGS) -O2 -o target/host/hydrant examples/hydrant.c $(ARCHIVE)
 	target/host/hydrant $(HYDRANT)
 
+# Lines 0 and 1, lines 2 and 3, and line 0 alone.
+MORNING = examples/ridge/map.bin 0,1 2,3 0
+
+morning: $(ARCHIVE)
+	mkdir -p target/host
+	$(CC) $(C_FLAGS) -O2 -o target/host/morning examples/morning.c $(ARCHIVE)
+	target/host/morning $(MORNING)
+
 test-host: $(ARCHIVE) target/bin/openlr_show target/host/stack
 	mkdir -p target/host
 	$(CC) $(C_FLAGS) $(SANITIZED) -o target/host/read tests/host_read.c $(ARCHIVE)
 	$(CC) $(C_FLAGS) $(SANITIZED) -o target/host/write tests/host_write.c $(ARCHIVE)
 	$(CC) $(C_FLAGS) $(SANITIZED) -o target/host/point tests/host_point.c $(ARCHIVE)
+	$(CC) $(C_FLAGS) $(SANITIZED) -o target/host/message tests/host_message.c $(ARCHIVE)
 	$(CC) $(C_FLAGS) $(SANITIZED) -o target/host/header tests/host_header.c
 	$(CC) $(C_FLAGS) $(SANITIZED) -o target/host/answer tests/answer.c $(ARCHIVE)
 	$(CC) $(C_FLAGS) $(SANITIZED) -o target/host/host examples/host.c $(ARCHIVE)
 	$(CC) $(C_FLAGS) $(SANITIZED) -o target/host/hydrant examples/hydrant.c $(ARCHIVE)
+	$(CC) $(C_FLAGS) $(SANITIZED) -o target/host/morning examples/morning.c $(ARCHIVE)
 	target/host/read
 	target/host/write
 	target/host/point
+	target/host/message
 	target/host/header
 	target/host/stack
 	if command -v $(CXX) >/dev/null; then $(CXX) $(CXX_FLAGS) -o target/host/cpp tests/host.cpp $(ARCHIVE) && target/host/cpp; \
@@ -91,6 +102,8 @@ test-host: $(ARCHIVE) target/bin/openlr_show target/host/stack
 	diff target/host/printed tests/host_islands.txt
 	target/host/hydrant $(HYDRANT) >target/host/printed
 	diff target/host/printed tests/hydrant_ridge.txt
+	target/host/morning $(MORNING) >target/host/printed
+	diff target/host/printed tests/morning_ridge.txt
 	python3 oracle/check_host.py target/host/answer 500
 	python3 oracle/check_format_page.py target/host/answer
 

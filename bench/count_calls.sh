@@ -18,6 +18,8 @@ rm "$copy/$clang"
 printf '#!/bin/sh\nexec "%s" "$@" -O0\n' "$toolchain/$clang" >"$copy/$clang"
 chmod +x "$copy/$clang"
 
+# The benchmark links the archive for C too. Nothing of it is counted.
+make --no-print-directory archive >/dev/null
 RATTLE_HOME=$copy rt staticlib measured >/dev/null
 cargo build --release --offline --quiet --manifest-path bench/Cargo.toml --target-dir target/count --features measured --bin bench
 cat >"$copy/count.py" <<'END'

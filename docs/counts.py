@@ -26,9 +26,12 @@ def counts():
     written, points_told = stored_cases("test_writes"), stored_cases("test_points")
     before = sum(lines_of(f"model/specs/{name}.antt") for name in ("AsBefore", "Tenfold"))
     points = sum(lines_of(f"model/specs/{name}.antt") for name in ("PointAlong", "PointTrip", "HostPointTrip"))
+    messages = sum(lines_of(f"model/specs/{name}.antt") for name in ("Message", "MessageCall", "MessageHistory", "HostMessage"))
     promises = lines_of("model/specs/**/*.antt")
-    yield "lines of definitions that demand 3 rests on (crates/model/specs without AsBefore, Tenfold and points)", promises - before - points
+    rest = promises - before - points - messages
+    yield "lines of definitions that demand 3 rests on (crates/model/specs without AsBefore, Tenfold, points and messages)", rest
     yield "lines of definitions that the claim of points needs besides (PointAlong, PointTrip, HostPointTrip)", points
+    yield "lines of definitions of messages (Message, MessageCall, MessageHistory, HostMessage)", messages
     yield "lines of all definitions (crates/*/specs)", lines_of("*/specs/**/*.antt")
     yield "lines of code (crates/*/src)", lines_of("*/src/**/*.rt")
     yield "lines of proofs (crates/*/proofs)", lines_of("*/proofs/**/*.antt")
@@ -40,6 +43,7 @@ def counts():
     yield "of these accepted, and read back", sum(row.startswith("bytes ") for row in written)
     yield "stored cases: points, read and written", len(points_told)
     yield "of these written, accepted, and read back", sum(row.startswith("bytes ") for row in points_told)
+    yield "stored cases: calls of messages", len(stored_cases("test_messages"))
     yield "tests of the unrelated implementation (oracle)", sum(len(re.findall(r"^    def test_", path.read_text(), re.MULTILINE))
                                                                for path in (ROOT / "oracle").glob("test_*.py"))
     yield "random calls in the gate (make differential)", int(re.search(r"^CALLS = (\d+)", (ROOT / "Makefile").read_text(), re.MULTILINE)[1])

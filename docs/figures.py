@@ -33,6 +33,8 @@ one end too: only there has anything to be searched for.
 A row of offsets is of all spans or bytes that it names, each by a call of its own: 256 spans to a leg, and a byte for each offset.
 A row of "tests" writes stretches of 64 lines, which have 2,080 legs, with so many leg tests; the other rows of stretches have tests for all. Many calls with
 few tests are refused. Plain Rust answers what the tests would give and makes only those that matter to it.
+A row of messages is of the C functions, which both sides are called as: of so many calls where it names a number of them, else of one whole message. A morning
+puts as many references as fit into a message, each at once, and asks for every one of them.
 """
 
 SEARCHES = """\
@@ -86,7 +88,7 @@ def with_commas(text):
 
 def calls_table(rows):
     calls = [row for row in rows if not row[0].startswith("search")]
-    calls.sort(key=lambda row: ("decode", "read", "write", "read point", "write point", "offsets").index(row[0].split(",")[0]))
+    calls.sort(key=lambda row: ("decode", "read", "write", "read point", "write point", "offsets", "message").index(row[0].split(",")[0]))
     return table(["call", "proved µs", "plain µs", "ratio"], [[with_commas(row[0])] + row[1:] for row in calls])
 
 

@@ -10,11 +10,6 @@
 static const char *const orientations[] = {"none or unknown", "from the first point to the second", "from the second point to the first", "both directions"};
 static const char *const sides[] = {"on the road or unknown", "right", "left", "both sides"};
 
-static int refused(const char *who, uint32_t refusal) {
-    printf("%s: refused %u: %s\n", who, (unsigned)refusal, openlr_refusal_sentence(refusal));
-    return 1;
-}
-
 int main(int argc, char **argv) {
     static uint8_t map[OPENLR_LONGEST_MAP], reference[OPENLR_LONGEST_POINT], line_buffer[4 * OPENLR_MOST_LINES];
     uint32_t line, offset, orientation, side;
@@ -22,18 +17,14 @@ int main(int argc, char **argv) {
         fprintf(stderr, "usage: hydrant MAP LINE OFFSET ORIENTATION SIDE, with OFFSET in centimetres\n");
         return 2;
     }
-    size_t map_len = load(argv[1], map, sizeof map);
-    if (map_len == SIZE_MAX) {
-        fprintf(stderr, "hydrant: cannot read the map %s\n", argv[1]);
-        return 2;
-    }
+    size_t map_len = load_map("hydrant", argv[1], map);
 
     struct openlr_point_written written = openlr_write_point(map, map_len, line, offset, orientation, side, reference, sizeof reference);
-    if (written.refusal != 0) return refused("writer", written.refusal);
-    print_reference(reference, written.bytes);
+    if (written.refusal != 0) return refused("writer", written.refusal, 0);
+    print_bytes("reference", reference, written.bytes);
 
     struct openlr_point point = openlr_read_point(map, map_len, reference, written.bytes, line_buffer, sizeof line_buffer);
-    if (point.refusal != 0) return refused("reader", point.refusal);
+    if (point.refusal != 0) return refused("reader", point.refusal, point.place);
     printf("lines %u offset %u %u\n", (unsigned)point.lines, (unsigned)point.least, (unsigned)point.greatest);
     for (uint32_t i = 0; i < point.lines; i++) printf("%u\n", (unsigned)line_at(line_buffer + 4 * i));
     printf("orientation: %s\nside: %s\n", orientations[point.orientation], sides[point.side]);

@@ -1,4 +1,5 @@
-/* OpenLR binary references to stretches of road and to points along a line, on a depot map, for C and C++ on x86-64 Linux. Link with libopenlr.a.
+/* OpenLR binary references to stretches of road and to points along a line, on a depot map, and messages of many references, for C and C++ on x86-64 Linux.
+   Link with libopenlr.a.
 
    LENGTHS, OFFSETS AND SPANS ARE IN CENTIMETRES from version 8 on, in the map's bytes as in the calls. Up to version 7 they were in decimetres. Coming from
    there, multiply each length in a map and each offset by 10, but not a line's steps: they stay in decimetres. Nothing in the bytes marks the unit, and so a
@@ -52,8 +53,10 @@ extern "C" {
    Version 8: lengths, offsets and spans are in centimetres. A line is 1 to 1,500,000 long, a leg at most 1,500,000, and D is the leg's length divided by 5,860.
    Steps are in decimetres as before. A map of version 7 is not refused, but each of its lines is then ten times too short: multiply the lengths by 10. On a map
    so converted the same stretch or point, its offsets tenfold, has the bytes of version 7, and what version 7 wrote is read as the same lines, with spans in
-   centimetres. What it refused with 19 may be read now. Office and box must have the same version. */
-#define OPENLR_VERSION 8
+   centimetres. What it refused with 19 may be read now. Office and box must have the same version.
+   Version 9: messages, many references in one buffer: openlr_message_open, openlr_message_add, openlr_message_close, openlr_message_reference and refusals 27
+   and 28 are new. The rest is as in version 8. */
+#define OPENLR_VERSION 9
 #define OPENLR_UNITS_PER_METRE 100
 
 /* The most that there can be: for buffers that are never too short, and for a test of every leg. */
@@ -62,6 +65,7 @@ extern "C" {
 #define OPENLR_LONGEST_POINT 17      /* Bytes of a point along a line: 1 and a first point of 9, a last one of 6, and an offset of 1. */
 #define OPENLR_MOST_LINES 1024       /* Lines that openlr_read and openlr_read_point hand back, each in four bytes. */
 #define OPENLR_MOST_TESTS 2080       /* Leg tests that openlr_write makes: 64 * 65 / 2, one for each leg of the longest stretch. */
+#define OPENLR_LONGEST_MESSAGE 16384 /* Bytes of a message: of a longer buffer no more are used. */
 
 /* Bytes of stack that a thread needs for a call of any of the functions: 104 KiB, of which a call takes up to 78. */
 #define OPENLR_LEAST_STACK 106496
@@ -97,7 +101,10 @@ enum openlr_refusal {
     OPENLR_SEVERAL_READINGS = 18, /* `place` is the leg. */
     OPENLR_JOINED_BAN = 22,
     OPENLR_NO_OFFSET = 19,
-    OPENLR_LINES_SHORT = 20
+    OPENLR_LINES_SHORT = 20,
+    /* Messages. */
+    OPENLR_MESSAGE_ORDER = 27,
+    OPENLR_MESSAGE_FULL = 28
 };
 
 /* In what direction of the line a point along it counts, and on which side of the line it is: the white paper's values. The first point is the node where the
@@ -215,6 +222,81 @@ struct openlr_point openlr_read_point(const uint8_t *map, size_t map_len, const 
 struct openlr_point_written openlr_write_point(const uint8_t *map, size_t map_len, uint32_t line, uint32_t offset, uint32_t orientation, uint32_t side,
                                                uint8_t *byte_buffer, size_t byte_buffer_len);
 
+/* A message holds references one after another in a lent buffer, each behind its length: a seven-bit number as in a map, one byte up to 127 and two from 128
+   on. At most the first OPENLR_LONGEST_MESSAGE bytes of the buffer are used.
+
+   This is what is known of a message beside its buffer. It is handed to each call and returned by it, and the caller goes on with what is returned, also after
+   a refusal. An empty message is OPENLR_EMPTY_MESSAGE, whatever stands in the buffer. */
+struct openlr_message {
+    uint32_t refusal;    /* Of the call that returned it: 0, or the number of the refusal; then the other fields are as they were given. No call looks at it. */
+    uint32_t byte_count; /* How many bytes the finished references have, their lengths counted. They are the first of the buffer. */
+    uint32_t open;       /* 1: a reference is open. 0: none is. Another number given to a call means what 1 means. */
+    uint32_t added;      /* How many bytes the open reference has so far. 0 where none is open. */
+};
+
+#define OPENLR_EMPTY_MESSAGE {0, 0, 0, 0}
+
+/* Opens a reference behind the last finished one. Nothing is written. Refused with 27 where one is open. */
+struct openlr_message openlr_message_open(struct openlr_message message);
+
+/* Adds the `portion_len` bytes of `portion` to the open reference: its length so far and its bytes stand right behind the last finished reference, and behind
+   them all of the buffer is as before. The bytes themselves are not looked at. They must not lie in the buffer. With no bytes nothing changes, and it is not
+   refused where a reference is open.
+
+   Refused with 27 where none is open, and then with 28 where the message, lengths counted, would go past the buffer or OPENLR_LONGEST_MESSAGE bytes, or the
+   reference past OPENLR_LONGEST_REFERENCE. A refusal leaves all of the buffer as it was, and the reference open with the bytes that it had. */
+struct openlr_message openlr_message_add(struct openlr_message message, uint8_t *buffer, size_t buffer_len, const uint8_t *portion, size_t portion_len);
+
+/* Closes the open reference. Nothing is written. `byte_count` is then the message's count of bytes: what is to be sent are so many, the first of the buffer.
+   Refused with 27 where none is open or nothing was added to it; then it stays open. */
+struct openlr_message openlr_message_close(struct openlr_message message);
+
+/* Where reference `n` of a message stands, counted from 0: its bytes without its length are `byte_count` bytes from byte `from` of the message on. Where there
+   is no reference `n`, `byte_count` is 0 and `from` is where the list of references stops: the count of bytes of a message that was received whole. */
+struct openlr_part {
+    uint32_t from;
+    uint32_t byte_count;
+};
+
+/* Asks for reference `n`: of a received message of `message_len` bytes; or of one that is being written, of which the first `byte_count` bytes of its buffer
+   are given, at any time: any finished reference is there, and the open one is not there yet. Of a longer message only the first OPENLR_LONGEST_MESSAGE bytes
+   count. Each call goes through the message from its start up to the reference, and copies nothing.
+
+   A length that is no number in its shortest form, a length of 0 or of over OPENLR_LONGEST_REFERENCE, or an early end stops the list. What was listed before
+   it stays. So give the bytes that were sent and no more: what stands behind them may be taken for a reference.
+
+   What these four functions promise over several calls is proved for any calls in any order, refused ones among them, that start with an empty message, each
+   with what the call before returned and with the same buffer, as long as nothing else writes in it. The buffer holds the finished references in the order in
+   which they were closed, then the open one as far as it has come, and behind that what stood there at the start. Reference `n` is at all times the n-th that
+   was closed, byte for byte. The first `byte_count` bytes, received, give the references that were closed, all of them and no others. A message that does not
+   come from these calls may be answered with any refusal or number, but each call returns, reads and writes nothing else than is said above, and leaves the
+   buffer's first `byte_count` bytes as they were.
+
+   An office puts the morning's stretches into a message and sends it:
+
+     uint8_t buffer[OPENLR_LONGEST_MESSAGE], bytes[OPENLR_LONGEST_REFERENCE];
+     struct openlr_message message = OPENLR_EMPTY_MESSAGE;
+     for (size_t i = 0; i < stretch_count; i++) {
+         struct openlr_written a = openlr_write(map, map_len, stretch[i], stretch_len[i], 0, 0, OPENLR_MOST_TESTS, bytes, sizeof bytes);
+         if (a.refusal != 0) continue;
+         message = openlr_message_open(message);
+         message = openlr_message_add(message, buffer, sizeof buffer, bytes, a.byte_count);
+         if (message.refusal != 0) break;
+         message = openlr_message_close(message);
+     }
+     send_to_box(buffer, message.byte_count);
+
+   A stretch that is refused is left out here, and so are all from the first on for which there is no more room: the open reference is not sent, since
+   `byte_count` counts what is finished. A box reads what it received:
+
+     for (uint32_t n = 0;; n++) {
+         struct openlr_part part = openlr_message_reference(received, received_len, n);
+         if (part.byte_count == 0) break;
+         struct openlr_reading a = openlr_read(map, map_len, received + part.from, part.byte_count, line_buffer, sizeof line_buffer);
+         if (a.refusal == 0) drive_along(line_buffer, a.line_count);
+     } */
+struct openlr_part openlr_message_reference(const uint8_t *message, size_t message_len, uint32_t n);
+
 /* A refusal's condition, in a sentence. The text is static. 0 gives an empty text. */
 static inline const char *openlr_refusal_sentence(uint32_t refusal) {
     switch (refusal) {
@@ -245,6 +327,8 @@ static inline const char *openlr_refusal_sentence(uint32_t refusal) {
     case OPENLR_JOINED_BAN: return "two legs of the reference meet in a banned turn of the map";
     case OPENLR_NO_OFFSET: return "no offset gives a flagged offset byte, or the two least offsets reach the total length";
     case OPENLR_LINES_SHORT: return "the line buffer is shorter than the list of lines, or the list has over 1,024 lines";
+    case OPENLR_MESSAGE_ORDER: return "a reference of the message is open already, or none is open, or nothing was added to the one that is to be closed";
+    case OPENLR_MESSAGE_FULL: return "the message would go past its buffer or 16,384 bytes, or one of its references past 459";
     default: return "unknown refusal";
     }
 }

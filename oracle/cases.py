@@ -10,6 +10,8 @@ from depot_map import DepotMap, map_to_bytes, read_map
 from fields import LONGEST_LEG
 from legs import Leg, LegSearch, Readings, describe_leg, list_length
 from meridian_recipes import MERIDIAN_READ_RECIPES, MERIDIAN_WRITE_RECIPES, READ_RECIPES_ACROSS, WRITE_RECIPES_ACROSS, all_across
+from message_calls import history_outcome, received_outcome
+from message_recipes import LARGE, MESSAGE_RECIPES, TWO_PORTIONS
 from numbers_of_tests import lines_left, telling_tests
 from outcome import outcome_of
 from point_read_recipes import (MERIDIAN_POINT_READ_RECIPES, POINT_READ_EDGES, POINT_READ_RECIPES, POINT_READ_RECIPES_ACROSS, POINTS_FOR_STRETCHES_RECIPES,
@@ -17,6 +19,7 @@ from point_read_recipes import (MERIDIAN_POINT_READ_RECIPES, POINT_READ_EDGES, P
 from point_write_recipes import (MERIDIAN_POINT_WRITE_RECIPES, POINT_WRITE_EDGES, POINT_WRITE_RECIPES, POINT_WRITE_RECIPES_ACROSS,
                                  point_write_outcome)
 from read_recipes import READ_RECIPES, read_outcome
+from received_recipes import LONG, RECEIVED_RECIPES
 from recipes import any_sample
 from sample_maps import (CENTIMETRE_SAMPLES, FIRST_BEHIND, LAST_BEFORE, MapBuilder, Sample, across_meridian, centimetre_sample, chain_of_blocks,
                          chain_of_ties, edge_sample, full_size_sample, other_first_line_sample, other_way, pairs_of, random_walk, sample_across)
@@ -43,7 +46,7 @@ class LegCase:
 
 @dataclass(frozen=True)
 class CallCase:
-    """A call of a reader or of a writer. Expected: its outcome."""
+    """A call of a reader or of a writer, a history of calls of messages, or a received message. Expected: its outcome."""
     label: str
     given: object
     expected: object
@@ -304,3 +307,9 @@ point_write_cases_across = call_cases("point write", POINT_WRITE_RECIPES_ACROSS,
 meridian_point_read_cases = call_cases("meridian point read", MERIDIAN_POINT_READ_RECIPES, point_read_outcome)
 meridian_point_write_cases = call_cases("meridian point write", MERIDIAN_POINT_WRITE_RECIPES, point_write_outcome)
 points_for_stretches_cases = call_cases("points for stretches", POINTS_FOR_STRETCHES_RECIPES, read_outcome)
+# Messages: written, more of those with many edges and of those that take much room, and received.
+message_cases = call_cases("message", MESSAGE_RECIPES, history_outcome)
+two_portions_cases = call_cases("two portions", {TWO_PORTIONS: MESSAGE_RECIPES[TWO_PORTIONS]}, history_outcome)
+large_message_cases = call_cases("large message", {LARGE: MESSAGE_RECIPES[LARGE]}, history_outcome)
+received_cases = call_cases("received", RECEIVED_RECIPES, received_outcome)
+long_received_cases = call_cases("long received", {LONG: RECEIVED_RECIPES[LONG]}, received_outcome)

@@ -1,4 +1,4 @@
-"""Holds the C functions to this implementation, on cases of the readers and of the writers, of stretches and of points along a line.
+"""Holds the C functions to this implementation, on cases of the readers and of the writers, of stretches and of points along a line, and of messages.
 
 Usage: python3 oracle/check_host.py PROGRAM COUNT [--seed N]. PROGRAM is that of tests/answer.c. Calls with different answers are printed, and the status is 1.
 """
@@ -7,10 +7,11 @@ import argparse
 from dataclasses import replace
 
 from answers import answers, hexadecimal, report
-from cases import (best_found_cases, meridian_point_read_cases, meridian_point_write_cases, meridian_read_cases, meridian_write_cases, point_read_cases,
-                   point_read_cases_across, point_write_cases, point_write_cases_across, random_source, read_cases, read_cases_across, write_cases,
-                   write_cases_across)
+from cases import (best_found_cases, meridian_point_read_cases, meridian_point_write_cases, meridian_read_cases, meridian_write_cases, message_cases,
+                   point_read_cases, point_read_cases_across, point_write_cases, point_write_cases_across, random_source, read_cases, read_cases_across,
+                   received_cases, write_cases, write_cases_across)
 from host_calls import MOST_LINES, line_bytes
+from message_calls import outcome_row
 from numbers_of_tests import any_tests
 from outcome import outcome_text
 from point_read_recipes import point_read_outcome
@@ -76,7 +77,17 @@ def write_point_calls(seed, count):
         yield f"write_point {hexadecimal(given.map_bytes)} {numbers}", one_row(point_write_outcome(given))
 
 
-KINDS = {"read": read_calls, "write": write_calls, "read_point": read_point_calls, "write_point": write_point_calls}
+def rows_of_messages(make_cases):
+    """Rows of histories, or of received messages."""
+    def calls(seed, count):
+        return [(case.given.row(), outcome_row(case.expected)) for case in make_cases(seed, count)]
+    return calls
+
+
+message_calls = rows_of_messages(message_cases)
+received_calls = rows_of_messages(received_cases)
+KINDS = {"read": read_calls, "write": write_calls, "read_point": read_point_calls, "write_point": write_point_calls, "message": message_calls,
+         "received": received_calls}
 
 
 def differences(program, calls):

@@ -6,10 +6,15 @@ it answers must be what crates/NAME/stdout says. Cases with different answers ar
 
 import argparse
 import re
+from itertools import islice
 
 from answers import answers, hexadecimal, report
-from pack import CRATES, POINTS_LINE_ROOM, WRITES_LINE_ROOM, number_sum
+from message_calls import ADD, ASK, Call, History, Received, answered_in
+from pack import CALLS, CRATES, NEW_MESSAGE, POINTS_LINE_ROOM, RECEIVED, WRITES_LINE_ROOM, history_rows, number_sum, received_row
 from reader import LEAST_WORK_LENGTH
+
+# Several rows of one history are one here.
+NEXT_ROW = "; "
 
 
 def parts_of(data):
@@ -72,6 +77,29 @@ def point_calls(parts):
     return calls
 
 
+def message_call(part):
+    """A call in a history."""
+    kind = next(kind for kind, first in CALLS.items() if first == part[0])
+    return Call(kind, portion=part[1:] if kind == ADD else b"", number=numbers_in(part[1:])[0] if kind == ASK else 0)
+
+
+def messages_in(parts):
+    """Histories and received messages."""
+    found = []
+    for part in parts:
+        if part[0] == NEW_MESSAGE:
+            found.append(History(*numbers_in(part[1:]), calls=()))
+        elif part[0] == RECEIVED:
+            found.append(Received(part[5:], *numbers_in(part[1:5])))
+        else:
+            found[-1] = History(found[-1].room, found[-1].calls + (message_call(part),))
+    return found
+
+
+def message_calls(parts):
+    return [message.row() for message in messages_in(parts)]
+
+
 def map_row(answer):
     """The program has no sum: it answers this only if the map, put into bytes again, gives the same bytes."""
     return re.sub(r"map of (\d+) nodes and (\d+) lines", r"nodes \1 lines \2", answer)
@@ -109,6 +137,27 @@ def call_rows(reader, line_room):
     return rows_of
 
 
+def message_row(call, answer):
+    """The rows of a history, by what the program says of each change in the buffer; or that of a received message."""
+    kind, given = call.split()[:2]
+    answered = [answered_in(word) for word in answer.split()]
+    if any(isinstance(item.answer, str) for item in answered):
+        return answer
+    if kind == "received":
+        return NEXT_ROW.join(received_row(item, bytes.fromhex(given.strip("-"))) for item in answered)
+    return NEXT_ROW.join(history_rows(int(given), answered))
+
+
+def message_rows(program, calls):
+    return [message_row(call, answer) for call, answer in zip(calls, answers(program, calls))]
+
+
+def in_calls(calls, rows):
+    """The stored rows, joined where a call has several: a history has one for each of its calls."""
+    rows = iter(rows)
+    return [NEXT_ROW.join(islice(rows, len(call.split()) - 2 if call.startswith("message") else 1)) for call in calls] + list(rows)
+
+
 def stored_row(row):
     """What a row says of the answer. The rest is about memory and sums that the plain implementation does not have."""
     row = re.sub(r" work (kept|cleared) rest kept", "", row)
@@ -122,6 +171,7 @@ PROGRAMS = {
     "test_reads": (read_calls, simple_rows(lines_row)),
     "test_writes": (write_calls, call_rows("read", WRITES_LINE_ROOM)),
     "test_points": (point_calls, call_rows("read_point", POINTS_LINE_ROOM)),
+    "test_messages": (message_calls, message_rows),
 }
 
 
@@ -129,7 +179,7 @@ def differences(program, name):
     """The count of cases, and those that are answered otherwise: the call, what is stored and the answer."""
     make_calls, rows_of = PROGRAMS[name]
     calls = make_calls(parts_of((CRATES / name / "data" / "cases.bin").read_bytes()))
-    stored = [stored_row(row) for row in (CRATES / name / "stdout").read_text().splitlines()]
+    stored = in_calls(calls, [stored_row(row) for row in (CRATES / name / "stdout").read_text().splitlines()])
     if len(stored) != len(calls):
         raise RuntimeError(f"{len(calls)} cases, {len(stored)} rows")
     rows = rows_of(program, calls)

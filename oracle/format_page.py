@@ -5,9 +5,12 @@ from pathlib import Path
 from typing import NamedTuple, Optional
 
 from answers import hexadecimal
-from depot_map import STEP_SHIFT, Node, read_map, write_number
+from depot_map import LARGEST_NUMBER, STEP_SHIFT, Node, read_map, read_number, write_number
 from fields import coordinate_code, differences, differences_fit, distance_byte, offset_byte, offset_span, sector
 from host_calls import MOST_LINES, line_bytes, lines_of
+from message import LONGEST_MESSAGE, Part, Standing, behind_its_length, bytes_of_part
+from message_calls import ADD, ASK, CLOSE, OPEN, History, Received, answered_in, buffers_after, first_buffer, history_outcome, outcome_row, received_outcome
+from message_calls import Call as MessageCall
 from outcome import PointRead, PointWritten, Refused, StretchRead, StretchWritten
 from point_along_line import read_point, write_point
 from reader import LEAST_WORK_LENGTH, read
@@ -62,6 +65,65 @@ class Call(NamedTuple):
         return " ".join(map(str, [self.kind.replace(" ", "_"), hexadecimal(self.map_bytes), *given, *self.numbers, room]))
 
 
+class Seen(NamedTuple):
+    """What the page says of calls of a message, or what a program shows of them: for each call its refusal, the part that it is given, or None where it is
+    neither; after the last call how the message stands; and all of the buffer then, or the bytes of the part."""
+    answers: tuple
+    standing: Optional[Standing]
+    data: Optional[bytes]
+
+
+class MessageCalls(NamedTuple):
+    """Calls of a message that is written, from an empty one on."""
+    text: str
+    history: History
+    said: Seen
+
+    def rows(self):
+        """The same calls for tests/answer.c."""
+        return [self.history.row()]
+
+    def own_rows(self):
+        """What this implementation answers."""
+        return [outcome_row(history_outcome(self.history))]
+
+    def seen(self, rows):
+        answered = [answered_in(word) for word in rows[0].split()]
+        *_, buffer = buffers_after(self.history.room, answered)
+        last = answered[-1].answer
+        answers = tuple(map(answer_seen, answered))
+        if isinstance(last, Standing):
+            return Seen(answers, last, buffer)
+        return Seen(answers, None, bytes_of_part(buffer, last) if isinstance(last, Part) else None)
+
+
+def answer_seen(item):
+    """A refusal or a part where the buffer is as before, None for another call that is made, and else all of the item, which no page says."""
+    if isinstance(item.answer, Standing):
+        return None
+    return item.answer if item.change is None else item
+
+
+class ReceivedMessage(NamedTuple):
+    """A received message, the numbers that are asked for, and the part that is given for each."""
+    text: str
+    message: bytes
+    numbers: tuple
+    said: tuple
+
+    def received(self):
+        return [Received(self.message, number) for number in self.numbers]
+
+    def rows(self):
+        return [received.row() for received in self.received()]
+
+    def own_rows(self):
+        return [outcome_row(received_outcome(received)) for received in self.received()]
+
+    def seen(self, rows):
+        return tuple(answer_seen(answered_in(row)) for row in rows)
+
+
 class Formula(NamedTuple):
     """A worked number, such as `sector (5, 5) -> 4`: what the page says and what it is."""
     text: str
@@ -108,7 +170,7 @@ class Page:
     """The page taken apart. Names hold from the line that gives them on, and before it. Blocks of Python stand by themselves."""
 
     def __init__(self, text):
-        self.names, self.calls, self.formulas, self.commands = {}, [], [], []
+        self.names, self.calls, self.messages, self.formulas, self.commands = {}, [], [], [], []
         self.programs = PYTHON_BLOCK.findall(text)
         text = PYTHON_BLOCK.sub("", text)
         rows = [line[4:] for line in text.splitlines() if line.startswith("    ")]
@@ -138,9 +200,13 @@ class Page:
             left, right = row.split(" -> ")
             if left.split()[0] in ("read", "write"):
                 self.calls.append(self._call(row, left, right))
+            elif left.startswith("message"):
+                self.messages.append(self._message(row, left, right))
+            elif left.startswith("received "):
+                self.messages.append(self._received(row, left, right))
             else:
                 self.formulas.append(_formula(row, left, right))
-        elif self.commands and row and not row.startswith(" "):
+        elif self.commands and row:
             command, printed = self.commands[-1]
             self.commands[-1] = Command(command, printed + row + "\n")
 
@@ -160,11 +226,80 @@ class Page:
         call = Call(row, name, map_bytes, given, numbers, settings.get("room", kind.room), settings.get("work"), None)
         return call._replace(answer=self._written(call, right) if right.startswith("writes ") else self._answer(right))
 
+    def _message(self, row, left, right):
+        """Each call is made unless its refusal stands behind it. What the last one answers stands at the end of the row."""
+        room, text = re.fullmatch(r"message(?: room (\d+))?: (.*)", left).groups()
+        text = re.sub(r"(\d+) times \{(.*?)\}", lambda times: ", ".join([times[2]] * int(times[1])), text)
+        calls, answers = zip(*map(self._message_call, text.split(", ")))
+        if answers[-1] is not None:
+            raise ValueError(f"cannot be read: {row}")
+        history = History(LONGEST_MESSAGE if room is None else int(room), calls)
+        return MessageCalls(row, history, self._message_answer(history, answers[:-1], right))
+
+    def _message_call(self, text):
+        """A call of a message, and its refusal or None."""
+        text, refusal = re.fullmatch(r"(.*?)(?: refused (\d+))?", text).groups()
+        kind, _, given = text.partition(" ")
+        if kind not in (OPEN, ADD, CLOSE, ASK) or bool(given) != (kind in (ADD, ASK)):
+            raise ValueError(f"cannot be read: {text}")
+        call = MessageCall(kind, self._sequence(given) if kind == ADD else b"", int(given) if kind == ASK else 0)
+        return call, None if refusal is None else Refused(int(refusal))
+
+    def _message_answer(self, history, answers, text):
+        """What is said of a history: the answers before the last one, and what the text says of that."""
+        if history.calls[-1].kind == ASK:
+            part, data = self._given(text)
+            return Seen((*answers, part), None, data)
+        if text.startswith("refused "):
+            return Seen((*answers, self._answer(text)), None, None)
+        finished, opened = re.fullmatch(r"holds (.*?)(?: open (.*))?", text).groups()
+        finished, opened = self._sequence(finished), None if opened is None else self._sequence(opened)
+        written = finished + (opened or b"")
+        return Seen((*answers, None), standing(finished, opened), written + first_buffer(history.room)[len(written):])
+
+    def _received(self, row, left, right):
+        """What is given for one number; or a whole list, where it stops, and that nothing is given for the number behind it and for the largest."""
+        message, number = re.fullmatch(r"received (.*?)(?: ask (\d+))?", left).groups()
+        message = self._sequence(message)
+        if number is not None:
+            part, data = self._given(right)
+            said, contents = [part], [data]
+        else:
+            listed, stop = re.fullmatch(r"lists (.*) stops (\d+)", right).groups()
+            contents = self._each(listed)
+            said = parts_in_a_row(contents) + 2 * [Part(int(stop), 0)]
+        if any(bytes_of_part(message, part) != data for part, data in zip(said, contents)):
+            raise ValueError(f"not in the message: {row}")
+        numbers = (*range(len(said) - 1), LARGEST_NUMBER) if number is None else (int(number),)
+        return ReceivedMessage(row, message, numbers, tuple(said))
+
+    def _given(self, text):
+        """A part of a message, and its bytes."""
+        data, start = re.fullmatch(r"gives (.*) from (\d+)", text).groups()
+        data = self._sequence(data)
+        return Part(int(start), len(data)), data
+
+    def _each(self, text):
+        """Several bytes with spaces between them. Those that stand as they are need no brackets here."""
+        each, rest = [], "" if text == "nothing" else text
+        while rest:
+            plain = re.match(r"[0-9A-F]+(?: |$)", rest)
+            data, rest = (bytes.fromhex(plain[0]), rest[plain.end():]) if plain else self._bytes(rest)
+            each.append(data)
+        return each
+
+    def _sequence(self, text):
+        return b"".join(self._each(text))
+
     def _bytes(self, text):
         """The bytes at the start of a text, and the text after them."""
         if text.startswith("["):
             inside, rest = text[1:].split("]", 1)
             return bytes.fromhex(inside), rest.strip()
+        repeated = re.match(r"\((\d+) of ", text)
+        if repeated:
+            end = closing_place(text)
+            return int(repeated[1]) * self._sequence(text[repeated.end():end]), text[end + 1:].strip()
         if text.startswith("("):
             changed, rest = self._bytes(text[1:])
             change, rest = rest.split(")", 1)
@@ -197,6 +332,35 @@ class Page:
         if tests is None:
             return StretchWritten(reference, tests_for_all(call), 0)
         return StretchWritten(reference, int(tests), int(excess))
+
+
+def standing(finished, opened):
+    """How a message stands with these finished bytes, and with those of an open reference, its length counted; None where none is open."""
+    if opened is None:
+        return Standing(len(finished), False, 0)
+    added, start = read_number(opened, 0) if opened else (0, 0)
+    if start + added != len(opened):
+        raise ValueError(f"not behind its length: {opened.hex()}")
+    return Standing(len(finished), True, added)
+
+
+def parts_in_a_row(contents):
+    """Where references stand, one after another, each behind its length."""
+    parts, end = [], 0
+    for data in contents:
+        end += len(behind_its_length(data))
+        parts.append(Part(end - len(data), len(data)))
+    return parts
+
+
+def closing_place(text):
+    """Where the parenthesis is closed that opens at the start of a text."""
+    depth = 0
+    for place, character in enumerate(text):
+        depth += {"(": 1, ")": -1}.get(character, 0)
+        if depth == 0:
+            return place
+    raise ValueError(f"not closed: {text}")
 
 
 def tests_for_all(call):

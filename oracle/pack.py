@@ -7,17 +7,22 @@ import argparse
 import sys
 from collections import Counter
 from dataclasses import replace
+from functools import lru_cache
 from pathlib import Path
 
-from cases import (best_found_cases, leg_cases, leg_cases_across, map_cases, meridian_map_cases, meridian_point_read_cases, meridian_point_write_cases,
-                   meridian_read_cases, meridian_write_cases, point_read_cases, point_read_cases_across, point_read_edge_cases, point_write_cases,
-                   point_write_cases_across, point_write_edge_cases, points_for_stretches_cases, random_source, read_cases, read_cases_across, stretch_leg,
+from cases import (best_found_cases, large_message_cases, leg_cases, leg_cases_across, long_received_cases, map_cases, meridian_map_cases,
+                   meridian_point_read_cases, meridian_point_write_cases, meridian_read_cases, meridian_write_cases, message_cases, point_read_cases,
+                   point_read_cases_across, point_read_edge_cases, point_write_cases, point_write_cases_across, point_write_edge_cases,
+                   points_for_stretches_cases, random_source, read_cases, read_cases_across, received_cases, stretch_leg, two_portions_cases,
                    with_other_tests, write_cases, write_cases_across)
 from depot_map import LATITUDE_SHIFT, LONGITUDE_SHIFT, MOST_BANS, MOST_LINES, map_to_bytes
 from drawn_steps import ENDS_OF_RANGE, steps_at_edges
 from fields import sector
 from legs import LegSearch, list_length
 from meridian_recipes import ACROSS
+from message import Part, bytes_of_part
+from message_calls import ADD, ASK, CLOSE, OPEN, buffers_after, received_outcome
+from message_recipes import LARGE
 from numbers_of_tests import any_tests, given_all_tests
 from outcome import Refused, heading, outcome_text, written_heading
 from point_along_line import read_point
@@ -25,6 +30,7 @@ from point_read_recipes import composed_point_from, point_read_outcome
 from point_write_recipes import PointInput, many_points_on_a_map, point_write_outcome
 from read_recipes import changed_in_a_byte, composed_from, read_outcome
 from reader import LEAST_WORK_LENGTH, read
+from received_recipes import LONG, every_damage
 from recipes import until_found
 from sample_maps import MapBuilder, full_sample, full_size_sample, joining_pairs, sample_across
 from write_recipes import many_on_a_map, write_outcome
@@ -36,6 +42,9 @@ MOST_CASE_BYTES = 1_048_576
 WORK_ROOM, READS_LINE_ROOM = 14_340, 65_480
 WRITES_LINE_ROOM, WRITES_BYTE_ROOM = 80, 480
 POINTS_LINE_ROOM, POINTS_BYTE_ROOM = 1_100, 40
+MESSAGE_ROOM = 16_400
+# The first byte of a part: a new message, calls of it, and a received message that is asked for a reference.
+NEW_MESSAGE, CALLS, RECEIVED = 0, {OPEN: 1, ADD: 2, CLOSE: 3, ASK: 4}, 5
 # The recipe whose maps would take too much room.
 FULL_SIZE = "full size"
 FULL_SIZE_ACROSS = FULL_SIZE + ACROSS
@@ -311,8 +320,61 @@ def test_points():
     return packed_calls(calls, lambda given: b"" if is_written(given) else given.reference, point_numbers, point_row)
 
 
+@lru_cache(maxsize=4)
+def buffer_sum(buffer):
+    """The last ones are kept, since most calls leave the buffer as it is."""
+    return number_sum(buffer)
+
+
+def message_row(answered, buffer):
+    """What is printed for a call of a message that is being written, with its buffer after the call."""
+    answer = answered.answer
+    if isinstance(answer, Part):
+        return f"bytes {answer.byte_count} sum {number_sum(bytes_of_part(buffer, answer))}"
+    if isinstance(answer, Refused):
+        text = outcome_text(answer)
+    else:
+        text = f"open {answer.byte_count} {answer.added}" if answer.is_open else f"closed {answer.byte_count}"
+    return f"{text} sum {buffer_sum(buffer)}"
+
+
+def received_row(answered, message):
+    """The same for a received message."""
+    return f"from {answered.answer.start} {message_row(answered, message)}"
+
+
+def history_rows(room, answered):
+    return [message_row(*call) for call in zip(answered, buffers_after(room, answered))]
+
+
+def history_parts(history):
+    if history.room > MESSAGE_ROOM:
+        raise RuntimeError("the program's buffer is too short for a message")
+    yield bytes([NEW_MESSAGE]) + words([history.room])
+    for call in history.calls:
+        yield bytes([CALLS[call.kind]]) + (words([call.number]) if call.kind == ASK else call.portion)
+
+
+def received_messages():
+    made = [*received_cases(seed=1, count=528, left_out=LONG), *long_received_cases(seed=1, count=9)]
+    return [*(case.given for case in made), *every_damage(random_source("damaged messages", 1, 0))]
+
+
+def test_messages():
+    """A part is a call, or the start of a message that is written. Its first byte says which; only the start prints no row."""
+    histories = [*message_cases(seed=1, count=378, left_out=LARGE), *two_portions_cases(seed=1, count=98), *large_message_cases(seed=1, count=8)]
+    parts, rows = [], []
+    for case in histories:
+        parts += history_parts(case.given)
+        rows += history_rows(case.given.room, case.expected)
+    for received in received_messages():
+        parts.append(bytes([RECEIVED]) + words([received.number]) + received.message)
+        rows.append(received_row(received_outcome(received), received.message))
+    return packed(parts), rows
+
+
 PROGRAMS = {"test_maps": test_maps, "test_legs": test_legs, "test_reads": test_reads, "test_writes": test_writes,
-            "test_points": test_points}
+            "test_points": test_points, "test_messages": test_messages}
 
 
 def files():

@@ -7,7 +7,9 @@ from best_found import PENTAGON_FOUR_POINTS, PENTAGON_THREE_POINTS, pentagon
 from depot_map import map_to_bytes, read_map
 from drawn_steps import all_steps
 from fields import sector
-from format_page import Page, format_page
+from format_page import MessageCalls, Page, ReceivedMessage, Seen, format_page
+from message import Part, Standing, behind_its_length
+from message_calls import Call, first_buffer
 from outcome import PointWritten, Refused, StretchWritten
 from sample_maps import ridge_map
 from test_points import HYDRANT
@@ -18,15 +20,44 @@ ROOT = Path(__file__).parent.parent
 PAGE = format_page()
 
 
+def refused_calls():
+    """Of the page's calls of messages those that are refused: what they are, the refusal, and whether one is open there."""
+    for example in PAGE.messages:
+        if isinstance(example, MessageCalls):
+            is_open = False
+            for call, answer in zip(example.history.calls, example.said.answers):
+                if isinstance(answer, Refused):
+                    yield call.kind, answer.number, is_open
+                elif call.kind in ("open", "close"):
+                    is_open = call.kind == "open"
+
+
 class FormatPage(unittest.TestCase):
     def test_calls(self):
         for call in PAGE.calls:
             with self.subTest(call.text):
                 self.assertEqual(call.outcome(), call.answer)
 
+    def test_messages(self):
+        for example in PAGE.messages:
+            with self.subTest(example.text):
+                self.assertEqual(example.seen(example.own_rows()), example.said)
+
     def test_every_refusal_has_an_example(self):
         refused = {call.answer.number for call in PAGE.calls if isinstance(call.answer, Refused)}
-        self.assertEqual(refused, set(range(1, 27)))
+        self.assertEqual(refused | {refusal for _, refusal, _ in refused_calls()}, set(range(1, 29)))
+
+    def test_every_refusal_of_a_message_has_an_example(self):
+        # Each call that is refused, and whether one was open.
+        expected = {("open", 27, True), ("add", 27, False), ("close", 27, False), ("close", 27, True), ("add", 28, True)}
+        self.assertEqual(set(refused_calls()), expected)
+
+    def test_every_stop_of_a_list_has_an_example(self):
+        # What stands where the list stops: nothing, a length of 0, one not in its shortest form, over 459, over 32 bits, without an end; and too few bytes.
+        stops = [example.message[example.said[-1].start:][:5] for example in PAGE.messages if isinstance(example, ReceivedMessage)]
+        for start in ("00", "8000", "8100", "CC03", "FFFFFFFF0F", "8180808010", "80", "01", "03CCDD"):
+            self.assertTrue(any(stop.startswith(bytes.fromhex(start)) for stop in stops), start)
+        self.assertIn(b"", stops)
 
     def test_every_refusal_of_points_has_an_example(self):
         for kind, expected in (("read point", {*range(12, 21)}), ("write point", {7, 9, 25, 10, 11})):
@@ -47,6 +78,9 @@ class FormatPage(unittest.TestCase):
             if call.kind == "write" and isinstance(call.answer, Refused):
                 refused.setdefault((call.map_bytes, call.given), set()).add(call.answer.number)
         self.assertTrue(any({10, 26} <= numbers for numbers in refused.values()))
+
+    def test_message_of_the_ridge(self):
+        self.assertEqual(PAGE.names["morning"], behind_its_length(THREE_POINTS) + behind_its_length(HYDRANT))
 
     def test_point_on_the_ridge(self):
         self.assertEqual(PAGE.names["hydrant"], HYDRANT)
@@ -91,6 +125,9 @@ class FormatPage(unittest.TestCase):
     def test_commands_are_found(self):
         self.assertEqual(PAGE.commands[0].text, "mkdir -p target/by_hand")
         self.assertTrue(any(command.printed.startswith("reference 0B") for command in PAGE.commands))
+        # Three references are three rows, and their message takes two.
+        morning, = (command for command in PAGE.commands if command.text == "./morning map.bin 0 1 0,1")
+        self.assertEqual([row.split()[0] for row in morning.printed.splitlines()], ["message", "1B", "reference", "reference", "reference"])
 
 
 class FormOfTests(unittest.TestCase):
@@ -124,6 +161,63 @@ class FormOfTests(unittest.TestCase):
         for row in ("write point pentagon line 0 tests 1 -> writes long", "write point pentagon line 0 -> writes long tests 1 excess 0"):
             with self.assertRaises(ValueError):
                 self.calls(row)
+
+
+class FormOfMessages(unittest.TestCase):
+    """How a page writes messages, and what is seen of answers to them."""
+
+    def example(self, row):
+        example, = Page(f"    two = AA BB\n    {row}\n").messages
+        return example
+
+    def not_as_said(self, row, *rows):
+        example = self.example(row)
+        self.assertNotEqual(example.seen(list(rows)), example.said)
+
+    def test_calls(self):
+        row = "message room 9: open, open refused 27, add two, close, 2 times {add [] refused 27}, open, add (2 of CC), ask 0 -> gives two from 1"
+        example = self.example(row)
+        calls = (Call("open"), Call("open"), Call("add", b"\xAA\xBB"), Call("close"), Call("add"), Call("add"), Call("open"), Call("add", b"\xCC\xCC"),
+                 Call("ask"))
+        self.assertEqual((example.history.room, example.history.calls), (9, calls))
+        answers = (None, Refused(27), None, None, Refused(27), Refused(27), None, None, Part(1, 2))
+        self.assertEqual(example.said, Seen(answers, None, b"\xAA\xBB"))
+        self.assertEqual(example.rows(), ["message 9 open open add:aabb close add:- add:- open add:cccc ask:0"])
+        self.assertEqual(example.seen(example.own_rows()), example.said)
+
+    def test_all_of_the_buffer(self):
+        example = self.example("message: open, add two, close, open, add [CC] -> holds 02 two open 01 CC")
+        held = b"\x02\xAA\xBB\x01\xCC"
+        self.assertEqual(example.said, Seen(5 * (None,), Standing(3, True, 1), held + first_buffer(16_384)[5:]))
+        self.assertEqual(self.example("message room 0: open -> holds nothing open nothing").said, Seen((None,), Standing(0, True, 0), b""))
+        self.assertEqual(self.example("message room 3: open, add two, close -> holds 02 two").said.standing, Standing(3, False, 0))
+
+    def test_other_answers_are_seen(self):
+        row = "message room 4: open, add two -> holds nothing open 02 AA BB"
+        example = self.example(row)
+        self.assertEqual(example.seen(["done:0:1:0 done:0:1:2@0=02AABB"]), example.said)
+        for answer in ("done:0:1:0 done:0:1:2", "done:0:1:0 done:0:1:2@0=02AABBCC", "done:0:1:0 done:0:1:3@0=02AABB", "done:0:1:0 done:3:0:0@0=02AABB",
+                       "done:0:1:0 refused:28@0=02AABB", "done:0:1:0 refused:28", "done:0:1:0 buffer", "done:0:1:2@0=02AABB", "refused:27 done:0:1:2@0=02AABB"):
+            self.not_as_said(row, answer)
+        for answer in ("done:0:1:0 refused:27@0=02", "done:0:1:0 refused:28", "done:0:1:0 done:0:1:2", "fields refused:27", "done:0:1:0 fields"):
+            self.not_as_said("message: open, open -> refused 27", answer)
+
+    def test_received(self):
+        example = self.example("received 02 two [01 CC] 00 -> lists two [CC] stops 5")
+        self.assertEqual((example.message, example.numbers), (bytes.fromhex("02AABB01CC00"), (0, 1, 2, 4_294_967_295)))
+        self.assertEqual(example.said, (Part(1, 2), Part(4, 1), Part(5, 0), Part(5, 0)))
+        self.assertEqual(example.rows()[1], "received 02aabb01cc00 1")
+        self.assertEqual(example.seen(["part:1:2", "part:4:1", "part:5:0", "part:5:0"]), example.said)
+        self.not_as_said("received 02 two [01 CC] 00 -> lists two [CC] stops 5", "part:1:2", "part:4:1", "part:5:0", "part:6:0")
+        self.assertEqual(self.example("received (2 of 01 (1 of CC)) ask 1 -> gives CC from 3").said, (Part(3, 1),))
+
+    def test_what_cannot_be(self):
+        for row in ("message: open, add -> refused 28", "message: open two -> refused 27", "message: ask -> gives two from 0", "message: shut -> refused 27",
+                    "message: open, close refused 27 -> refused 27", "message: open, add two -> holds nothing open 03 AA BB",
+                    "received 02 two -> lists [AA BC] stops 3", "received 02 two ask 0 -> gives two from 0",
+                    "received (2 of 01 (1 of CC) -> lists [CC] stops 2"):
+            with self.assertRaises(ValueError, msg=row):
+                self.example(row)
 
 
 if __name__ == "__main__":

@@ -1,7 +1,8 @@
 """The stored cases of the test programs: every answer occurs, full-size maps with bans of each kind, the edges of the 180th meridian, those of sectors, those
 of offset bytes, those of lengths in centimetres and those of the number of tests.
 
-That pack.py makes them is asked by its --check. What else is asked of points along a line is in test_point_cases.py.
+That pack.py makes them is asked by its --check. What else is asked of points along a line is in test_point_cases.py, and of messages in
+test_message_cases.py.
 """
 
 import re
@@ -36,7 +37,9 @@ MAP_REFUSALS = {2, 3, 4, 5, 6, 23, 24}
 FEW_LINES = 8
 # Maps on which writings are made again with tests for all legs.
 MOST_LINES_TESTED_AGAIN = 16
+# Of the programs whose cases have maps.
 PARTS_OF_A_CASE = {"test_maps": 1, "test_legs": 2, "test_reads": 3, "test_writes": 3, "test_points": 3}
+MESSAGE_PROGRAM = "test_messages"
 
 
 def case_bytes(name):
@@ -75,10 +78,11 @@ class StoredCases(unittest.TestCase):
         self.check_answers("test_reads", {1, *MAP_REFUSALS, *range(12, 21), 22}, {"lines"})
         self.check_answers("test_writes", {1, *MAP_REFUSALS, *range(7, 12), 21, 26}, {"bytes"})
         self.check_answers("test_points", {1, *MAP_REFUSALS, 7, *range(9, 21), 25}, {"lines", "bytes"})
+        self.check_answers(MESSAGE_PROGRAM, {27, 28}, {"open", "closed", "bytes", "from"})
 
     def test_every_program_is_asked_and_held_to_plain_rust(self):
         for programs in (PROGRAMS, check_plain.PROGRAMS):
-            self.assertEqual(set(programs), set(PARTS_OF_A_CASE))
+            self.assertEqual(set(programs), {*PARTS_OF_A_CASE, MESSAGE_PROGRAM})
 
     def test_counts_of_bans(self):
         counts = {int(row.split()[5]) for row in rows("test_maps") if row.startswith("nodes")}
@@ -109,7 +113,7 @@ class StoredCases(unittest.TestCase):
         self.assertEqual(sorted(counts)[-2:], [32_769, 65_473])
 
     def test_sizes(self):
-        for name in PARTS_OF_A_CASE:
+        for name in PROGRAMS:
             self.assertLessEqual(len(case_bytes(name)), MOST_CASE_BYTES)
 
 

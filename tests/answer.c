@@ -4,9 +4,16 @@
      write MAP STRETCH POS NEG TESTS ROOM   STRETCH is the line numbers' bytes, ROOM the byte buffer's count of bytes
      read_point MAP REFERENCE ROOM
      write_point MAP LINE OFFSET ORIENTATION SIDE ROOM
+     message ROOM CALL CALL ..              calls one after another on an empty message, in a buffer of ROOM bytes of which byte i is i mod 251 before the first
+     received MESSAGE N                     asks for reference N of a received message
 
-   Offsets and spans are in centimetres. Bytes are hexadecimal, and - where there are none. A call that changes the buffer where it must not is answered by
-   "buffer", and a writer's refusal with a number that must be 0 and is not by "refused" and all of its numbers. Neither is ever expected. */
+   A CALL is open, add:BYTES, close or ask:N. Offsets and spans are in centimetres. Bytes are hexadecimal, and - where there are none.
+
+   Messages are answered by an item for each call: done:BYTES:OPEN:ADDED or refused:NUMBER, with @FROM=BYTES behind it where the buffer changed, the bytes after
+   the call from the first changed one to the last; or, for what is asked, part:FROM:COUNT.
+
+   A call that changes the buffer where it must not is answered by "buffer", a writer's refusal with a number that must be 0 and is not by "refused" and all of
+   its numbers, and a refusal that changes what is known of a message by "fields". None of them is ever expected. */
 #include "openlr.h"
 
 _Static_assert(OPENLR_UNITS_PER_METRE == 100, "lengths and offsets are in centimetres");
@@ -15,7 +22,7 @@ _Static_assert(OPENLR_UNITS_PER_METRE == 100, "lengths and offsets are in centim
 #include <stdlib.h>
 #include <string.h>
 
-enum { LONGEST_ROW = 1 << 20, LARGEST_BUFFER = 1 << 18, UNTOUCHED = 0xEE };
+enum { LONGEST_ROW = 1 << 20, LARGEST_BUFFER = 1 << 18, UNTOUCHED = 0xEE, BEHIND = 512 };
 
 static size_t bytes_of(const char *text, uint8_t *bytes) {
     size_t count = 0;
@@ -70,8 +77,8 @@ static void print_point(struct openlr_point a, const uint8_t *line_buffer, size_
     }
 }
 
-static void print_bytes(const uint8_t *bytes, size_t count) {
-    printf(" ");
+static void print_bytes(const char *before, const uint8_t *bytes, size_t count) {
+    printf("%s", before);
     for (size_t i = 0; i < count; i++) printf("%02X", bytes[i]);
 }
 
@@ -84,7 +91,7 @@ static void print_written(struct openlr_written a, const uint8_t *byte_buffer, s
         print_refusal(a.refusal, 0);
     } else {
         printf("bytes %u tests %u excess %u", (unsigned)a.byte_count, (unsigned)a.tests, (unsigned)a.excess);
-        print_bytes(byte_buffer, a.byte_count);
+        print_bytes(" ", byte_buffer, a.byte_count);
     }
 }
 
@@ -97,7 +104,7 @@ static void print_point_written(struct openlr_point_written a, const uint8_t *by
         print_refusal(a.refusal, 0);
     } else {
         printf("bytes %u", (unsigned)a.bytes);
-        print_bytes(byte_buffer, a.bytes);
+        print_bytes(" ", byte_buffer, a.bytes);
     }
 }
 
@@ -118,7 +125,82 @@ static size_t room_of(void) {
     return room;
 }
 
-static void answer(const char *kind) {
+static void print_part(struct openlr_part a) {
+    printf("part:%u:%u", (unsigned)a.from, (unsigned)a.byte_count);
+}
+
+/* A buffer with a message, and both as they were before the last call. The bytes behind the buffer's `room` must stay. */
+static struct {
+    size_t room;
+    struct openlr_message message, given;
+    uint8_t buffer[LARGEST_BUFFER + BEHIND], before[LARGEST_BUFFER + BEHIND];
+} office;
+
+static void start_message(size_t room) {
+    static const struct openlr_message empty = OPENLR_EMPTY_MESSAGE;
+    office.room = room;
+    office.message = empty;
+    for (size_t i = 0; i < room + BEHIND; i++) office.buffer[i] = (uint8_t)(i % 251);
+}
+
+/* Prints what the last call of open, add or close answered and changed. */
+static void print_message(void) {
+    struct openlr_message a = office.message, given = office.given;
+    size_t first = 0, end = office.room + BEHIND;
+    while (first < end && office.buffer[first] == office.before[first]) first++;
+    while (end > first && office.buffer[end - 1] == office.before[end - 1]) end--;
+    if (end > office.room && first < end) {
+        printf("buffer");
+    } else if (a.refusal != 0 && (a.byte_count != given.byte_count || a.open != given.open || a.added != given.added)) {
+        printf("fields");
+    } else {
+        if (a.refusal != 0) printf("refused:%u", (unsigned)a.refusal);
+        else printf("done:%u:%u:%u", (unsigned)a.byte_count, (unsigned)a.open, (unsigned)a.added);
+        if (first < end) {
+            printf("@%zu", first);
+            print_bytes("=", office.buffer + first, end - first);
+        }
+    }
+}
+
+/* Makes a call of the message. An open one is told by any number but 0: by the largest in every other call. */
+static void call_message(const char *call, size_t index) {
+    static uint8_t portion[LONGEST_ROW / 2];
+    if (office.message.open != 0 && index % 2 == 1) office.message.open = UINT32_MAX;
+    office.given = office.message;
+    memcpy(office.before, office.buffer, office.room + BEHIND);
+    if (strcmp(call, "open") == 0) {
+        office.message = openlr_message_open(office.given);
+    } else if (strcmp(call, "close") == 0) {
+        office.message = openlr_message_close(office.given);
+    } else if (strncmp(call, "add:", 4) == 0) {
+        size_t portion_len = bytes_of(call + 4, portion);
+        office.message = openlr_message_add(office.given, office.buffer, office.room, portion, portion_len);
+    } else {
+        exit(2);
+    }
+    print_message();
+}
+
+static void answer_history(void) {
+    const char *call;
+    start_message(room_of());
+    for (size_t index = 0; (call = strtok(NULL, " \n")) != NULL; index++) {
+        if (index > 0) printf(" ");
+        if (strncmp(call, "ask:", 4) == 0)
+            print_part(openlr_message_reference(office.buffer, office.message.byte_count, (uint32_t)strtoul(call + 4, NULL, 10)));
+        else
+            call_message(call, index);
+    }
+}
+
+static void answer_received(void) {
+    static uint8_t received[LONGEST_ROW / 2];
+    size_t received_len = bytes_of(word(), received);
+    print_part(openlr_message_reference(received, received_len, number()));
+}
+
+static void answer_on_map(const char *kind) {
     static uint8_t map[LONGEST_ROW / 2], given[LONGEST_ROW / 2], buffer[LARGEST_BUFFER + 1];
     size_t map_len = bytes_of(word(), map);
     int is_point = strcmp(kind, "write_point") == 0;
@@ -148,7 +230,9 @@ int main(void) {
     while (fgets(row, sizeof row, stdin) != NULL) {
         const char *kind = strtok(row, " \n");
         if (kind == NULL) return 2;
-        answer(kind);
+        if (strcmp(kind, "message") == 0) answer_history();
+        else if (strcmp(kind, "received") == 0) answer_received();
+        else answer_on_map(kind);
         printf("\n");
     }
     return 0;

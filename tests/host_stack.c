@@ -1,6 +1,6 @@
 /* The functions in a thread with a stack of just OPENLR_LEAST_STACK bytes, on full-size maps with 512 bans and on the calls that take most: 64 legs, 64 lines,
-   1,024 lines read, in many legs and in one, of a stretch and of a point. Prints how much of the stack was used, the thread's own part with it. It is compiled
-   without sanitizers, which need more stack. Lengths and offsets are in centimetres. */
+   1,024 lines read, in many legs and in one, of a stretch and of a point; and on the longest messages. Prints how much of the stack was used, the thread's own
+   part with it. It is compiled without sanitizers, which need more stack. Lengths and offsets are in centimetres. */
 #define _DEFAULT_SOURCE
 #include "ridge.h"
 
@@ -16,6 +16,10 @@ static struct openlr_reading reading;
 static struct openlr_written written;
 static struct openlr_point point;
 static struct openlr_point_written point_written;
+static uint8_t message_buffer[OPENLR_LONGEST_MESSAGE];
+static struct openlr_message message;
+static uint32_t reference_length, asked;
+static struct openlr_part part;
 
 static void put_number(uint32_t number) {
     for (; number >= 128; number /= 128) map[map_len++] = (uint8_t)(number % 128 + 128);
@@ -76,6 +80,21 @@ static void *read_point_once(void *unused) {
 
 static void *write_point_once(void *unused) {
     point_written = openlr_write_point(map, map_len, point_line, point_offset, OPENLR_ORIENTATION_BOTH, OPENLR_SIDE_LEFT, byte_buffer, sizeof byte_buffer);
+    return unused;
+}
+
+/* One reference more, of bytes of `given`, in two portions. The second moves the first where it makes the length take two bytes. */
+static void *message_once(void *unused) {
+    uint32_t first = reference_length / 4;
+    message = openlr_message_open(message);
+    message = openlr_message_add(message, message_buffer, sizeof message_buffer, given, first);
+    message = openlr_message_add(message, message_buffer, sizeof message_buffer, given + first, reference_length - first);
+    message = openlr_message_close(message);
+    return unused;
+}
+
+static void *ask_once(void *unused) {
+    part = openlr_message_reference(message_buffer, message.byte_count, asked);
     return unused;
 }
 
@@ -223,11 +242,34 @@ static void longest_map(void) {
     EXPECT(point.refusal == 0 && point.lines == 1 && line_buffer[0] == 1 && point.least == 747071 && point.greatest == 752929);
 }
 
+/* As many references of one length as a message holds, the last of them with the stack measured. Then the last one is asked for. */
+static void put_message(const char *writing, const char *asking, uint32_t length, uint32_t length_bytes) {
+    const struct openlr_message empty = OPENLR_EMPTY_MESSAGE;
+    uint32_t count = OPENLR_LONGEST_MESSAGE / (length_bytes + length);
+    message = empty;
+    reference_length = length;
+    for (uint32_t i = 0; i < sizeof given; i++) given[i] = (uint8_t)i;
+    for (uint32_t i = 0; i + 1 < count; i++) message_once(NULL);
+    run(writing, message_once);
+    EXPECT(message.refusal == 0 && message.byte_count == count * (length_bytes + length) && message.open == 0 && message.added == 0);
+    asked = count - 1;
+    run(asking, ask_once);
+    EXPECT(part.from == asked * (length_bytes + length) + length_bytes && part.byte_count == length);
+    EXPECT(memcmp(message_buffer + part.from, given, length) == 0);
+}
+
+/* 35 of the longest references are 16,135 bytes, and 8,192 of the shortest are 16,384. */
+static void longest_messages(void) {
+    put_message("openlr_message_open, _add, _close, 459 bytes", "openlr_message_reference, the last of 35", OPENLR_LONGEST_REFERENCE, 2);
+    put_message("openlr_message_open, _add, _close, 1 byte", "openlr_message_reference, the last of 8,192", 1, 1);
+}
+
 int main(void) {
     read_most();
     read_longest_leg();
     write_most_legs();
     write_most_tests();
     longest_map();
+    longest_messages();
     return 0;
 }

@@ -1,5 +1,5 @@
-//! References to stretches and to points along a line, on a depot map, in plain Rust: a second,
-//! unrelated implementation to measure against and to compare with.
+//! References to stretches and to points along a line, on a depot map, and messages of many references,
+//! in plain Rust: a second, unrelated implementation to measure against and to compare with.
 
 mod choice;
 pub mod depot_map;
@@ -8,6 +8,9 @@ pub mod hexadecimal;
 mod leg_tests;
 pub mod legs;
 pub mod maps;
+pub mod message;
+pub mod message_calls;
+pub mod message_list;
 pub mod outcome;
 mod places;
 pub mod point;

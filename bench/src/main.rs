@@ -1,6 +1,7 @@
 //! The benchmark: each row times the proved function and the plain Rust one in turn, in one
 //! process, and prints `what | ours µs | plain Rust µs | ratio`.
 
+mod message_rows;
 mod offset_rows;
 mod point_rows;
 mod proved;
@@ -170,8 +171,8 @@ fn sample(name: &'static str, plan: MapPlan) -> Sample {
     Sample { name, bytes, map }
 }
 
-/// Prints the rows of every kind but worst, or of the kind that the argument names: decode, search, read, write, point, offsets or
-/// worst.
+/// Prints the rows of every kind but worst, or of the kind that the argument names: decode, search, read, write, point, offsets,
+/// message or worst.
 /// `worst TEXT` prints those of the maps with this text in their names; they may take minutes.
 /// `once ROW` times nothing, for counting calls.
 fn main() {
@@ -185,25 +186,11 @@ fn main() {
         return worst::print_rows(&text.unwrap_or_default());
     }
     let wanted = |name: &str| kind.as_deref().is_none_or(|kind| kind == name);
-    let mut tenths = Vec::new();
-    for sample in &samples() {
-        if wanted("decode") {
-            decode_row(sample).print();
-        }
-        if wanted("search") {
-            search_rows(sample);
-        }
-        if wanted("read") {
-            reading_rows(sample);
-        }
-        if wanted("write") {
-            writing_rows(sample);
-            tenths.extend(test_rows::print_rows(sample));
-        }
-        if wanted("point") {
-            point_rows::print_rows(sample);
-        }
-    }
+    let samples = samples();
+    let tenths: Vec<_> = samples
+        .iter()
+        .filter_map(|sample| print_rows_of(sample, wanted))
+        .collect();
     if wanted("decode") {
         decode_row(&random_steps(3)).print();
         let maps: Vec<Sample> = (0..MAPS_IN_TURN).map(random_steps).collect();
@@ -217,7 +204,32 @@ fn main() {
     if wanted("offsets") {
         offset_rows::print_rows();
     }
+    if wanted("message") {
+        message_rows::print_rows();
+    }
     tenths.iter().for_each(test_rows::Tenth::print);
+}
+
+/// The rows of one map. Gives what is said last of its writings with a tenth of the tests.
+fn print_rows_of(sample: &Sample, wanted: impl Fn(&str) -> bool) -> Option<test_rows::Tenth> {
+    if wanted("decode") {
+        decode_row(sample).print();
+    }
+    if wanted("search") {
+        search_rows(sample);
+    }
+    if wanted("read") {
+        reading_rows(sample);
+    }
+    let mut tenth = None;
+    if wanted("write") {
+        writing_rows(sample);
+        tenth = test_rows::print_rows(sample);
+    }
+    if wanted("point") {
+        point_rows::print_rows(sample);
+    }
+    tenth
 }
 
 fn decode_row(sample: &Sample) -> Row<'_> {

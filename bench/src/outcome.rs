@@ -31,6 +31,8 @@ pub enum Refusal {
     Step,
     OrientationOrSide,
     TooFewTests,
+    MessageOrder,
+    MessageFull,
 }
 
 pub type Outcome<T> = Result<T, Refusal>;
@@ -108,6 +110,8 @@ impl Refusal {
             Refusal::Step => 24,
             Refusal::OrientationOrSide => 25,
             Refusal::TooFewTests => 26,
+            Refusal::MessageOrder => 27,
+            Refusal::MessageFull => 28,
         }
     }
 

@@ -1,7 +1,10 @@
-//! The proved functions that are timed, those of crates/measured. Each reads and writes within the
-//! slices that it is lent alone; that it does is proved.
+//! The proved functions that are timed, those of crates/measured and the C functions for messages. Each
+//! reads and writes within the slices that it is lent alone; that it does is proved.
 
+use plain::message::{Part, State};
 use plain::point::Point;
+
+use crate::message_rows::MessageFunctions;
 
 #[link(name = "measured", kind = "static")]
 extern "C" {
@@ -64,6 +67,27 @@ extern "C" {
     fn measured_offset_byte(leg: u32, offset: u32) -> u32;
     fn measured_span(leg: u32, byte: u8) -> u64;
 }
+
+#[link(name = "openlr", kind = "static")]
+extern "C" {
+    fn openlr_message_open(message: State) -> State;
+    fn openlr_message_add(
+        message: State,
+        buffer: *mut u8,
+        buffer_len: usize,
+        portion: *const u8,
+        portion_len: usize,
+    ) -> State;
+    fn openlr_message_close(message: State) -> State;
+    fn openlr_message_reference(message: *const u8, message_len: usize, n: u32) -> Part;
+}
+
+pub const PROVED_MESSAGES: MessageFunctions = MessageFunctions {
+    open: openlr_message_open,
+    add: openlr_message_add,
+    close: openlr_message_close,
+    reference: openlr_message_reference,
+};
 
 /// Decodes a map into the work area. The answer is the number of the refusal, or 0.
 pub fn decode(map_bytes: &[u8], work_area: &mut [u32]) -> u32 {

@@ -6,8 +6,12 @@
 //! - `write MAP POS NEG TESTS WORK_LENGTH BYTE_ROOM LINE...`
 //! - `read_point MAP REFERENCE WORK_LENGTH LINE_ROOM`
 //! - `write_point MAP LINE OFFSET ORIENTATION SIDE WORK_LENGTH BYTE_ROOM`
+//! - `message ROOM CALL...`, calls on one message from its start: `open`, `add:BYTES`, `close` or `ask:NUMBER`
+//! - `received MESSAGE NUMBER`
 //!
-//! Bytes are hexadecimal, with `-` for none. Each answer is one line.
+//! Bytes are hexadecimal, with `-` for none. Each answer is one line. That of a message has an item for each
+//! call: `done:BYTES:OPEN:ADDED` or `refused:NUMBER`, and `@FROM=BYTES` behind it for what changed in the
+//! buffer; or `part:FROM:COUNT`, which is also the answer of a received message.
 
 use std::fmt::Display;
 use std::io::{self, BufRead, BufWriter, Write};
@@ -17,6 +21,8 @@ use plain::fields::Marks;
 use plain::hexadecimal::{bytes, digits};
 use plain::legs::{verdict, Leg, LegEnd, Verdict};
 use plain::maps::{MapPlan, PlannedLine};
+use plain::message::{reference, Message, Part, State};
+use plain::message_calls::{bytes_before, Answer, Call};
 use plain::outcome::{Outcome, Written};
 use plain::point::{read_point, write_point, Point};
 use plain::reader::read;
@@ -34,7 +40,15 @@ fn main() -> io::Result<()> {
 
 fn answer(call: &str) -> Option<String> {
     let mut words = call.split_ascii_whitespace();
-    let (kind, map_bytes) = (words.next()?, bytes(words.next()?)?);
+    match words.next()? {
+        "message" => message_answer(words),
+        "received" => received_answer(words),
+        kind => answer_on_map(kind, words),
+    }
+}
+
+fn answer_on_map<'a>(kind: &str, mut words: impl Iterator<Item = &'a str>) -> Option<String> {
+    let map_bytes = bytes(words.next()?)?;
     match kind {
         "read" => return read_answer(&map_bytes, words, read),
         "read_point" => return read_answer(&map_bytes, words, read_point),
@@ -172,6 +186,62 @@ fn leg_answer(map: &DepotMap, numbers: &[u32]) -> Option<String> {
     };
     let words = lines.iter().map(|line| format!(" {line}"));
     Some(std::iter::once(name.to_string()).chain(words).collect())
+}
+
+fn message_answer<'a>(mut words: impl Iterator<Item = &'a str>) -> Option<String> {
+    let mut buffer = bytes_before(words.next()?.parse().ok()?);
+    let mut message = Message::default();
+    let items: Option<Vec<String>> = words
+        .map(|word| Some(item(&mut message, &mut buffer, Call::of_word(word)?)))
+        .collect();
+    Some(items?.join(" "))
+}
+
+/// What a call of a history answers.
+fn item(message: &mut Message, buffer: &mut [u8], call: Call) -> String {
+    let before = buffer.to_vec();
+    let outcome = match call.make(*message, buffer) {
+        Answer::Message(outcome) => outcome,
+        Answer::Part(part) => return part_text(part),
+    };
+    let changed = changed_text(&before, buffer);
+    match outcome {
+        Ok(after) => {
+            *message = after;
+            let State {
+                byte_count,
+                open,
+                added,
+                ..
+            } = State::default().answered(outcome);
+            format!("done:{byte_count}:{open}:{added}{changed}")
+        }
+        Err(refusal) => format!("refused:{}{changed}", refusal.number()),
+    }
+}
+
+/// From the first place that changed to the last, if any did.
+fn changed_text(before: &[u8], after: &[u8]) -> String {
+    let differs = |place: &usize| before[*place] != after[*place];
+    let first = (0..after.len()).find(differs);
+    let last = (0..after.len()).rfind(differs);
+    match (first, last) {
+        (Some(first), Some(last)) => format!("@{first}={}", digits(&after[first..=last])),
+        _ => String::new(),
+    }
+}
+
+fn received_answer<'a>(mut words: impl Iterator<Item = &'a str>) -> Option<String> {
+    let message = bytes(words.next()?)?;
+    let numbers = numbers(words)?;
+    let [number] = numbers[..] else {
+        return None;
+    };
+    Some(part_text(reference(&message, number)))
+}
+
+fn part_text(part: Part) -> String {
+    format!("part:{}:{}", part.from, part.byte_count)
 }
 
 fn numbers<'a>(words: impl Iterator<Item = &'a str>) -> Option<Vec<u32>> {

@@ -39,3 +39,5 @@ pub mod WrongSectors
 pub mod Points
 pub mod WrongPoints
 pub mod WrongOffsets
+pub mod Messages
+pub mod WrongMessages

@@ -14,6 +14,7 @@ use Rattle.model.specs.Sector.{stepAdded, greatestStep}
 use Rattle.model.specs.Map.{Node, Line, MapAnswer, greatestNodeCount, greatestLineCount, greatestLineLength, field, ended, readSteps, readLine, decodeLines, readNode, decodeNodes, decode, Turn, greatestBanCount, greatestNumber, readBan, decodeBans}
 use Rattle.model.specs.Reference.{ParseAnswer, parse, shortestReference, longestReference}
 use Rattle.model.proofs.Tests.{both}
+use Rattle.model.proofs.Numbers.{number-width}
 
 -- ---- a number takes five bytes at most, and those behind it follow it
 
@@ -52,36 +53,6 @@ module _ (more : List ℕ) where
   unfolding number
   number-more bs h = groups-more 5 1 0 bs h
 
-not-got : {x : ℕ} {rest : List ℕ} → faulty ≡ got x rest → ⊥
-not-got e = let z : _≡_ {A = ℕ} 0 1 = cc in omega arith
-
-groups-few : (most weight value : ℕ) (bs : List ℕ) (x : ℕ) (rest : List ℕ) → groups most weight value bs ≡ got x rest → length bs ≤ length rest + most
-unfolding groups
-groups-few zero weight value bs x rest e = absurd (not-got e)
-groups-few (suc most) weight value [] x rest e = absurd (not-got e)
-groups-few (suc most) weight value (b ∷ bs) x rest e =
-    go (ltb b 128) e (groups-few most (weight * 128) (value + (b - 128) * weight) bs x rest)
-  where
-    last : (s t : Bool) → cond s (cond t (got (value + b * weight) bs) faulty) faulty ≡ got x rest → suc (length bs) ≤ length rest + suc most
-    last true true e = let same : bs ≡ rest = cc in omega (arith, ap length same)
-    last true false e = absurd (not-got e)
-    last false t e = absurd (not-got e)
-
-    go : (t : Bool) →
-        elim t [
-          | true ↦
-              cond (not (eqb b 0) || eqb weight 1) (cond (ltb (value + b * weight) (2 ^ 32)) (got (value + b * weight) bs) faulty) faulty
-          | false ↦ groups most (weight * 128) (value + (b - 128) * weight) bs
-        ] ≡ got x rest →
-        (groups most (weight * 128) (value + (b - 128) * weight) bs ≡ got x rest → length bs ≤ length rest + most) →
-        suc (length bs) ≤ length rest + suc most
-    go true e later = last (not (eqb b 0) || eqb weight 1) (ltb (value + b * weight) (2 ^ 32)) e
-    go false e later = let h = later e in omega arith
-
-number-few : (bs : List ℕ) (x : ℕ) (rest : List ℕ) → number bs ≡ got x rest → length bs ≤ length rest + 5
-unfolding number
-number-few bs x rest e = groups-few 5 1 0 bs x rest e
-
 -- ---- a map, number by number: with enough bytes, those behind do not count
 
 -- What `field` does with a number, by itself.
@@ -104,7 +75,7 @@ module _ (more : List ℕ) where
     where
       ranged : (x : ℕ) (after : List ℕ) → number bs ≡ got x after → (t : Bool) → (leb low x && leb x high) ≡ t →
           tested t (rest x (after ++ more)) (MapAnswer.refused n) ≡ tested t (rest x after) (MapAnswer.refused n)
-      ranged x after f true t = later x after (leb-true x high (both (leb low x) (leb x high) t .1)) (omega (arith, number-few bs x after f))
+      ranged x after f true t = later x after (leb-true x high (both (leb low x) (leb x high) t .1)) (omega (arith, number-width bs x after f .1))
       ranged x after f false t = refl
 
       go : (a : Number) → number bs ≡ a → next low high n rest (onto more a) ≡ next low high n rest a

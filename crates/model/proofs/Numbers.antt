@@ -6,6 +6,7 @@ use mathlib.Core.Bool.{Bool, true, false, cond, _||_, not}
 use mathlib.Core.List.{List, [], _∷_, _++_}
 use native.Mathlib.Nat.{add-mul, mul-assoc, mul-comm, pow-succ'}
 use native.Mathlib.Omega.{arith}
+use lib.ListN.{length, length-append}
 use lib.Dec.{ltb, eqb}
 use borrow.Author.Tests.{ltb-true, ltb-false, lt-ltb, le-ltb, eqb-true, eqb-false, eq-eqb, ne-eqb}
 use Rattle.model.specs.Number.{got, faulty, groups, number, groupBytes, numberBytes}
@@ -73,6 +74,56 @@ number-back x rest fits =
     let same : 0 + x * 1 ≡ x = omega arith in
     groups-back 5 1 0 x rest (omega arith) (omega arith) (omega arith) (inr refl) ∙ ap (λ (v : ℕ). got v rest) same
 
+-- ---- how many bytes a number takes
+
+not-got : {x : ℕ} {rest : List ℕ} → faulty ≡ got x rest → ⊥
+not-got e = let z : _≡_ {A = ℕ} 0 1 = cc in omega arith
+
+-- The bytes of a number, in front of the rest: one at least, and `most` at most.
+pub record Front (most : ℕ) (bs rest : List ℕ) : Type 0 where
+  pub own : List ℕ
+  pub is : bs ≡ own ++ rest
+  pub some : 0 < length own
+  pub few : length own ≤ most
+
+groups-front : (most weight value : ℕ) (bs : List ℕ) (x : ℕ) (rest : List ℕ) → groups most weight value bs ≡ got x rest → Front most bs rest
+unfolding groups
+groups-front zero weight value bs x rest e = absurd (not-got e)
+groups-front (suc most) weight value [] x rest e = absurd (not-got e)
+groups-front (suc most) weight value (b ∷ bs) x rest e =
+    go (ltb b 128) e (groups-front most (weight * 128) (value + (b - 128) * weight) bs x rest)
+  where
+    last : (s t : Bool) → cond s (cond t (got (value + b * weight) bs) faulty) faulty ≡ got x rest → Front (suc most) (b ∷ bs) rest
+    last true true e =
+        let same : bs ≡ rest = cc in
+        record { own = b ∷ []; is = ap (λ (l : List ℕ). b ∷ l) same; some = omega arith; few = omega arith }
+    last true false e = absurd (not-got e)
+    last false t e = absurd (not-got e)
+
+    go : (t : Bool) →
+        elim t [
+          | true ↦
+              cond (not (eqb b 0) || eqb weight 1) (cond (ltb (value + b * weight) (2 ^ 32)) (got (value + b * weight) bs) faulty) faulty
+          | false ↦ groups most (weight * 128) (value + (b - 128) * weight) bs
+        ] ≡ got x rest →
+        (groups most (weight * 128) (value + (b - 128) * weight) bs ≡ got x rest → Front most bs rest) → Front (suc most) (b ∷ bs) rest
+    go true e later = last (not (eqb b 0) || eqb weight 1) (ltb (value + b * weight) (2 ^ 32)) e
+    go false e later =
+        let f = later e in
+        record { own = b ∷ f .own; is = ap (λ (l : List ℕ). b ∷ l) (f .is); some = omega arith; few = omega (arith, f .few) }
+
+pub number-front : (bs : List ℕ) (x : ℕ) (rest : List ℕ) → number bs ≡ got x rest → Front 5 bs rest
+unfolding number
+number-front bs x rest e = groups-front 5 1 0 bs x rest e
+
+pub number-width : (bs : List ℕ) (x : ℕ) (rest : List ℕ) → number bs ≡ got x rest → (length rest < length bs) × (length bs ≤ length rest + 5)
+number-width bs x rest e =
+    let f = number-front bs x rest e in
+    let whole = ap length (f .is) ∙ length-append (f .own) rest in
+    (omega (arith, f .some), omega (arith, f .few))
+
+-- ---- what was read
+
 -- What was read is what would be written.
 record Shortest (most weight value : ℕ) (bs : List ℕ) (x : ℕ) (rest : List ℕ) : Type 0 where
   part : ℕ
@@ -80,9 +131,6 @@ record Shortest (most weight value : ℕ) (bs : List ℕ) (x : ℕ) (rest : List
   bytes-are : bs ≡ groupBytes most part ++ rest
   last : Last weight part
   fits : x < 2 ^ 32
-
-not-got : {x : ℕ} {rest : List ℕ} → faulty ≡ got x rest → ⊥
-not-got e = let z : _≡_ {A = ℕ} 0 1 = cc in omega arith
 
 -- The last group.
 group-last : (most weight value b : ℕ) (bs : List ℕ) (x : ℕ) (rest : List ℕ) → b < 128 →

@@ -1,5 +1,5 @@
 -- What the promises mean. In the order of paper 01, as far as one definition needs another; AsBefore is paper 02's W2, PointAlong and PointTrip are its W5,
--- LegTests and BestFound its W7, and Tenfold its W8.
+-- LegTests and BestFound its W7, Tenfold its W8, and the modules of messages its W9.
 pub mod Number
 pub mod Field
 pub mod Sector
@@ -29,3 +29,7 @@ pub mod HostPointTrip
 pub mod AsBefore
 pub mod Tenfold
 pub mod BestFound
+pub mod Message
+pub mod MessageCall
+pub mod MessageHistory
+pub mod HostMessage

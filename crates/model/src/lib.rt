@@ -1,4 +1,4 @@
-// The answers that the reader and the writer give. What they mean is defined in specs/.
+// The answers that the reader and the writer give, and messages. What they mean is defined in specs/.
 ghost use mathlib.Core.Path.{_≡_};
 ghost use Rattle.model.specs.Refusal.{numberOf, placeOf, refusalOf};
 
@@ -33,6 +33,8 @@ pub enum Refusal {
     MapStep,
     PointMarks,
     Unfinished,
+    MessageOrder,
+    MessageFull,
 }
 
 // The least and the greatest offset, in centimetres, that an offset byte may stand for. 0 and 0 where there is no byte.
@@ -62,6 +64,20 @@ pub enum WriteAnswer {
 // What the writer of points along a line answers: the count of bytes, or why not.
 pub enum PointWriteAnswer {
     Written(usize),
+    Refused(Refusal),
+}
+
+// A message that is being written, as far as its buffer does not say it.
+pub enum Message {
+    // No reference is open: the count of bytes of those that are finished.
+    Closed(usize),
+    // One is open: that count, and how many bytes the open one has so far.
+    Open(usize, usize),
+}
+
+// What a call on a message answers: the message as it is now, or why not; then it is as it was.
+pub enum MessageAnswer {
+    Now(Message),
     Refused(Refusal),
 }
 
@@ -99,6 +115,8 @@ pub fn row_of(why: Refusal) -> Row
         Refusal::MapStep => Row(24, 0),
         Refusal::PointMarks => Row(25, 0),
         Refusal::Unfinished => Row(26, 0),
+        Refusal::MessageOrder => Row(27, 0),
+        Refusal::MessageFull => Row(28, 0),
     }
 }
 

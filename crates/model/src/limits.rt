@@ -34,5 +34,11 @@ pub const GREATEST_STRETCH: usize = 64;
 // The most lines that a C host is given (specs/Host.antt).
 pub const GREATEST_HOST_LINES: usize = 1_024;
 
+// The most bytes of a reference (specs/Reference.antt).
+pub const LONGEST_REFERENCE: usize = 459;
+
+// How many bytes of a buffer a message may take (specs/Message.antt).
+pub const LONGEST_MESSAGE: usize = 16_384;
+
 // The greatest orientation and the greatest side of road (specs/PointAlong.antt).
 pub const GREATEST_MARK: u32 = 3;

@@ -25,6 +25,7 @@ ghost use Rattle.model.specs.Host.{greatestHostLines, hostRead, HostReadCall, h
 ghost use Rattle.model.specs.Stretch.{stretchOf};
 ghost use Rattle.openlr.specs.Host.{asRead, asWritten, stretchLines};
 
+pub mod message;
 pub mod point;
 
 // How many line numbers are taken from a stretch: one more than it may have, so that a longer one is refused.

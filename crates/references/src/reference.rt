@@ -2,6 +2,7 @@
 use buffers::bytes::wide;
 use fields::leg::Attributes;
 use model::Refusal;
+use model::limits::LONGEST_REFERENCE;
 ghost use mathlib.Core.Path.{_≡_};
 ghost use Prim.Native.Nat.{_+_, _*_, _≤_, _<_};
 ghost use mathlib.Core.Bool.{true};
@@ -41,7 +42,7 @@ impl Reference {
     // How many bytes a reference has at least, 16: those of the status, a first and a last point. And how many at most.
     pub const SHORTEST: usize = 1 + Self::FIRST_POINT + Self::LAST_POINT;
 
-    pub const LONGEST: usize = 459;
+    pub const LONGEST: usize = LONGEST_REFERENCE;
 
     // The greatest count of points, with the last.
     pub const MOST_POINTS: usize = 65;

@@ -1,5 +1,7 @@
 //! The C functions of include/openlr.h.
 
+use std::ops::Range;
+
 use plain::point::Point;
 
 use crate::memory::Memory;
@@ -89,16 +91,17 @@ extern "C" {
     ) -> PointWrittenAnswer;
 }
 
-/// Reads the reference that the memory holds beside the map.
-pub fn read(memory: &mut Memory) -> ReadingAnswer {
+/// Reads the reference that is this part of what the memory holds beside the map.
+pub fn read(memory: &mut Memory, part: Range<usize>) -> ReadingAnswer {
     let Memory { map, given, buffer } = memory;
+    let reference = &given.bytes_mut()[part];
     // Each pointer is valid for the length beside it, and the three parts do not overlap.
     unsafe {
         openlr_read(
             map.as_mut_ptr(),
             map.len(),
-            given.as_mut_ptr(),
-            given.len(),
+            reference.as_ptr(),
+            reference.len(),
             buffer.as_mut_ptr(),
             buffer.len(),
         )
@@ -123,15 +126,16 @@ pub fn write(memory: &mut Memory, pos: u32, neg: u32, tests: u32) -> WrittenAnsw
     }
 }
 
-/// Reads the point that the memory holds beside the map.
-pub fn read_point(memory: &mut Memory) -> PointAnswer {
+/// Reads the point that is this part of what the memory holds beside the map.
+pub fn read_point(memory: &mut Memory, part: Range<usize>) -> PointAnswer {
     let Memory { map, given, buffer } = memory;
+    let reference = &given.bytes_mut()[part];
     unsafe {
         openlr_read_point(
             map.as_mut_ptr(),
             map.len(),
-            given.as_mut_ptr(),
-            given.len(),
+            reference.as_ptr(),
+            reference.len(),
             buffer.as_mut_ptr(),
             buffer.len(),
         )

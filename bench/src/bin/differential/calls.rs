@@ -34,13 +34,20 @@ pub struct WriteCall<'a> {
 impl ReadCall<'_> {
     /// The outcome that both agree on, or how they differ.
     pub fn compare(&self) -> Result<Outcome<Reading>, String> {
+        self.compare_within(self.reference, 0)
+    }
+
+    /// The C function reads the reference where it stands in a message, from this byte on.
+    pub fn compare_within(&self, message: &[u8], from: usize) -> Result<Outcome<Reading>, String> {
         let outcome = reader::read(self.map, self.reference, WORK_AREA, line_room(self.room));
         let (answer, result) = match &outcome {
             Ok(reading) => (reading_answer(reading), line_bytes(&reading.lines)),
             Err(refusal) => (reading_refusal(*refusal), Vec::new()),
         };
-        let memory = Memory::new(self.map, self.reference, self.room);
-        compare(c_functions::read, memory, &result, answer)?;
+        let memory = Memory::new(self.map, message, self.room);
+        let part = from..from + self.reference.len();
+        let read = |memory: &mut Memory| c_functions::read(memory, part);
+        compare(read, memory, &result, answer)?;
         Ok(outcome)
     }
 
@@ -105,10 +112,18 @@ pub fn compare<Answer: Debug + PartialEq>(
     let mut expected_memory = memory.clone();
     expected_memory.buffer.put_first(result);
     let answer = call(&mut memory);
+    check_answer(answer, expected)?;
+    memory.check(&expected_memory)
+}
+
+pub fn check_answer<Answer: Debug + PartialEq>(
+    answer: Answer,
+    expected: Answer,
+) -> Result<(), String> {
     if answer != expected {
         return Err(format!("C: {answer:?}\nplain Rust: {expected:?}"));
     }
-    memory.check(&expected_memory)
+    Ok(())
 }
 
 fn reading_answer(reading: &Reading) -> ReadingAnswer {

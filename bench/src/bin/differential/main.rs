@@ -1,4 +1,4 @@
-//! Compares the C functions with the plain writers and readers on random calls.
+//! Compares the C functions with the plain writers and readers and the plain messages on random calls.
 //!
 //! `differential COUNT SEED` makes that many calls or a few more. It stops at the first difference
 //! and shows the call. `differential replay` makes the calls in the rows of the standard input,
@@ -12,6 +12,11 @@ mod inputs;
 mod length_counts;
 mod memory;
 mod meridian;
+mod message_calls;
+mod message_counts;
+mod message_functions;
+mod message_inputs;
+mod message_run;
 mod offset_counts;
 mod point_calls;
 mod point_counts;
@@ -28,6 +33,7 @@ use std::process::ExitCode;
 use plain::maps::Xorshift;
 
 use calls::{ReadCall, WriteCall};
+use message_calls::{History, MadeUpCall, ReceivedCall};
 use point_calls::{ReadPointCall, WritePointCall};
 use run::Run;
 
@@ -58,7 +64,12 @@ fn replay() -> Result<(), String> {
 fn compare_row(row: &str) -> Option<Result<(), String>> {
     let of_lines = ReadCall::compare_row(row).or_else(|| WriteCall::compare_row(row));
     let of_points = || ReadPointCall::compare_row(row).or_else(|| WritePointCall::compare_row(row));
-    of_lines.or_else(of_points)
+    let of_messages = || {
+        History::compare_row(row)
+            .or_else(|| ReceivedCall::compare_row(row))
+            .or_else(|| MadeUpCall::compare_row(row))
+    };
+    of_lines.or_else(of_points).or_else(of_messages)
 }
 
 fn compare(count: &str, seed: &str) -> Result<(), String> {

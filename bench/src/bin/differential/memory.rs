@@ -14,14 +14,11 @@ pub struct Memory {
 
 impl Memory {
     pub fn new(map: &[u8], given: &[u8], room: usize) -> Memory {
-        let mut memory = Memory {
-            map: Lent::new(map.len()),
-            given: Lent::new(given.len()),
+        Memory {
+            map: Lent::of(map),
+            given: Lent::of(given),
             buffer: Lent::new(room),
-        };
-        memory.map.put_first(map);
-        memory.given.put_first(given);
-        memory
+        }
     }
 
     /// All bytes are as expected, or it is said where the first one stands that is not.
@@ -50,8 +47,20 @@ impl Lent {
         }
     }
 
+    /// With these bytes in it.
+    pub fn of(bytes: &[u8]) -> Lent {
+        let mut lent = Lent::new(bytes.len());
+        lent.put_first(bytes);
+        lent
+    }
+
     pub fn put_first(&mut self, bytes: &[u8]) {
-        self.bytes[self.start..self.start + bytes.len()].copy_from_slice(bytes);
+        self.bytes_mut()[..bytes.len()].copy_from_slice(bytes);
+    }
+
+    /// Without those around it.
+    pub fn bytes_mut(&mut self) -> &mut [u8] {
+        &mut self.bytes[self.start..self.start + self.len]
     }
 
     pub fn len(&self) -> usize {
@@ -62,7 +71,7 @@ impl Lent {
         self.bytes[self.start..].as_mut_ptr()
     }
 
-    fn check(&self, name: &str, expected: &Lent) -> Result<(), String> {
+    pub fn check(&self, name: &str, expected: &Lent) -> Result<(), String> {
         if self.bytes == expected.bytes {
             return Ok(());
         }

@@ -28,13 +28,24 @@ pub struct WritePointCall<'a> {
 impl ReadPointCall<'_> {
     /// The outcome that both agree on, or how they differ.
     pub fn compare(&self) -> Result<Outcome<PointReading>, String> {
+        self.compare_within(self.reference, 0)
+    }
+
+    /// The C function reads the reference where it stands in a message, from this byte on.
+    pub fn compare_within(
+        &self,
+        message: &[u8],
+        from: usize,
+    ) -> Result<Outcome<PointReading>, String> {
         let outcome = read_point(self.map, self.reference, WORK_AREA, line_room(self.room));
         let (answer, result) = match &outcome {
             Ok(reading) => (point_answer(reading), line_bytes(&reading.lines)),
             Err(refusal) => (point_refusal(*refusal), Vec::new()),
         };
-        let memory = Memory::new(self.map, self.reference, self.room);
-        compare(c_functions::read_point, memory, &result, answer)?;
+        let memory = Memory::new(self.map, message, self.room);
+        let part = from..from + self.reference.len();
+        let read = |memory: &mut Memory| c_functions::read_point(memory, part);
+        compare(read, memory, &result, answer)?;
         Ok(outcome)
     }
 

@@ -29,6 +29,8 @@ pub struct PointRun {
     steps: StepCounts,
     lengths: LengthCounts,
     counts: PointCounts,
+    /// References to points on the map.
+    pub written: Vec<Vec<u8>>,
 }
 
 impl PointRun {
@@ -75,6 +77,7 @@ impl PointRun {
             let damaged = damaged_point(rng, &sample.map, &reference);
             self.read_in_rooms(rng, sample, &damaged)?;
         }
+        self.written.push(reference);
         Ok(())
     }
 

@@ -1,5 +1,7 @@
 //! The calls on one map after another, and how many had each answer.
 
+use std::mem::take;
+
 use plain::depot_map::DepotMap;
 use plain::maps::{chain, Lengths, MapPlan, Xorshift};
 use plain::outcome::{Outcome, Reading, Refusal, Span, Written, WORK_AREA};
@@ -14,6 +16,7 @@ use crate::inputs::{
 };
 use crate::length_counts::LengthCounts;
 use crate::meridian::Meridian;
+use crate::message_run::MessageRun;
 use crate::offset_counts::StretchOffsets;
 use crate::point_inputs::any_point_reference;
 use crate::point_run::PointRun;
@@ -23,6 +26,9 @@ use crate::test_counts::{check_tests_made, check_with_more_tests, TestCounts};
 
 /// Of so many maps one is of full size, and one is for long lists.
 const FULL_SIZE_EVERY: u64 = 10;
+
+/// Of so many maps one is for a message of what was written on it.
+const MESSAGE_EVERY: u32 = 24;
 
 pub const ENOUGH_FOR_LINES: usize = 4 * MOST_LINES_READ;
 
@@ -50,6 +56,9 @@ pub struct Run {
     steps: StepCounts,
     lengths: LengthCounts,
     points: PointRun,
+    messages: MessageRun,
+    /// References to stretches of the map.
+    written: Vec<Vec<u8>>,
 }
 
 /// How many stretches, points and references of both a map begins with. Most lead to more calls.
@@ -98,21 +107,22 @@ impl Sample {
 
 impl Run {
     pub fn calls(&self) -> u64 {
-        self.calls + self.points.calls
+        self.calls + self.points.calls + self.messages.calls
     }
 
     pub fn turn(&mut self, rng: &mut Xorshift, turn: u64) -> Result<(), String> {
         match turn % FULL_SIZE_EVERY {
             0 => {
                 let plan = full_size_plan(rng, turn / FULL_SIZE_EVERY);
-                self.on_plan(rng, &plan, ON_FULL_SIZE)
+                self.on_plan(rng, &plan, ON_FULL_SIZE)?;
             }
-            1 => self.long_lists(rng),
+            1 => self.long_lists(rng)?,
             _ => {
                 let plan = any_small_plan(rng);
-                self.on_plan(rng, &plan, ON_SMALL)
+                self.on_plan(rng, &plan, ON_SMALL)?;
             }
         }
+        self.messages.turn(rng, turn)
     }
 
     /// So many inputs on the map, and a few on maps that differ from it.
@@ -153,7 +163,11 @@ impl Run {
         for _ in 0..inputs.point_references {
             self.points.reference(rng, &sample)?;
         }
-        Ok(())
+        let written = [take(&mut self.written), take(&mut self.points.written)].concat();
+        match rng.below(MESSAGE_EVERY) {
+            0 => self.messages.written(rng, &sample.bytes, written),
+            _ => Ok(()),
+        }
     }
 
     /// The map is refused, whatever stands beside it.
@@ -205,6 +219,7 @@ impl Run {
             let damaged = damaged_reference(rng, &sample.map, &reference);
             self.reference(rng, sample, &damaged)?;
         }
+        self.written.push(reference);
         Ok(())
     }
 
@@ -405,7 +420,8 @@ impl Run {
         self.lengths.report("stretches")?;
         print_answers("write", &self.writes, &OF_WRITER)?;
         print_answers("read", &self.reads, &OF_READER)?;
-        self.points.report()
+        self.points.report()?;
+        self.messages.report()
     }
 }
 

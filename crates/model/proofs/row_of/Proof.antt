@@ -82,6 +82,12 @@ enum-told-22 c = search needs
 enum-told-23 : tie.Need-enum-told-23
 enum-told-23 c = search needs
 
+enum-told-24 : tie.Need-enum-told-24
+enum-told-24 c = search needs
+
+enum-told-25 : tie.Need-enum-told-25
+enum-told-25 c = search needs
+
 returns : tie.Need-returns
 unfolding numberOf placeOf refusalOf
 returns c = (simp (c .enum-told .given .1), simp (c .enum-told .given .1))
@@ -186,6 +192,14 @@ returns-26 : tie.Need-returns-26
 unfolding numberOf placeOf refusalOf
 returns-26 c = (simp (c .enum-told23 .given .1), simp (c .enum-told23 .given .1))
 
+returns-27 : tie.Need-returns-27
+unfolding numberOf placeOf refusalOf
+returns-27 c = (simp (c .enum-told24 .given .1), simp (c .enum-told24 .given .1))
+
+returns-28 : tie.Need-returns-28
+unfolding numberOf placeOf refusalOf
+returns-28 c = (simp (c .enum-told25 .given .1), simp (c .enum-told25 .given .1))
+
 pub row-of-spec : {M : Type 1} → statement M
 row-of-spec =
     tie.close
@@ -216,6 +230,8 @@ row-of-spec =
     enum-told-21
     enum-told-22
     enum-told-23
+    enum-told-24
+    enum-told-25
     returns
     returns-2
     returns-3
@@ -241,4 +257,6 @@ row-of-spec =
     returns-23
     returns-24
     returns-25
-    returns-26)
+    returns-26
+    returns-27
+    returns-28)

@@ -1,0 +1,2 @@
+-- Laws of messages whose numbers have 32 bits.
+pub mod Narrow

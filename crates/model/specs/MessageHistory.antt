@@ -1,0 +1,121 @@
+-- The promise over several calls: "Promises over several calls run from an empty start with these calls only and nothing else writing" (paper 02, W9).
+use Prim.Native.Nat.{ℕ, _≤_, _<_, min}
+use mathlib.Core.Path.{_≡_}
+use mathlib.Core.Bool.{cond, _&&_}
+use mathlib.Core.List.{List, [], _∷_, _++_}
+use lib.ListN.{length, take, getD}
+use lib.Dec.{leb}
+use Rattle.model.specs.declared.Refusal.{Refusal}
+use Rattle.model.specs.declared.Message.{Message}
+use Rattle.model.specs.declared.Message.the-variants.{Closed, Open}
+use Rattle.model.specs.declared.MessageAnswer.{MessageAnswer}
+use Rattle.model.specs.declared.MessageAnswer.the-variants.{Now, Refused}
+use Rattle.model.specs.Refusal.{numberOf, refusalOf}
+use Rattle.model.specs.Work.{placed}
+use Rattle.model.specs.Reference.{longestReference}
+use Rattle.model.specs.Message.{longestMessage, framed, framedAll, listed}
+use Rattle.model.specs.MessageCall.{finishedBytes, opening, closing, Adds, finishedNumber}
+
+-- What a message is, whatever holds it: the references that were finished, and the bytes so far of one that is open.
+pub data Content : Type 0 where
+  whole : List (List ℕ) → Content
+  partial : List (List ℕ) → List ℕ → Content
+
+abbrev pub finished : Content → List (List ℕ)
+finished (whole rs) = rs
+finished (partial rs bs) = rs
+
+-- Its bytes. "Once bytes are added, the open one's length so far and its bytes stand right behind the last finished one."
+unfoldable pub contentBytes : Content → List ℕ
+contentBytes (whole rs) = framedAll rs
+contentBytes (partial rs bs) = framedAll rs ++ framed bs
+
+-- The calls: "A reference is opened, gets its bytes in portions, and is closed."
+pub data Call : Type 0 where
+  opens : Call
+  adds : List ℕ → Call
+  closes : Call
+
+-- What a call comes to: the message as it then is, or a number of the table.
+pub data CallOutcome : Type 0 where
+  done : Content → CallOutcome
+  refused : ℕ → CallOutcome
+
+-- Refusal 28 of an addition that makes the open reference `bs`, where the message may take `room` bytes.
+unfoldable pub lengthened : ℕ → List (List ℕ) → List ℕ → CallOutcome
+lengthened room rs bs =
+    cond (leb (length bs) longestReference && leb (length (contentBytes (partial rs bs))) room) (done (partial rs bs)) (refused 28)
+
+-- A call on a message. Refusal 27: "opening when one is open, adding or closing when none is, closing with nothing added".
+unfoldable pub outcome : ℕ → Content → Call → CallOutcome
+outcome room (whole rs) opens = done (partial rs [])
+outcome room (whole rs) (adds portion) = refused 27
+outcome room (whole rs) closes = refused 27
+outcome room (partial rs bs) opens = refused 27
+outcome room (partial rs bs) (adds portion) = lengthened room rs (bs ++ portion)
+outcome room (partial rs []) closes = refused 27
+outcome room (partial rs (b ∷ bs)) closes = done (whole (rs ++ (b ∷ bs) ∷ []))
+
+-- "A refusal changes nothing."
+unfoldable pub left : Content → CallOutcome → Content
+left c (done c′) = c′
+left c (refused n) = c
+
+-- What some calls, the latest first, make of an empty message.
+unfoldable pub after : ℕ → List Call → Content
+after room [] = whole []
+after room (call ∷ earlier) = left (after room earlier) (outcome room (after room earlier) call)
+
+-- ---- calls that were made
+
+-- The message that the caller goes on with.
+abbrev pub stays : Message → MessageAnswer → Message
+stays m (Now m′) = m′
+stays m (Refused why) = m
+
+-- One call, its answer, and the buffer before and after it: what the functions promise, and nothing else.
+pub data Made : Message → List ℕ → Call → MessageAnswer → List ℕ → Type 0 where
+  opened : {m : Message} {buffer : List ℕ} {a : MessageAnswer} → a ≡ opening m → Made m buffer opens a buffer
+  added : {m : Message} {buffer portion : List ℕ} {a : MessageAnswer} {buffer′ : List ℕ} → Adds m buffer portion a buffer′ →
+      Made m buffer (adds portion) a buffer′
+  closed : {m : Message} {buffer : List ℕ} {a : MessageAnswer} → a ≡ closing m → Made m buffer closes a buffer
+
+-- These calls were made, the latest first, from a message `m₀` in a buffer that held `b₀` on, and nothing else wrote in it.
+pub data History (m₀ : Message) (b₀ : List ℕ) : List Call → Message → List ℕ → Type 0 where
+  begun : History m₀ b₀ [] m₀ b₀
+  then : {earlier : List Call} {m : Message} {buffer : List ℕ} {call : Call} {a : MessageAnswer} {buffer′ : List ℕ} →
+      History m₀ b₀ earlier m buffer → Made m buffer call a buffer′ → History m₀ b₀ (call ∷ earlier) (stays m a) buffer′
+
+-- ---- what holds after them
+
+-- How many bytes of a buffer a message may take.
+abbrev pub room : List ℕ → ℕ
+room buffer = min (length buffer) longestMessage
+
+-- What the caller holds of a message.
+unfoldable pub stateOf : Content → Message
+stateOf (whole rs) = Closed (length (framedAll rs))
+stateOf (partial rs bs) = Open (length (framedAll rs)) (length bs)
+
+-- An answer tells an outcome: the number of the refusal, or the message, which after closing is its count of bytes.
+pub data AnswerTells : MessageAnswer → CallOutcome → Type 0 where
+  now : {c : Content} → AnswerTells (Now (stateOf c)) (done c)
+  refusal : {why : Refusal} → AnswerTells (Refused why) (refused (numberOf (refusalOf why)))
+
+-- After any calls the buffer holds what they make of an empty message, and all behind it is as it was. It keeps within its room, and the next call answers
+-- what it comes to. Reference n is the n-th that was closed, and a later call does not change it. The finished bytes, received, give what was closed.
+pub record MessagePromise (b₀ : List ℕ) (calls : List Call) (m : Message) (buffer : List ℕ) : Type 0 where
+  pub state : m ≡ stateOf (after (room b₀) calls)
+  pub bytes : buffer ≡ placed (contentBytes (after (room b₀) calls)) b₀
+  pub within : length (contentBytes (after (room b₀) calls)) ≤ room b₀
+  pub answers : {call : Call} {a : MessageAnswer} {buffer′ : List ℕ} → Made m buffer call a buffer′ →
+      AnswerTells a (outcome (room b₀) (after (room b₀) calls) call)
+  pub numbered : (n : ℕ) → finishedNumber m buffer n ≡ getD (finished (after (room b₀) calls)) n []
+  pub lasting : {later : List Call} {m′ : Message} {buffer′ : List ℕ} → History m buffer later m′ buffer′ → (n : ℕ) →
+      n < length (finished (after (room b₀) calls)) → finishedNumber m′ buffer′ n ≡ finishedNumber m buffer n
+  pub received : listed (take (finishedBytes m) buffer) ≡ finished (after (room b₀) calls)
+
+-- The promise as one statement.
+unfoldable pub MessageHistories : Type 0
+MessageHistories =
+    (b₀ : List ℕ) (calls : List Call) (m : Message) (buffer : List ℕ) → History (Closed 0) b₀ calls m buffer → MessagePromise b₀ calls m buffer
