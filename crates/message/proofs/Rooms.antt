@@ -17,7 +17,8 @@ so-far-none : (w : ℕ) (p : List ℕ) → take 0 (drop w p) ≡ soFar 0 p
 unfolding soFar
 so-far-none w p = refl
 
-so-far-at : (added w : ℕ) (p q : List ℕ) → (0 < added → length (lengthBytes added) ≡ w) → (0 < added → take added q ≡ take added (drop w p)) → take added q ≡ soFar added p
+so-far-at : (added w : ℕ) (p q : List ℕ) → (0 < added → length (lengthBytes added) ≡ w) → (0 < added → take added q ≡ take added (drop w p)) →
+    take added q ≡ soFar added p
 unfolding soFar
 so-far-at zero w p q e f = refl
 so-far-at (suc n) w p q e f = f (omega arith) ∙ ap (λ (k : ℕ). take (suc n) (drop k p)) (sym (e (omega arith)))

@@ -1,3 +1,4 @@
+-- `add_bytes` meets its contract: none open, nothing to add, no room, or the rest of the buffer lent to `extend`.
 use Prim.Native.Nat.{ℕ, _+_, _≤_}
 use mathlib.Core.Path.{_≡_, sym, _∙_, ap}
 use mathlib.Core.Bool.{true}
@@ -81,12 +82,16 @@ same-length c = search needs
 
 returns-4 : tie.Need-returns-4
 returns-4 c =
-    more _ _ (c .before .before .before .before .before .before .before .before .m .given .1) (c .before .before .before .before .before .before .if1 .left) (fit (c .before .before .before .before))
-    (let f = finished-at (c .before .before .before .before) in
-    let a = c .before .before .before .before .before .before .before .before .before .before .before .before .args in
-    tail-back f (now (a .buffer)) (c .before .before .extend .last .0)
-    ∙ ap (λ (l : List ℕ). take f (now (a .buffer)) ++ l)
-    (c .before .before .extend .ensures ∙ ap (λ (l : List ℕ). extended (c .before .before .before .before .before .before .before .before .m .given .0 .1 .0) l (now (a .portion))) (tail-lent f (now (a .buffer)))))
+    let t = c .before .before .before .before in
+    let o = t .before .before .before .before in
+    let a = o .before .before .before .before .args in
+    let f = finished-at t in
+    let buffer = now (a .buffer) in
+    let lent = c .before .before .extend in
+    more buffer (now (a .portion)) (o .m .given .1) (t .before .before .if1 .left) (fit t)
+    (tail-back f buffer (lent .last .0)
+    ∙ ap (λ (l : List ℕ). take f buffer ++ l)
+    (lent .ensures ∙ ap (λ (l : List ℕ). extended (o .m .given .0 .1 .0) l (now (a .portion))) (tail-lent f buffer)))
 
 pub add-bytes-spec : {M : Type 1} → statement M
 add-bytes-spec =

@@ -1,3 +1,4 @@
+-- `close_reference` meets its contract: an open reference with bytes is closed where it fits.
 use Prim.Native.Nat.{ℕ, _+_}
 use mathlib.Core.Path.{_≡_, sym, _∙_, ap}
 use mathlib.Core.Bool.{true, false}

@@ -1,3 +1,4 @@
+-- `open_reference` meets its contract, by the cases of the message.
 use Rattle.model.specs.MessageCall.{opening}
 use borrow.Author.Needs.{needs}
 use Rattle.message.proofs.open_reference.Statement.{statement}

@@ -1,3 +1,4 @@
+-- `reference` meets its contract: the finished bytes are asked, as far as the buffer has them.
 use Prim.Native.Nat.{ℕ}
 use mathlib.Core.Path.{_≡_, sym, _∙_, ap}
 use mathlib.Core.List.{List}

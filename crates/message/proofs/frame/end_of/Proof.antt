@@ -1,3 +1,4 @@
+-- `end_of` meets its contract: no sum overflows.
 use borrow.Author.Needs.{needs}
 use Rattle.model.specs.MessageCall.{endOf}
 use Rattle.message.proofs.frame.end_of.Statement.{statement}

@@ -1,3 +1,4 @@
+-- `extend` meets its contract: room is made, then the portion stands behind the bytes so far, and the length before them.
 use Prim.Native.Nat.{ℕ, _+_}
 use mathlib.Core.Path.{sym, _∙_, ap}
 use lib.ListN.{take, drop}

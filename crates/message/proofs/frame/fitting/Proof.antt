@@ -1,3 +1,4 @@
+-- `fitting` meets its contract, test by test.
 use mathlib.Core.Path.{sym, _≡_}
 use Rattle.message_laws.proofs.Fitting.{behind-finished, long-reference, past-room, ends}
 use Prim.Native.Nat.{_+_}

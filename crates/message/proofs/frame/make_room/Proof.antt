@@ -1,3 +1,4 @@
+-- `make_room` meets its contract: the bytes so far move where the length takes its second byte.
 use Prim.Native.Nat.{_≤_}
 use mathlib.Core.Path.{refl}
 use denote.Ref.{now}

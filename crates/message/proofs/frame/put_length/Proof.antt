@@ -1,3 +1,4 @@
+-- `put_length` meets its contract: one byte or two.
 use Prim.Native.Nat.{ℕ, _+_, _/_, _%_}
 use mathlib.Core.Path.{sym, _∙_, ap}
 use mathlib.Core.List.{List}
