@@ -1,8 +1,8 @@
 // Messages as a C host holds them: numbers of 32 bits by value (paper 02, W9). The crate openlr has the functions that it calls.
 use message::add_bytes;
 use message::close_reference;
-use message::list::place;
 use message::open_reference;
+use message_list::place;
 use model::Message;
 use model::MessageAnswer;
 use model::Refusal;

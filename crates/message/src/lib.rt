@@ -2,7 +2,7 @@
 use crate::frame::end_of;
 use crate::frame::extend;
 use crate::frame::fitting;
-use crate::list::received;
+use message_list::received;
 use model::Message;
 use model::MessageAnswer;
 use model::Refusal;
@@ -11,7 +11,6 @@ ghost use mathlib.Core.Path.{_≡_};
 ghost use Rattle.model.specs.MessageCall.{finishedBytes, opening, closing, Adds, finishedNumber};
 
 mod frame;
-pub mod list;
 
 // An empty message, whatever stands in its buffer.
 pub fn empty() -> Message

@@ -13,7 +13,7 @@ use Rattle.host_message.proofs.part_of.Statement.{statement}
 use Rattle.host_message.proofs.part_of.Tie as tie
 use Rattle.host_message.proofs.part_of.Reads as reads
 use Rattle.host_message.proofs.part_of.Lts as lts
-use Rattle.message.proofs.list.place.Reads as place-reads
+use Rattle.message_list.proofs.place.Reads as place-reads
 
 -- The place lies inside what is used of a message.
 there : (c : tie.After-place) → Placed (c .before .before .args .n) (now (c .before .before .args .message))

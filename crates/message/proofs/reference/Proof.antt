@@ -14,7 +14,7 @@ use Rattle.message.proofs.reference.Tie as tie
 use Rattle.message.proofs.reference.Reads as reads
 use Rattle.message.proofs.reference.Lts as lts
 use Rattle.message.proofs.finished_bytes.Reads as finished-bytes-reads
-use Rattle.message.proofs.list.received.Reads as received-reads
+use Rattle.message_list.proofs.received.Reads as received-reads
 
 finished-bytes-requires : tie.Need-finished-bytes-requires
 finished-bytes-requires c κs = search needs

@@ -4,8 +4,8 @@ use mathlib.Core.Path.{_≡_}
 use mathlib.Core.List.{List}
 use lib.ListN.{length, take, drop}
 use Rattle.model.specs.Message.{Next, reference, stop}
-use Rattle.message.specs.declared.list.Entry.{Entry}
-use Rattle.message.specs.declared.list.Entry.the-variants.{Reference, Stop}
+use Rattle.message_list.specs.declared.Entry.{Entry}
+use Rattle.message_list.specs.declared.Entry.the-variants.{Reference, Stop}
 
 -- What stands there is the reference from byte `start` to before byte `end`.
 pub record Stands (message : List ℕ) (what : Next) (start end : ℕ) : Type 0 where

@@ -5,11 +5,11 @@ use lib.Seq.{length-take-le}
 use Rattle.message_laws.proofs.Parts.{cut-start, cut-end}
 use native.Mathlib.Omega.{arith}
 use borrow.Author.Needs.{needs}
-use Rattle.message.proofs.list.place.Statement.{statement}
-use Rattle.message.proofs.list.place.Tie as tie
-use Rattle.message.proofs.list.place.Reads as reads
-use Rattle.message.proofs.list.place.Lts as lts
-use Rattle.message.proofs.list.place_in.Reads as place-in-reads
+use Rattle.message_list.proofs.place.Statement.{statement}
+use Rattle.message_list.proofs.place.Tie as tie
+use Rattle.message_list.proofs.place.Reads as reads
+use Rattle.message_list.proofs.place.Lts as lts
+use Rattle.message_list.proofs.place_in.Reads as place-in-reads
 
 slice-aggregate-place-in : tie.Need-slice-aggregate-place-in
 slice-aggregate-place-in c = sym (length-take-le 16_384 (now (c .before .before .before .args .message)) (omega arith))

@@ -7,8 +7,8 @@ use lib.Seq.{drop-drop}
 use native.Mathlib.Omega.{arith}
 use borrow.Author.Needs.{needs}
 use Rattle.message_laws.proofs.Nexts.{no-byte, too-long, early-end, a-reference}
-use Rattle.message.proofs.list.entry_of.Statement.{statement}
-use Rattle.message.proofs.list.entry_of.Tie as tie
+use Rattle.message_list.proofs.entry_of.Statement.{statement}
+use Rattle.message_list.proofs.entry_of.Tie as tie
 
 returns : tie.Need-returns
 returns c = no-byte _ _ (c .if1 .taken)

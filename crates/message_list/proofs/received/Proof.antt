@@ -7,11 +7,11 @@ use native.Mathlib.Omega.{arith}
 use borrow.Author.Needs.{needs}
 use Rattle.model.specs.Message.{referenceNumber}
 use Rattle.message_laws.proofs.Parts.{Placed, placed-in}
-use Rattle.message.proofs.list.received.Statement.{statement}
-use Rattle.message.proofs.list.received.Tie as tie
-use Rattle.message.proofs.list.received.Reads as reads
-use Rattle.message.proofs.list.received.Lts as lts
-use Rattle.message.proofs.list.place.Reads as place-reads
+use Rattle.message_list.proofs.received.Statement.{statement}
+use Rattle.message_list.proofs.received.Tie as tie
+use Rattle.message_list.proofs.received.Reads as reads
+use Rattle.message_list.proofs.received.Lts as lts
+use Rattle.message_list.proofs.place.Reads as place-reads
 
 there : (c : tie.After-place) → Placed (c .before .before .args .n) (now (c .before .before .args .message))
 there c = placed-in _ _

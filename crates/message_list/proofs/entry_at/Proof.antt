@@ -4,17 +4,17 @@ use mathlib.Core.Path.{_≡_, sym, _∙_, ap, ap₂, subst}
 use denote.Ref.{now}
 use lib.ListN.{getD, drop, drop-of-length-le}
 use Rattle.model.specs.Message.{Next, ofLength, next}
-use Rattle.message.specs.Entry.{EntryIs}
+use Rattle.message_list.specs.Entry.{EntryIs}
 use Rattle.message_laws.proofs.Nexts.{next-none}
 use Rattle.message_laws.proofs.Shapes.{one-byte-next, cut-length, padded-length, two-byte-next, longer-length}
 use native.Mathlib.Omega.{arith}
 use borrow.Author.Needs.{needs}
-use Rattle.message.proofs.list.entry_at.Statement.{statement}
-use Rattle.message.proofs.list.entry_at.Tie as tie
-use Rattle.message.proofs.list.entry_at.Reads as reads
-use Rattle.message.proofs.list.entry_at.Lts as lts
+use Rattle.message_list.proofs.entry_at.Statement.{statement}
+use Rattle.message_list.proofs.entry_at.Tie as tie
+use Rattle.message_list.proofs.entry_at.Reads as reads
+use Rattle.message_list.proofs.entry_at.Lts as lts
 use Rattle.buffers.proofs.bytes.wide.Reads as wide-reads
-use Rattle.message.proofs.list.entry_of.Reads as entry-of-reads
+use Rattle.message_list.proofs.entry_of.Reads as entry-of-reads
 
 returns : tie.Need-returns
 returns c = ap next (drop-of-length-le (now (c .before .before .args .message)) (c .if1 .taken)) ∙ next-none

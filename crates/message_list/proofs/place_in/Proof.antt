@@ -8,13 +8,13 @@ use native.Mathlib.Omega.{arith}
 use borrow.Author.Needs.{needs}
 use lib.ListN.{length, drop}
 use Rattle.model.specs.Message.{next}
-use Rattle.message.specs.Entry.{Stands, EntryIs}
+use Rattle.message_list.specs.Entry.{Stands, EntryIs}
 use Rattle.message_laws.proofs.Parts.{Asked, asked-start, asked-stop, asked-here, asked-later}
-use Rattle.message.proofs.list.place_in.Statement.{statement}
-use Rattle.message.proofs.list.place_in.Tie as tie
-use Rattle.message.proofs.list.place_in.Reads as reads
-use Rattle.message.proofs.list.place_in.Lts as lts
-use Rattle.message.proofs.list.entry_at.Reads as entry-at-reads
+use Rattle.message_list.proofs.place_in.Statement.{statement}
+use Rattle.message_list.proofs.place_in.Tie as tie
+use Rattle.message_list.proofs.place_in.Reads as reads
+use Rattle.message_list.proofs.place_in.Lts as lts
+use Rattle.message_list.proofs.entry_at.Reads as entry-at-reads
 
 abbrev Inv-loop : tie.InvT-loop
 Inv-loop message n at₀ left₀ at left = Asked n message at left

@@ -1,4 +1,4 @@
-// The references of a message's bytes.
+// The references of a message's bytes, as a box receives them (paper 02, W9).
 use buffers::bytes::wide;
 use model::limits::LONGEST_MESSAGE;
 use model::limits::LONGEST_REFERENCE;
@@ -6,7 +6,7 @@ ghost use mathlib.Core.Path.{_≡_};
 ghost use Prim.Native.Nat.{_≤_};
 ghost use lib.ListN.{length, drop};
 ghost use Rattle.model.specs.Message.{longestMessage, ofLength, next, referenceNumber, startOfNumber, endOfNumber};
-ghost use Rattle.message.specs.Entry.{EntryIs};
+ghost use Rattle.message_list.specs.Entry.{EntryIs};
 
 // The values of a group of seven bits. A byte from here on says that another group follows.
 const GROUP: usize = 128;

@@ -1,0 +1,2 @@
+-- What the functions that go through a message answer.
+pub mod Entry
