@@ -3,7 +3,8 @@
 # `make bench` measures against plain Rust (`make bench ROWS=read`: of one kind; `make bench ROWS=worst`: maps made against reader and writer, which no
 # other run has and which may take minutes),
 # `make count` counts the proved writer's searches and leg tests, `make host` runs a C host on the ridge and on the islands,
-# `make hydrant` one that marks a hydrant on the ridge, `make morning` one that sends several stretches of the ridge in one message,
+# `make hydrant` one that marks a hydrant on the ridge, `make morning` one that sends several stretches of the ridge in one message, to a box with the same
+# map and to one with another,
 # `make test-host` tests the C functions, `make test-plain` tests plain Rust and holds it to the stored cases,
 # `make differential` holds the C functions to plain Rust (`make differential CALLS=1000000 SEED=2`),
 # `make counts` counts definitions, code, proofs and tests, `make contracts` prints every function's contract (`make contracts SINCE=REVISION`: what changed in
@@ -69,13 +70,15 @@ hydrant: $(ARCHIVE)
 	$(CC) $(C_FLAGS) -O2 -o target/host/hydrant examples/hydrant.c $(ARCHIVE)
 	target/host/hydrant $(HYDRANT)
 
-# Lines 0 and 1, lines 2 and 3, and line 0 alone.
-MORNING = examples/ridge/map.bin 0,1 2,3 0
+# Lines 0 and 1, lines 2 and 3, and line 0 alone: where the box has the office's map, and where it has the one with a turn banned.
+MORNING = examples/ridge/map.bin examples/ridge/map.bin 0,1 2,3 0
+OTHER_MAP = examples/ridge/map.bin examples/ridge_ban/map.bin 0,1 2,3 0
 
 morning: $(ARCHIVE)
 	mkdir -p target/host
 	$(CC) $(C_FLAGS) -O2 -o target/host/morning examples/morning.c $(ARCHIVE)
 	target/host/morning $(MORNING)
+	! target/host/morning $(OTHER_MAP)
 
 test-host: $(ARCHIVE) target/bin/openlr_show target/host/stack
 	mkdir -p target/host
@@ -83,6 +86,7 @@ test-host: $(ARCHIVE) target/bin/openlr_show target/host/stack
 	$(CC) $(C_FLAGS) $(SANITIZED) -o target/host/write tests/host_write.c $(ARCHIVE)
 	$(CC) $(C_FLAGS) $(SANITIZED) -o target/host/point tests/host_point.c $(ARCHIVE)
 	$(CC) $(C_FLAGS) $(SANITIZED) -o target/host/message tests/host_message.c $(ARCHIVE)
+	$(CC) $(C_FLAGS) $(SANITIZED) -o target/host/of_message tests/host_of_message.c $(ARCHIVE)
 	$(CC) $(C_FLAGS) $(SANITIZED) -o target/host/header tests/host_header.c
 	$(CC) $(C_FLAGS) $(SANITIZED) -o target/host/answer tests/answer.c $(ARCHIVE)
 	$(CC) $(C_FLAGS) $(SANITIZED) -o target/host/host examples/host.c $(ARCHIVE)
@@ -92,6 +96,7 @@ test-host: $(ARCHIVE) target/bin/openlr_show target/host/stack
 	target/host/write
 	target/host/point
 	target/host/message
+	target/host/of_message
 	target/host/header
 	target/host/stack
 	if command -v $(CXX) >/dev/null; then $(CXX) $(CXX_FLAGS) -o target/host/cpp tests/host.cpp $(ARCHIVE) && target/host/cpp; \
@@ -104,11 +109,13 @@ test-host: $(ARCHIVE) target/bin/openlr_show target/host/stack
 	diff target/host/printed tests/hydrant_ridge.txt
 	target/host/morning $(MORNING) >target/host/printed
 	diff target/host/printed tests/morning_ridge.txt
+	target/host/morning $(OTHER_MAP) >target/host/printed; test $$? -eq 1
+	diff target/host/printed tests/morning_other_map.txt
 	python3 oracle/check_host.py target/host/answer 500
 	python3 oracle/check_format_page.py target/host/answer
 
 # Without sanitizers, which need more stack.
-target/host/stack: tests/host_stack.c tests/ridge.h include/openlr.h $(ARCHIVE)
+target/host/stack: tests/host_stack.c tests/front.h tests/ridge.h include/openlr.h $(ARCHIVE)
 	mkdir -p target/host
 	$(CC) $(C_FLAGS) -O2 -pthread -o $@ tests/host_stack.c $(ARCHIVE)
 

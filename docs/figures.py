@@ -37,6 +37,13 @@ A row of messages is of the C functions, which both sides are called as: of so m
 puts as many references as fit into a message, each at once, and asks for every one of them.
 """
 
+OF_MESSAGE = """\
+## Readings out of a message
+
+A reading out of a message / the same reading by itself = how many times as long it takes: the C functions of the proved side, and plain Rust. The sum over the
+map's bytes is what it takes more. The aim is 1.1 at most.
+"""
+
 SEARCHES = """\
 ## Searches
 
@@ -92,6 +99,11 @@ def calls_table(rows):
     return table(["call", "proved µs", "plain µs", "ratio"], [[with_commas(row[0])] + row[1:] for row in calls])
 
 
+def of_message_table(text):
+    rows = re.findall(r"^out of a message / by itself, (.*): proved (.*), plain (.*)$", text, re.MULTILINE)
+    return table(["reading", "proved µs", "plain µs"], [[with_commas(row[0]), *row[1:]] for row in rows])
+
+
 def search_table(rows):
     searches = [re.fullmatch(r"search, (.*), limit (\d+), (.*)", row[0]) for row in rows]
     cells, limits = {}, []
@@ -139,8 +151,8 @@ def main():
     count = printed(files.count, "make --silent count")
     stack = printed(files.stack, "make --silent target/host/stack && target/host/stack")
     rows = bench_rows(bench)
-    sections = [INTRODUCTION + "\n" + calls_table(rows), SEARCHES + "\n" + search_table(rows), EFFORT + "\n" + effort_table(bench, count),
-                STACK + "\n" + stack_table(stack), gate]
+    sections = [INTRODUCTION + "\n" + calls_table(rows), OF_MESSAGE + "\n" + of_message_table(bench), SEARCHES + "\n" + search_table(rows),
+                EFFORT + "\n" + effort_table(bench, count), STACK + "\n" + stack_table(stack), gate]
     PAGE.write_text("\n".join(sections))
 
 

@@ -55,8 +55,11 @@ extern "C" {
    so converted the same stretch or point, its offsets tenfold, has the bytes of version 7, and what version 7 wrote is read as the same lines, with spans in
    centimetres. What it refused with 19 may be read now. Office and box must have the same version.
    Version 9: messages, many references in one buffer: openlr_message_open, openlr_message_add, openlr_message_close, openlr_message_reference and refusals 27
-   and 28 are new. The rest is as in version 8. */
-#define OPENLR_VERSION 9
+   and 28 are new. The rest is as in version 8.
+   Version 10: a message starts with the map's byte count and a sum over the map's bytes. openlr_message_start is new and takes the place of an empty message:
+   OPENLR_EMPTY_MESSAGE is gone. openlr_read_of_message, openlr_read_point_of_message and refusal 30 are new; 29 is not used. A message of version 9 is not
+   refused by the list: its first two numbers are taken for its front. Office and box must have the same version. The rest is as in version 9. */
+#define OPENLR_VERSION 10
 #define OPENLR_UNITS_PER_METRE 100
 
 /* The most that there can be: for buffers that are never too short, and for a test of every leg. */
@@ -66,6 +69,7 @@ extern "C" {
 #define OPENLR_MOST_LINES 1024       /* Lines that openlr_read and openlr_read_point hand back, each in four bytes. */
 #define OPENLR_MOST_TESTS 2080       /* Leg tests that openlr_write makes: 64 * 65 / 2, one for each leg of the longest stretch. */
 #define OPENLR_LONGEST_MESSAGE 16384 /* Bytes of a message: of a longer buffer no more are used. */
+#define OPENLR_LONGEST_FRONT 8       /* Bytes of a message's front: 3 for the byte count of the longest map, 5 for a sum. */
 
 /* Bytes of stack that a thread needs for a call of any of the functions: 104 KiB, of which a call takes up to 78. */
 #define OPENLR_LEAST_STACK 106496
@@ -104,7 +108,8 @@ enum openlr_refusal {
     OPENLR_LINES_SHORT = 20,
     /* Messages. */
     OPENLR_MESSAGE_ORDER = 27,
-    OPENLR_MESSAGE_FULL = 28
+    OPENLR_MESSAGE_FULL = 28,
+    OPENLR_OTHER_MAP = 30 /* Of openlr_read_of_message and openlr_read_point_of_message only; after the map's own refusals and before 12. */
 };
 
 /* In what direction of the line a point along it counts, and on which side of the line it is: the white paper's values. The first point is the node where the
@@ -222,19 +227,30 @@ struct openlr_point openlr_read_point(const uint8_t *map, size_t map_len, const 
 struct openlr_point_written openlr_write_point(const uint8_t *map, size_t map_len, uint32_t line, uint32_t offset, uint32_t orientation, uint32_t side,
                                                uint8_t *byte_buffer, size_t byte_buffer_len);
 
-/* A message holds references one after another in a lent buffer, each behind its length: a seven-bit number as in a map, one byte up to 127 and two from 128
-   on. At most the first OPENLR_LONGEST_MESSAGE bytes of the buffer are used.
+/* A message holds references in a lent buffer. It starts with its front, two seven-bit numbers as in a map: the byte count of the map that it is written for,
+   and a sum over that map's bytes. Behind it stand the references one after another, each behind its length: a seven-bit number too, one byte up to 127 and two
+   from 128 on. At most the first OPENLR_LONGEST_MESSAGE bytes of the buffer are used.
 
-   This is what is known of a message beside its buffer. It is handed to each call and returned by it, and the caller goes on with what is returned, also after
-   a refusal. An empty message is OPENLR_EMPTY_MESSAGE, whatever stands in the buffer. */
+   This is what is known of a message beside its buffer. It is returned by openlr_message_start, then handed to each call and returned by it, and the caller
+   goes on with what is returned, also after a refusal of openlr_message_open, openlr_message_add and openlr_message_close. */
 struct openlr_message {
     uint32_t refusal;    /* Of the call that returned it: 0, or the number of the refusal; then the other fields are as they were given. No call looks at it. */
-    uint32_t byte_count; /* How many bytes the finished references have, their lengths counted. They are the first of the buffer. */
+    uint32_t byte_count; /* How many bytes the front and the finished references have, lengths counted. They are the first of the buffer. */
     uint32_t open;       /* 1: a reference is open. 0: none is. Another number given to a call means what 1 means. */
     uint32_t added;      /* How many bytes the open reference has so far. 0 where none is open. */
 };
 
-#define OPENLR_EMPTY_MESSAGE {0, 0, 0, 0}
+/* Starts a message for the map of `map_len` bytes: its front stands first in the buffer and behind it all of the buffer is as before. `byte_count` is then the
+   front's count of bytes, at most OPENLR_LONGEST_FRONT. What stood in the buffer before does not count, and so starting again begins afresh, also while a
+   reference is open.
+
+   Refused with the map's own refusals, and then with 28 where the front is longer than the buffer. A refusal leaves all of the buffer as it was; every field
+   but `refusal` is then 0, since no message was given: a message that was under way in that buffer goes on with what the call before returned, and so a host
+   that may have one keeps it:
+
+     struct openlr_message started = openlr_message_start(map, map_len, buffer, sizeof buffer);
+     if (started.refusal == 0) message = started; */
+struct openlr_message openlr_message_start(const uint8_t *map, size_t map_len, uint8_t *buffer, size_t buffer_len);
 
 /* Opens a reference behind the last finished one. Nothing is written. Refused with 27 where one is open. */
 struct openlr_message openlr_message_open(struct openlr_message message);
@@ -252,7 +268,8 @@ struct openlr_message openlr_message_add(struct openlr_message message, uint8_t 
 struct openlr_message openlr_message_close(struct openlr_message message);
 
 /* Where reference `n` of a message stands, counted from 0: its bytes without its length are `byte_count` bytes from byte `from` of the message on. Where there
-   is no reference `n`, `byte_count` is 0 and `from` is where the list of references stops: the count of bytes of a message that was received whole. */
+   is no reference `n`, `byte_count` is 0 and `from` is where the list of references stops: the count of bytes of a message that was received whole, and 0 where
+   the front cannot be read. */
 struct openlr_part {
     uint32_t from;
     uint32_t byte_count;
@@ -262,20 +279,23 @@ struct openlr_part {
    are given, at any time: any finished reference is there, and the open one is not there yet. Of a longer message only the first OPENLR_LONGEST_MESSAGE bytes
    count. Each call goes through the message from its start up to the reference, and copies nothing.
 
-   A length that is no number in its shortest form, a length of 0 or of over OPENLR_LONGEST_REFERENCE, or an early end stops the list. What was listed before
-   it stays. So give the bytes that were sent and no more: what stands behind them may be taken for a reference.
+   A front of which a number ends early, is not in its shortest form or is over 4,294,967,295 makes the list empty. Which map the front tells of does not
+   matter to the list. A length that is no number in its shortest form, a length of 0 or of over OPENLR_LONGEST_REFERENCE, or an early end stops the list. What
+   was listed before it stays. So give the bytes that were sent and no more: what stands behind them may be taken for a reference.
 
-   What these four functions promise over several calls is proved for any calls in any order, refused ones among them, that start with an empty message, each
-   with what the call before returned and with the same buffer, as long as nothing else writes in it. The buffer holds the finished references in the order in
-   which they were closed, then the open one as far as it has come, and behind that what stood there at the start. Reference `n` is at all times the n-th that
-   was closed, byte for byte. The first `byte_count` bytes, received, give the references that were closed, all of them and no others. A message that does not
-   come from these calls may be answered with any refusal or number, but each call returns, reads and writes nothing else than is said above, and leaves the
-   buffer's first `byte_count` bytes as they were.
+   What these five functions promise over several calls is proved for any calls in any order, refused ones among them, that start with openlr_message_start not
+   refused, each with what the call before returned and with the same buffer, as long as nothing else writes in it. The buffer holds the front, the finished
+   references in the order in which they were closed, then the open one as far as it has come, and behind that what stood there at the start. Reference `n` is
+   at all times the n-th that was closed, byte for byte. The first `byte_count` bytes, received, give the references that were closed, all of them and no
+   others, and are never refused with 30 on the map that the message was started for. A message that does not come from these calls may be answered with any
+   refusal or number, but each call returns, reads and writes nothing else than is said above, and openlr_message_open, openlr_message_add and
+   openlr_message_close leave the buffer's first `byte_count` bytes as they were.
 
    An office puts the morning's stretches into a message and sends it:
 
      uint8_t buffer[OPENLR_LONGEST_MESSAGE], bytes[OPENLR_LONGEST_REFERENCE];
-     struct openlr_message message = OPENLR_EMPTY_MESSAGE;
+     struct openlr_message message = openlr_message_start(map, map_len, buffer, sizeof buffer);
+     if (message.refusal != 0) return;
      for (size_t i = 0; i < stretch_count; i++) {
          struct openlr_written a = openlr_write(map, map_len, stretch[i], stretch_len[i], 0, 0, OPENLR_MOST_TESTS, bytes, sizeof bytes);
          if (a.refusal != 0) continue;
@@ -292,10 +312,30 @@ struct openlr_part {
      for (uint32_t n = 0;; n++) {
          struct openlr_part part = openlr_message_reference(received, received_len, n);
          if (part.byte_count == 0) break;
-         struct openlr_reading a = openlr_read(map, map_len, received + part.from, part.byte_count, line_buffer, sizeof line_buffer);
+         struct openlr_reading a = openlr_read_of_message(map, map_len, received, received_len, received + part.from, part.byte_count, line_buffer,
+                                                          sizeof line_buffer);
+         if (a.refusal == OPENLR_OTHER_MAP) {
+             ask_for_the_map_of_the_office();
+             break;
+         }
          if (a.refusal == 0) drive_along(line_buffer, a.line_count);
      } */
 struct openlr_part openlr_message_reference(const uint8_t *message, size_t message_len, uint32_t n);
+
+/* Reads the reference of `reference_len` bytes out of the message of `message_len` bytes: as openlr_read, but refused with 30, after the map's own refusals and
+   before the reference is looked at, where the message was written for another map: its front's byte count or sum is not that of this map, or the front cannot
+   be read. Of the message only the front is looked at, and so nothing tests that the reference lies in it. openlr_read never gives 30.
+
+   A message that was started for the same map bytes is never refused with 30. Maps of one length that differ in one byte are always told apart, and so are
+   maps of different lengths. Other maps may agree in both numbers, though hardly by accident; so what is promised on reading back holds where office and box
+   have the same map bytes. There it holds for every reference that openlr_write or openlr_write_point wrote and that was added to a message and closed,
+   whatever was called before and after. */
+struct openlr_reading openlr_read_of_message(const uint8_t *map, size_t map_len, const uint8_t *message, size_t message_len, const uint8_t *reference,
+                                             size_t reference_len, uint8_t *line_buffer, size_t line_buffer_len);
+
+/* Reads a point along a line out of a message: as openlr_read_point, and refused with 30 as openlr_read_of_message is. */
+struct openlr_point openlr_read_point_of_message(const uint8_t *map, size_t map_len, const uint8_t *message, size_t message_len, const uint8_t *reference,
+                                                 size_t reference_len, uint8_t *line_buffer, size_t line_buffer_len);
 
 /* A refusal's condition, in a sentence. The text is static. 0 gives an empty text. */
 static inline const char *openlr_refusal_sentence(uint32_t refusal) {
@@ -329,6 +369,7 @@ static inline const char *openlr_refusal_sentence(uint32_t refusal) {
     case OPENLR_LINES_SHORT: return "the line buffer is shorter than the list of lines, or the list has over 1,024 lines";
     case OPENLR_MESSAGE_ORDER: return "a reference of the message is open already, or none is open, or nothing was added to the one that is to be closed";
     case OPENLR_MESSAGE_FULL: return "the message would go past its buffer or 16,384 bytes, or one of its references past 459";
+    case OPENLR_OTHER_MAP: return "the message was written for another map, or the map's byte count and sum at its front cannot be read";
     default: return "unknown refusal";
     }
 }

@@ -10,9 +10,10 @@ from depot_map import DepotMap, map_to_bytes, read_map
 from fields import LONGEST_LEG
 from legs import Leg, LegSearch, Readings, describe_leg, list_length
 from meridian_recipes import MERIDIAN_READ_RECIPES, MERIDIAN_WRITE_RECIPES, READ_RECIPES_ACROSS, WRITE_RECIPES_ACROSS, all_across
-from message_calls import history_outcome, received_outcome
-from message_recipes import LARGE, MESSAGE_RECIPES, TWO_PORTIONS
+from message_calls import history_outcome, reading_outcome, received_outcome
+from message_recipes import EACH_FRONT, LARGE, MESSAGE_RECIPES, START_REFUSED, STARTED_AGAIN, TWO_PORTIONS
 from numbers_of_tests import lines_left, telling_tests
+from of_message_recipes import AS_BY_ITSELF, OF_MESSAGE_RECIPES
 from outcome import outcome_of
 from point_read_recipes import (MERIDIAN_POINT_READ_RECIPES, POINT_READ_EDGES, POINT_READ_RECIPES, POINT_READ_RECIPES_ACROSS, POINTS_FOR_STRETCHES_RECIPES,
                                 point_read_outcome)
@@ -46,7 +47,7 @@ class LegCase:
 
 @dataclass(frozen=True)
 class CallCase:
-    """A call of a reader or of a writer, a history of calls of messages, or a received message. Expected: its outcome."""
+    """A call of a reader or of a writer, a history of calls of messages, a received message, or a reading out of one. Expected: its outcome."""
     label: str
     given: object
     expected: object
@@ -307,9 +308,12 @@ point_write_cases_across = call_cases("point write", POINT_WRITE_RECIPES_ACROSS,
 meridian_point_read_cases = call_cases("meridian point read", MERIDIAN_POINT_READ_RECIPES, point_read_outcome)
 meridian_point_write_cases = call_cases("meridian point write", MERIDIAN_POINT_WRITE_RECIPES, point_write_outcome)
 points_for_stretches_cases = call_cases("points for stretches", POINTS_FOR_STRETCHES_RECIPES, read_outcome)
-# Messages: written, more of those with many edges and of those that take much room, and received.
+# Messages: written, more of those with many edges and of those that take much room, received, and readings out of a message.
 message_cases = call_cases("message", MESSAGE_RECIPES, history_outcome)
 two_portions_cases = call_cases("two portions", {TWO_PORTIONS: MESSAGE_RECIPES[TWO_PORTIONS]}, history_outcome)
 large_message_cases = call_cases("large message", {LARGE: MESSAGE_RECIPES[LARGE]}, history_outcome)
+start_cases = call_cases("start", {name: MESSAGE_RECIPES[name] for name in (EACH_FRONT, STARTED_AGAIN, START_REFUSED)}, history_outcome)
 received_cases = call_cases("received", RECEIVED_RECIPES, received_outcome)
 long_received_cases = call_cases("long received", {LONG: RECEIVED_RECIPES[LONG]}, received_outcome)
+of_message_cases = call_cases("of message", OF_MESSAGE_RECIPES, reading_outcome)
+as_by_itself_cases = call_cases("as by itself", {AS_BY_ITSELF: OF_MESSAGE_RECIPES[AS_BY_ITSELF]}, reading_outcome)

@@ -1,4 +1,5 @@
-"""Holds the C functions to this implementation, on cases of the readers and of the writers, of stretches and of points along a line, and of messages.
+"""Holds the C functions to this implementation, on cases of the readers and of the writers, of stretches and of points along a line, of messages, and of
+readings out of a message.
 
 Usage: python3 oracle/check_host.py PROGRAM COUNT [--seed N]. PROGRAM is that of tests/answer.c. Calls with different answers are printed, and the status is 1.
 """
@@ -8,10 +9,10 @@ from dataclasses import replace
 
 from answers import answers, hexadecimal, report
 from cases import (best_found_cases, meridian_point_read_cases, meridian_point_write_cases, meridian_read_cases, meridian_write_cases, message_cases,
-                   point_read_cases, point_read_cases_across, point_write_cases, point_write_cases_across, random_source, read_cases, read_cases_across,
-                   received_cases, write_cases, write_cases_across)
+                   of_message_cases, point_read_cases, point_read_cases_across, point_write_cases, point_write_cases_across, random_source, read_cases,
+                   read_cases_across, received_cases, write_cases, write_cases_across)
 from host_calls import MOST_LINES, line_bytes
-from message_calls import outcome_row
+from message_calls import START, history_outcome, outcome_row, reading_outcome, received_outcome
 from numbers_of_tests import any_tests
 from outcome import outcome_text
 from point_read_recipes import point_read_outcome
@@ -77,17 +78,29 @@ def write_point_calls(seed, count):
         yield f"write_point {hexadecimal(given.map_bytes)} {numbers}", one_row(point_write_outcome(given))
 
 
-def rows_of_messages(make_cases):
-    """Rows of histories, or of received messages."""
-    def calls(seed, count):
-        return [(case.given.row(), outcome_row(case.expected)) for case in make_cases(seed, count)]
-    return calls
+def history_from_c(history):
+    """The same calls with a full work area: from C none is lent. Starts that were refused for it may be accepted, and so what comes behind them is another."""
+    return replace(history, calls=tuple(call._replace(work_length=LEAST_WORK_LENGTH) if call.kind == START else call for call in history.calls))
 
 
-message_calls = rows_of_messages(message_cases)
-received_calls = rows_of_messages(received_cases)
+def message_calls(seed, count):
+    histories = [history_from_c(case.given) for case in message_cases(seed, count)]
+    return [(history.row_for_c(), outcome_row(history_outcome(history))) for history in histories]
+
+
+def received_calls(seed, count):
+    return [(case.given.row(), outcome_row(received_outcome(case.given))) for case in received_cases(seed, count)]
+
+
+def of_message_calls(seed, count):
+    """As calls_of_a_reader has them."""
+    for index, case in enumerate(of_message_cases(seed, count)):
+        given = replace(case.given, work_length=LEAST_WORK_LENGTH, line_room=min(case.given.line_room, MOST_LINES))
+        yield f"{given.subject()} {4 * case.given.line_room + index % 4}", one_row(reading_outcome(given))
+
+
 KINDS = {"read": read_calls, "write": write_calls, "read_point": read_point_calls, "write_point": write_point_calls, "message": message_calls,
-         "received": received_calls}
+         "received": received_calls, "of_message": of_message_calls}
 
 
 def differences(program, calls):

@@ -9,8 +9,8 @@ import re
 from itertools import islice
 
 from answers import answers, hexadecimal, report
-from message_calls import ADD, ASK, Call, History, Received, answered_in
-from pack import CALLS, CRATES, NEW_MESSAGE, POINTS_LINE_ROOM, RECEIVED, WRITES_LINE_ROOM, history_rows, number_sum, received_row
+from message_calls import ADD, ASK, START, Call, History, ReadingOfMessage, Received, answered_in
+from pack import CALLS, CRATES, MAP, NEW_BUFFER, POINTS_LINE_ROOM, READINGS, RECEIVED, WRITES_LINE_ROOM, history_rows, number_sum, received_row
 from reader import LEAST_WORK_LENGTH
 
 # Several rows of one history are one here.
@@ -77,22 +77,34 @@ def point_calls(parts):
     return calls
 
 
-def message_call(part):
+def message_call(part, map_bytes):
     """A call in a history."""
     kind = next(kind for kind, first in CALLS.items() if first == part[0])
+    if kind == START:
+        return Call(kind, map_bytes=map_bytes, work_length=numbers_in(part[1:])[0])
     return Call(kind, portion=part[1:] if kind == ADD else b"", number=numbers_in(part[1:])[0] if kind == ASK else 0)
 
 
+def message_reading(part, map_bytes):
+    """A reading out of a message: three numbers, the message and the reference."""
+    work_length, line_room, count = numbers_in(part[1:13])
+    return ReadingOfMessage(map_bytes, part[13:13 + count], part[13 + count:], part[0] == READINGS[True], work_length, line_room)
+
+
 def messages_in(parts):
-    """Histories and received messages."""
-    found = []
+    """Histories, received messages and readings out of a message. A map stands until the next one; before the first it has no bytes."""
+    found, map_bytes = [], b""
     for part in parts:
-        if part[0] == NEW_MESSAGE:
+        if part[0] == NEW_BUFFER:
             found.append(History(*numbers_in(part[1:]), calls=()))
+        elif part[0] == MAP:
+            map_bytes = part[1:]
         elif part[0] == RECEIVED:
             found.append(Received(part[5:], *numbers_in(part[1:5])))
+        elif part[0] in READINGS.values():
+            found.append(message_reading(part, map_bytes))
         else:
-            found[-1] = History(found[-1].room, found[-1].calls + (message_call(part),))
+            found[-1] = History(found[-1].room, found[-1].calls + (message_call(part, map_bytes),))
     return found
 
 
@@ -138,8 +150,10 @@ def call_rows(reader, line_room):
 
 
 def message_row(call, answer):
-    """The rows of a history, by what the program says of each change in the buffer; or that of a received message."""
+    """The rows of a history, by what the program says of each change in the buffer; or that of a received message or of a reading."""
     kind, given = call.split()[:2]
+    if kind not in ("message", "received"):
+        return lines_row(answer)
     answered = [answered_in(word) for word in answer.split()]
     if any(isinstance(item.answer, str) for item in answered):
         return answer
@@ -155,12 +169,12 @@ def message_rows(program, calls):
 def in_calls(calls, rows):
     """The stored rows, joined where a call has several: a history has one for each of its calls."""
     rows = iter(rows)
-    return [NEXT_ROW.join(islice(rows, len(call.split()) - 2 if call.startswith("message") else 1)) for call in calls] + list(rows)
+    return [NEXT_ROW.join(islice(rows, len(call.split()) - 2 if call.startswith("message ") else 1)) for call in calls] + list(rows)
 
 
 def stored_row(row):
     """What a row says of the answer. The rest is about memory and sums that the plain implementation does not have."""
-    row = re.sub(r" work (kept|cleared) rest kept", "", row)
+    row = re.sub(r" work (kept|cleared)( rest kept)?", "", row)
     row = re.sub(r"^(nodes \d+ lines \d+) bans \d+ sum \d+$", r"\1", row)
     return re.sub(r"^one .*:", "one", row)
 

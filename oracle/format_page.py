@@ -7,13 +7,15 @@ from typing import NamedTuple, Optional
 from answers import hexadecimal
 from depot_map import LARGEST_NUMBER, STEP_SHIFT, Node, read_map, read_number, write_number
 from fields import coordinate_code, differences, differences_fit, distance_byte, offset_byte, offset_span, sector
+from front import map_sum
 from host_calls import MOST_LINES, line_bytes, lines_of
 from message import LONGEST_MESSAGE, Part, Standing, behind_its_length, bytes_of_part
-from message_calls import ADD, ASK, CLOSE, OPEN, History, Received, answered_in, buffers_after, first_buffer, history_outcome, outcome_row, received_outcome
+from message_calls import ADD, ASK, CLOSE, OPEN, START, History, Received, answered_in, buffers_after, first_buffer
 from message_calls import Call as MessageCall
+from message_calls import history_outcome, outcome_row, received_outcome
 from outcome import PointRead, PointWritten, Refused, StretchRead, StretchWritten
-from point_along_line import read_point, write_point
-from reader import LEAST_WORK_LENGTH, read
+from point_along_line import read_point, read_point_of_message, write_point
+from reader import LEAST_WORK_LENGTH, read, read_of_message
 from reference import LONGEST_POINT_ALONG_LINE, LONGEST_REFERENCE
 from writer import ALL_TESTS, legs_in_order, skip_lines, write
 
@@ -36,11 +38,13 @@ NOT_GIVEN = {"tests": ALL_TESTS}
 
 
 class Call(NamedTuple):
-    """A call of a reader or of a writer, as the page writes it, and the answer that the page gives. A point to be written is numbers alone."""
+    """A call of a reader or of a writer, as the page writes it, and the answer that the page gives. A point to be written is numbers alone. A reference that is
+    read by itself has no message, None, which is not an empty one."""
     text: str
     kind: str
     map_bytes: bytes
     given: Optional[bytes]
+    message: Optional[bytes]
     numbers: tuple
     room: int
     work: Optional[int]
@@ -49,6 +53,9 @@ class Call(NamedTuple):
     def outcome(self):
         """What this implementation answers."""
         work = LEAST_WORK_LENGTH if self.work is None else self.work
+        if self.message is not None:
+            reader = {"read": read_of_message, "read point": read_point_of_message}[self.kind]
+            return reader(self.map_bytes, self.message, self.given, work, self.room)
         if self.kind == "read":
             return read(self.map_bytes, self.given, work, self.room)
         if self.kind == "read point":
@@ -60,9 +67,10 @@ class Call(NamedTuple):
 
     def row(self):
         """The same call for tests/answer.c."""
-        given = [] if self.given is None else [hexadecimal(self.given)]
+        kind = self.kind.replace(" ", "_") + ("" if self.message is None else "_of_message")
+        given = [hexadecimal(data) for data in (self.map_bytes, self.message, self.given) if data is not None]
         room = 4 * self.room if KINDS[self.kind].reads else self.room
-        return " ".join(map(str, [self.kind.replace(" ", "_"), hexadecimal(self.map_bytes), *given, *self.numbers, room]))
+        return " ".join(map(str, [kind, *given, *self.numbers, room]))
 
 
 class Seen(NamedTuple):
@@ -74,14 +82,14 @@ class Seen(NamedTuple):
 
 
 class MessageCalls(NamedTuple):
-    """Calls of a message that is written, from an empty one on."""
+    """Calls of a message that is written."""
     text: str
     history: History
     said: Seen
 
     def rows(self):
         """The same calls for tests/answer.c."""
-        return [self.history.row()]
+        return [self.history.row_for_c()]
 
     def own_rows(self):
         """What this implementation answers."""
@@ -204,6 +212,8 @@ class Page:
                 self.messages.append(self._message(row, left, right))
             elif left.startswith("received "):
                 self.messages.append(self._received(row, left, right))
+            elif left.startswith("sum "):
+                self.formulas.append(Formula(row, right, str(map_sum(self._sequence(left.removeprefix("sum "))))))
             else:
                 self.formulas.append(_formula(row, left, right))
         elif self.commands and row:
@@ -214,16 +224,18 @@ class Page:
         name, rest = re.fullmatch(r"((?:read|write)(?: point)?) (.*)", left).groups()
         kind = KINDS[name]
         map_bytes, rest = self._bytes(rest)
-        given = None
+        given = message = None
         if kind.reads:
             given, rest = self._bytes(rest)
+            if rest.startswith("out of "):
+                message, rest = self._bytes(rest.removeprefix("out of "))
         elif name == "write":
             given, rest = _stretch(rest)
         settings = {word: int(number) for word, number in re.findall(r"(\w+) (\d+)", rest)}
         if re.sub(r"\w+ \d+", "", rest).strip() or not settings.keys() <= {"room", "work", *kind.numbers}:
             raise ValueError(f"cannot be read: {row}")
         numbers = tuple(settings.get(word, NOT_GIVEN.get(word, 0)) for word in kind.numbers)
-        call = Call(row, name, map_bytes, given, numbers, settings.get("room", kind.room), settings.get("work"), None)
+        call = Call(row, name, map_bytes, given, message, numbers, settings.get("room", kind.room), settings.get("work"), None)
         return call._replace(answer=self._written(call, right) if right.startswith("writes ") else self._answer(right))
 
     def _message(self, row, left, right):
@@ -240,9 +252,12 @@ class Page:
         """A call of a message, and its refusal or None."""
         text, refusal = re.fullmatch(r"(.*?)(?: refused (\d+))?", text).groups()
         kind, _, given = text.partition(" ")
-        if kind not in (OPEN, ADD, CLOSE, ASK) or bool(given) != (kind in (ADD, ASK)):
+        if kind not in (START, OPEN, ADD, CLOSE, ASK) or bool(given) != (kind in (START, ADD, ASK)):
             raise ValueError(f"cannot be read: {text}")
-        call = MessageCall(kind, self._sequence(given) if kind == ADD else b"", int(given) if kind == ASK else 0)
+        if kind == START:
+            call = MessageCall(START, map_bytes=self._sequence(given))
+        else:
+            call = MessageCall(kind, self._sequence(given) if kind == ADD else b"", int(given) if kind == ASK else 0)
         return call, None if refusal is None else Refused(int(refusal))
 
     def _message_answer(self, history, answers, text):
@@ -252,9 +267,9 @@ class Page:
             return Seen((*answers, part), None, data)
         if text.startswith("refused "):
             return Seen((*answers, self._answer(text)), None, None)
-        finished, opened = re.fullmatch(r"holds (.*?)(?: open (.*))?", text).groups()
+        finished, opened, left = re.fullmatch(r"holds (.*?)(?: open (.*?))?(?: then (.*))?", text).groups()
         finished, opened = self._sequence(finished), None if opened is None else self._sequence(opened)
-        written = finished + (opened or b"")
+        written = finished + (opened or b"") + self._sequence(left or "nothing")
         return Seen((*answers, None), standing(finished, opened), written + first_buffer(history.room)[len(written):])
 
     def _received(self, row, left, right):
@@ -267,7 +282,7 @@ class Page:
         else:
             listed, stop = re.fullmatch(r"lists (.*) stops (\d+)", right).groups()
             contents = self._each(listed)
-            said = parts_in_a_row(contents) + 2 * [Part(int(stop), 0)]
+            said = parts_in_a_row(contents, int(stop)) + 2 * [Part(int(stop), 0)]
         if any(bytes_of_part(message, part) != data for part, data in zip(said, contents)):
             raise ValueError(f"not in the message: {row}")
         numbers = (*range(len(said) - 1), LARGEST_NUMBER) if number is None else (int(number),)
@@ -344,12 +359,12 @@ def standing(finished, opened):
     return Standing(len(finished), True, added)
 
 
-def parts_in_a_row(contents):
-    """Where references stand, one after another, each behind its length."""
-    parts, end = [], 0
+def parts_in_a_row(contents, stop):
+    """Where references stand, one after another, each behind its length, the last right before the stop."""
+    parts, start = [], stop - sum(len(behind_its_length(data)) for data in contents)
     for data in contents:
-        end += len(behind_its_length(data))
-        parts.append(Part(end - len(data), len(data)))
+        start += len(behind_its_length(data))
+        parts.append(Part(start - len(data), len(data)))
     return parts
 
 

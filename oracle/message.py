@@ -1,4 +1,4 @@
-"""Messages of many references: paper 02, "Many stretches in one message".
+"""Messages of many references: paper 02, "Many stretches in one message" and "The wrong map".
 
 Numbers are the map's: groups of seven bits, lowest first, in their shortest form.
 """
@@ -6,8 +6,10 @@ Numbers are the map's: groups of seven bits, lowest first, in their shortest for
 from dataclasses import dataclass
 from functools import lru_cache
 
-from depot_map import read_number, write_number
+from depot_map import read_map, read_number, write_number
+from front import front_of, read_front
 from outcome import RefusedCall
+from reader import check_work_length
 from reference import LONGEST_REFERENCE
 
 # "of which at most the first 16,384 bytes are used"
@@ -16,7 +18,8 @@ LONGEST_MESSAGE = 16_384
 
 @dataclass(frozen=True)
 class Standing:
-    """How a message stands after a call that is not refused: its finished bytes, whether a reference is open, and how many bytes that one has so far."""
+    """How a message stands after a call that is not refused: its finished bytes, the front's among them, whether a reference is open, and how many bytes that
+    one has so far."""
     byte_count: int
     is_open: bool
     added: int
@@ -24,7 +27,7 @@ class Standing:
 
 @dataclass(frozen=True)
 class Part:
-    """A part of a message: where it starts and how many bytes it has. An empty one starts where the list stops."""
+    """A part of a message: where it starts and how many bytes it has. An empty one starts where the list stops, and at 0 where the front cannot be read."""
     start: int
     byte_count: int
 
@@ -35,7 +38,7 @@ def behind_its_length(reference):
 
 
 class Message:
-    """A message that is written in a lent buffer, a bytearray. It is empty at first, whatever stands there. Refusals are raised as RefusedCall."""
+    """A message that is written in a lent buffer, a bytearray. Nothing is promised before it is started. Refusals are raised as RefusedCall."""
 
     def __init__(self, buffer):
         self.buffer = buffer
@@ -49,6 +52,17 @@ class Message:
 
     def standing(self):
         return Standing(self.byte_count, self.opened is not None, len(self.opened or b""))
+
+    def start(self, map_bytes, work_length):
+        """A message for this map, whatever was open or finished. "starting a message in a buffer too short for them gives 28, after the map's own"."""
+        check_work_length(work_length)
+        read_map(map_bytes)
+        front = front_of(map_bytes)
+        if len(front) > len(self.buffer):
+            raise RefusedCall(28)
+        self.buffer[:len(front)] = front
+        self.byte_count, self.opened = len(front), None
+        return self.standing()
 
     def open(self):
         """Error "27 (first) opening when one is open". "Opening writes nothing"."""
@@ -92,9 +106,13 @@ class Message:
 
 @lru_cache(maxsize=16)
 def listed(message):
-    """The parts of all references in a received message, and where the list stops. "a faulty length, 0, one over 459 or an early end stops the list"."""
+    """The parts of all references in a received message, and where the list stops. "A received front that cannot be read makes the list empty", and behind
+    it "a faulty length, 0, one over 459 or an early end stops the list"."""
     used = message[:LONGEST_MESSAGE]
-    parts, stop = [], 0
+    front = read_front(used)
+    if front is None:
+        return (), 0
+    parts, stop = [], front.byte_count
     while True:
         try:
             length, start = read_number(used, stop)

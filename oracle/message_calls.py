@@ -1,7 +1,8 @@
-"""Calls of messages as the test programs are given them: histories of calls on one buffer, and received messages that are asked for a reference.
+"""Calls of messages as the test programs are given them: histories of calls on one buffer, received messages that are asked for a reference, and readings out
+of a message.
 
-Also the rows of tests/answer.c and of bench's answer program for both. A history's row is `message ROOM CALL CALL ...`, and its answer has an item for each
-call, with the bytes of the buffer that the call changed.
+Also the rows of tests/answer.c and of bench's answer program for histories and received messages. A history's row is `message ROOM CALL CALL ...`, and its
+answer has an item for each call, with the bytes of the buffer that the call changed.
 """
 
 import re
@@ -11,40 +12,53 @@ from typing import NamedTuple, Optional
 from answers import hexadecimal
 from message import Message, Part, Standing, part_of
 from outcome import Refused, outcome_of
+from point_along_line import read_point_of_message
+from reader import LEAST_WORK_LENGTH, read_of_message
 
 # Before the first call byte i of a buffer is i mod 251.
 FILLING = bytes(range(251))
-OPEN, ADD, CLOSE, ASK = "open", "add", "close", "ask"
+START, OPEN, ADD, CLOSE, ASK = "start", "open", "add", "close", "ask"
 ITEM = re.compile(r"(refused:(?P<refusal>\d+)|part:(?P<start>\d+):(?P<count>\d+)|done:(?P<finished>\d+):(0:0|1:(?P<added>\d+)))"
                   r"(@(?P<changed>\d+)=(?P<data>([0-9A-F]{2})+))?")
 
 
 class Call(NamedTuple):
-    """One of the four. An addition has a portion, and asking has a number."""
+    """One of the five. A start has a map and the length of a work area, an addition has a portion, and asking has a number."""
     kind: str
     portion: bytes = b""
     number: int = 0
+    map_bytes: bytes = b""
+    work_length: int = LEAST_WORK_LENGTH
 
     def made_on(self, message):
         """The answer: a standing, a part or a refusal."""
         if self.kind == ASK:
             return message.part(self.number)
-        arguments = [self.portion] if self.kind == ADD else []
+        arguments = {START: (self.map_bytes, self.work_length), ADD: (self.portion,)}.get(self.kind, ())
         return outcome_of(getattr(message, self.kind), *arguments)
 
     def word(self):
         """The call in a row."""
+        if self.kind == START:
+            return f"{START}:{self.work_length}:{hexadecimal(self.map_bytes)}"
         return {ADD: f"{ADD}:{hexadecimal(self.portion)}", ASK: f"{ASK}:{self.number}"}.get(self.kind, self.kind)
+
+    def word_for_c(self):
+        """The same for a C host, which lends no work area."""
+        return f"{START}:{hexadecimal(self.map_bytes)}" if self.kind == START else self.word()
 
 
 @dataclass(frozen=True)
 class History:
-    """Calls one after another, from an empty message on, and the length of their buffer."""
+    """Calls one after another, and the length of their buffer. Up to the first that is not refused all of them are starts."""
     room: int
     calls: tuple
 
     def row(self):
         return " ".join(["message", str(self.room), *(call.word() for call in self.calls)])
+
+    def row_for_c(self):
+        return " ".join(["message", str(self.room), *(call.word_for_c() for call in self.calls)])
 
 
 @dataclass(frozen=True)
@@ -55,6 +69,24 @@ class Received:
 
     def row(self):
         return f"received {hexadecimal(self.message)} {self.number}"
+
+
+@dataclass(frozen=True)
+class ReadingOfMessage:
+    """A reference that is read out of a message, as one to a stretch or as a point along a line."""
+    map_bytes: bytes
+    message: bytes
+    reference: bytes
+    is_point: bool = False
+    work_length: int = LEAST_WORK_LENGTH
+    line_room: int = 1_024
+
+    def subject(self):
+        """The first words of its row."""
+        return " ".join(["read_point_of_message" if self.is_point else "read_of_message", *map(hexadecimal, (self.map_bytes, self.message, self.reference))])
+
+    def row(self):
+        return f"{self.subject()} {self.work_length} {self.line_room}"
 
 
 class Change(NamedTuple):
@@ -133,6 +165,12 @@ def buffers_after(room, answered):
 
 def received_outcome(received):
     return Answered(part_of(received.message, received.number))
+
+
+def reading_outcome(given):
+    """What a reader answers, of points or of stretches."""
+    reader = read_point_of_message if given.is_point else read_of_message
+    return reader(given.map_bytes, given.message, given.reference, given.work_length, given.line_room)
 
 
 def outcome_row(outcome):

@@ -10,20 +10,21 @@ from dataclasses import replace
 from functools import lru_cache
 from pathlib import Path
 
-from cases import (best_found_cases, large_message_cases, leg_cases, leg_cases_across, long_received_cases, map_cases, meridian_map_cases,
-                   meridian_point_read_cases, meridian_point_write_cases, meridian_read_cases, meridian_write_cases, message_cases, point_read_cases,
-                   point_read_cases_across, point_read_edge_cases, point_write_cases, point_write_cases_across, point_write_edge_cases,
-                   points_for_stretches_cases, random_source, read_cases, read_cases_across, received_cases, stretch_leg, two_portions_cases,
-                   with_other_tests, write_cases, write_cases_across)
+from cases import (as_by_itself_cases, best_found_cases, large_message_cases, leg_cases, leg_cases_across, long_received_cases, map_cases,
+                   meridian_map_cases, meridian_point_read_cases, meridian_point_write_cases, meridian_read_cases, meridian_write_cases, message_cases,
+                   of_message_cases, point_read_cases, point_read_cases_across, point_read_edge_cases, point_write_cases, point_write_cases_across,
+                   point_write_edge_cases, points_for_stretches_cases, random_source, read_cases, read_cases_across, received_cases, start_cases, stretch_leg,
+                   two_portions_cases, with_other_tests, write_cases, write_cases_across)
 from depot_map import LATITUDE_SHIFT, LONGITUDE_SHIFT, MOST_BANS, MOST_LINES, map_to_bytes
 from drawn_steps import ENDS_OF_RANGE, steps_at_edges
 from fields import sector
 from legs import LegSearch, list_length
 from meridian_recipes import ACROSS
 from message import Part, bytes_of_part
-from message_calls import ADD, ASK, CLOSE, OPEN, buffers_after, received_outcome
-from message_recipes import LARGE
+from message_calls import ADD, ASK, CLOSE, OPEN, START, Call, History, buffers_after, history_outcome, reading_outcome, received_outcome
+from message_recipes import EACH_FRONT, LARGE, ON_LARGE_MAP, START_REFUSED, STARTED_AGAIN, TWO_PORTIONS
 from numbers_of_tests import any_tests, given_all_tests
+from of_message_recipes import LARGE_MAP, LONG_MESSAGE, every_changed_map, every_small_map, every_wrong_front
 from outcome import Refused, heading, outcome_text, written_heading
 from point_along_line import read_point
 from point_read_recipes import composed_point_from, point_read_outcome
@@ -42,19 +43,29 @@ MOST_CASE_BYTES = 1_048_576
 WORK_ROOM, READS_LINE_ROOM = 14_340, 65_480
 WRITES_LINE_ROOM, WRITES_BYTE_ROOM = 80, 480
 POINTS_LINE_ROOM, POINTS_BYTE_ROOM = 1_100, 40
-MESSAGE_ROOM = 16_400
-# The first byte of a part: a new message, calls of it, and a received message that is asked for a reference.
-NEW_MESSAGE, CALLS, RECEIVED = 0, {OPEN: 1, ADD: 2, CLOSE: 3, ASK: 4}, 5
+MESSAGE_ROOM, OF_MESSAGE_LINE_ROOM = 16_400, 1_100
+MOST_PART_BYTES = 65_535
+# The first byte of a part: a new buffer, calls of a message in it, a received message that is asked for a reference, the map from here on, and readings out of
+# a message, of a stretch or of a point.
+NEW_BUFFER, CALLS, RECEIVED, MAP, READINGS = 0, {OPEN: 1, ADD: 2, CLOSE: 3, ASK: 4, START: 6}, 5, 7, {False: 8, True: 9}
 # The recipe whose maps would take too much room.
 FULL_SIZE = "full size"
 FULL_SIZE_ACROSS = FULL_SIZE + ACROSS
 # Recipes of writings whose maps take much room and that soon have had all their edges. So many cases of each will do.
 CASES_OF_LARGE_MAPS = {"longest reference": 15, "tie that a ban decides": 32, "all but one line skipped": 40, "around the block": 24,
                        "refusal 21, in skipped lines": 36}
+# The same of histories, whose starts have cases of their own, and of readings out of a message.
+CASES_OF_HISTORIES = {ON_LARGE_MAP: 3, "long references": 27, "short buffer": 28, "one or two bytes of length": 42, "byte by byte": 32, "full buffer": 28,
+                      "every number": 36, "out of order": 20, TWO_PORTIONS: 0, EACH_FRONT: 0, STARTED_AGAIN: 0, START_REFUSED: 0}
+CASES_OF_STARTS = {STARTED_AGAIN: 24, START_REFUSED: 54}
+CASES_OF_READINGS = {LONG_MESSAGE: 2, LARGE_MAP: 8}
 
 
 def packed(parts):
     """Parts one after another, each behind its length in two bytes, low byte first."""
+    parts = list(parts)
+    if max(map(len, parts)) > MOST_PART_BYTES:
+        raise RuntimeError("a part is too long")
     return b"".join(len(part).to_bytes(2, "little") + part for part in parts)
 
 
@@ -168,7 +179,12 @@ def test_legs():
 
 def refusal_row(outcome):
     """A refusal leaves the buffers as they were, and refusal 1 the work area too."""
-    return f"{outcome_text(outcome)} work {'kept' if outcome.number == 1 else 'cleared'} rest kept"
+    return f"{outcome_text(outcome)}{work_text(outcome)} rest kept"
+
+
+def work_text(outcome):
+    """What stands in the work area after a call."""
+    return f" work {'kept' if outcome == Refused(1) else 'cleared'}"
 
 
 def lines_text(outcome):
@@ -258,20 +274,20 @@ def full_map_writes(plain, across, stretches):
                 yield given, write_outcome(given)
 
 
-def few_of_large_maps(made):
-    """The cases but for those of large maps beyond what will do."""
+def few_of_some(made, most):
+    """The cases but for those of some recipes beyond what will do."""
     counts = Counter()
     for case in made:
         recipe = case.label.split(":")[0]
         counts[recipe] += 1
-        if counts[recipe] <= CASES_OF_LARGE_MAPS.get(recipe, counts[recipe]):
+        if counts[recipe] <= most.get(recipe, counts[recipe]):
             yield case
 
 
 def test_writes():
     """The subject is a stretch, four bytes a line; the numbers are the offsets, the number of tests, and the lengths of the work area and of the byte
     buffer."""
-    made = [*few_of_large_maps(write_cases(seed=1, count=2_730, left_out=FULL_SIZE)),
+    made = [*few_of_some(write_cases(seed=1, count=2_730, left_out=FULL_SIZE), CASES_OF_LARGE_MAPS),
             *write_cases_across(seed=1, count=105, left_out=FULL_SIZE_ACROSS), *meridian_write_cases(seed=1, count=128)]
     made += [*with_other_tests("other tests", 1, made), *best_found_cases(seed=1, count=405)]
     calls = [*((case.given, case.expected) for case in made), *full_map_writes(plain=8, across=2, stretches=24)]
@@ -344,33 +360,90 @@ def received_row(answered, message):
 
 
 def history_rows(room, answered):
+    """Without what a start leaves of the work area."""
     return [message_row(*call) for call in zip(answered, buffers_after(room, answered))]
 
 
-def history_parts(history):
-    if history.room > MESSAGE_ROOM:
-        raise RuntimeError("the program's buffer is too short for a message")
-    yield bytes([NEW_MESSAGE]) + words([history.room])
-    for call in history.calls:
-        yield bytes([CALLS[call.kind]]) + (words([call.number]) if call.kind == ASK else call.portion)
+class MessageParts:
+    """The parts of test_messages and their rows. The map that a call is on stands before it where it is another than that of the call before."""
+
+    def __init__(self):
+        self.parts, self.rows = [], []
+        # That of the program before the first one.
+        self.map_bytes = b""
+
+    def put(self, kind, data=b"", row=None):
+        self.parts.append(bytes([kind]) + data)
+        if row is not None:
+            self.rows.append(row)
+
+    def put_map(self, map_bytes):
+        if map_bytes != self.map_bytes:
+            self.put(MAP, map_bytes)
+            self.map_bytes = map_bytes
+
+    def put_history(self, history, answered):
+        if history.room > MESSAGE_ROOM:
+            raise RuntimeError("the program's buffer is too short for a message")
+        self.put(NEW_BUFFER, words([history.room]))
+        for call, found, row in zip(history.calls, answered, history_rows(history.room, answered)):
+            if call.kind == START:
+                self.put_map(call.map_bytes)
+                row += work_text(found.answer)
+            data = {START: words([call.work_length]), ADD: call.portion, ASK: words([call.number])}
+            self.put(CALLS[call.kind], data.get(call.kind, b""), row)
+
+    def put_received(self, received):
+        self.put(RECEIVED, words([received.number]) + received.message, received_row(received_outcome(received), received.message))
+
+    def put_reading(self, given, outcome):
+        """The lengths of the work area and of the line buffer, the count of the message's bytes, the message and the reference."""
+        self.put_map(given.map_bytes)
+        numbers = words([given.work_length, given.line_room, len(given.message)])
+        self.put(READINGS[given.is_point], numbers + given.message + given.reference, read_row(given, outcome))
+
+
+def starts_without_a_map():
+    """On no bytes at all, which are the program's map before the first one."""
+    return History(9, (Call(START), Call(START, work_length=0), Call(START, work_length=WORK_ROOM)))
+
+
+def histories():
+    """Those that start on one map one after another. The one without a map stands first."""
+    made = [*few_of_some(message_cases(seed=1, count=630, left_out=LARGE), CASES_OF_HISTORIES),
+            *few_of_some(start_cases(seed=1, count=198), CASES_OF_STARTS), *two_portions_cases(seed=1, count=98), *large_message_cases(seed=1, count=8)]
+    groups = {b"": [(starts_without_a_map(), history_outcome(starts_without_a_map()))]}
+    for case in made:
+        groups.setdefault(case.given.calls[0].map_bytes, []).append((case.given, case.expected))
+    return [history for group in groups.values() for history in group]
 
 
 def received_messages():
-    made = [*received_cases(seed=1, count=528, left_out=LONG), *long_received_cases(seed=1, count=9)]
+    made = [*received_cases(seed=1, count=540, left_out=LONG), *long_received_cases(seed=1, count=9)]
     return [*(case.given for case in made), *every_damage(random_source("damaged messages", 1, 0))]
 
 
+def readings_of_messages():
+    """Those on one map one after another, as by_map puts them."""
+    made = [*few_of_some(of_message_cases(seed=1, count=575), CASES_OF_READINGS), *as_by_itself_cases(seed=1, count=172)]
+    calls = [(case.given, case.expected) for case in made]
+    more = [*every_small_map(random_source("small maps", 1, 0)), *every_wrong_front(random_source("wrong fronts", 1, 0)),
+            *every_changed_map(random_source("changed maps", 1, 0))]
+    calls += [(given, reading_outcome(given)) for given in more]
+    check_room(calls, lambda given: given.line_room <= OF_MESSAGE_LINE_ROOM)
+    return by_map(calls)
+
+
 def test_messages():
-    """A part is a call, or the start of a message that is written. Its first byte says which; only the start prints no row."""
-    histories = [*message_cases(seed=1, count=378, left_out=LARGE), *two_portions_cases(seed=1, count=98), *large_message_cases(seed=1, count=8)]
-    parts, rows = [], []
-    for case in histories:
-        parts += history_parts(case.given)
-        rows += history_rows(case.given.room, case.expected)
+    """A part is a call, a new buffer for a message that is written, or a map. Its first byte says which; only calls print a row."""
+    made = MessageParts()
+    for history, answered in histories():
+        made.put_history(history, answered)
     for received in received_messages():
-        parts.append(bytes([RECEIVED]) + words([received.number]) + received.message)
-        rows.append(received_row(received_outcome(received), received.message))
-    return packed(parts), rows
+        made.put_received(received)
+    for given, outcome in readings_of_messages():
+        made.put_reading(given, outcome)
+    return packed(made.parts), made.rows
 
 
 PROGRAMS = {"test_maps": test_maps, "test_legs": test_legs, "test_reads": test_reads, "test_writes": test_writes,

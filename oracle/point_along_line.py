@@ -8,7 +8,7 @@ from dataclasses import replace
 from depot_map import read_map
 from legs import LegSearch, list_length
 from outcome import PointRead, PointWritten, RefusedCall, outcome_of
-from reader import check_work_length, flagged_span, leg_lists, legs_of, point_nodes
+from reader import check_work_length, flagged_span, leg_lists, legs_of, map_to_read_on, point_nodes
 from reference import POINT_STATUS, put_together, take_point_along_line
 from writer import leg_is_usable, reference_of_legs
 
@@ -33,9 +33,8 @@ def bytes_of_point(depot_map, lines, offset, orientation, side):
     return put_together(replace(reference, points=marked), POINT_STATUS)
 
 
-def _read_point(map_bytes, reference_bytes, work_length, line_room):
-    check_work_length(work_length)
-    depot_map = read_map(map_bytes)
+def _read_point(map_bytes, message, reference_bytes, work_length, line_room):
+    depot_map = map_to_read_on(map_bytes, work_length, message)
     reference = take_point_along_line(reference_bytes)
     nodes = point_nodes(depot_map, reference)
     lines, = leg_lists(depot_map, legs_of(reference, nodes))
@@ -48,7 +47,12 @@ def _read_point(map_bytes, reference_bytes, work_length, line_room):
 
 def read_point(map_bytes, reference_bytes, work_length, line_room):
     """The outcome of a call of the reader of points: PointRead or Refused."""
-    return outcome_of(_read_point, map_bytes, reference_bytes, work_length, line_room)
+    return outcome_of(_read_point, map_bytes, None, reference_bytes, work_length, line_room)
+
+
+def read_point_of_message(map_bytes, message, reference_bytes, work_length, line_room):
+    """The same for a point out of a message."""
+    return outcome_of(_read_point, map_bytes, message, reference_bytes, work_length, line_room)
 
 
 def _write_point(map_bytes, line, offset, orientation, side, work_length, byte_room):

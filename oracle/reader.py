@@ -1,10 +1,11 @@
-"""The reader: map bytes and reference bytes to a stretch (scope paper, refusals 1 to 6 and 12 to 20; paper 02: 22, 23 and 24).
+"""The reader: map bytes and reference bytes to a stretch (scope paper, refusals 1 to 6 and 12 to 20; paper 02: 22, 23 and 24, and 30 out of a message).
 
 Longitudes are added up as paper 02 says it, "Depots on the 180th meridian".
 """
 
 from depot_map import Node, read_map
 from fields import brought_round, code_pair, offset_span
+from front import check_front
 from legs import Leg, LegSearch, Marks, has_banned_pair, list_length
 from outcome import RefusedCall, StretchRead, outcome_of
 from reference import take_apart
@@ -81,9 +82,17 @@ def flagged_span(byte, leg_length):
     return span
 
 
-def _read(map_bytes, reference_bytes, work_length, line_room):
+def map_to_read_on(map_bytes, work_length, message):
+    """The map, or refusal 1, one of the map's own, or 30. A reference read by itself has no message, None, which is not an empty one."""
     check_work_length(work_length)
     depot_map = read_map(map_bytes)
+    if message is not None:
+        check_front(map_bytes, message)
+    return depot_map
+
+
+def _read(map_bytes, message, reference_bytes, work_length, line_room):
+    depot_map = map_to_read_on(map_bytes, work_length, message)
     reference = take_apart(reference_bytes)
     nodes = point_nodes(depot_map, reference)
     lists = leg_lists(depot_map, legs_of(reference, nodes))
@@ -100,4 +109,9 @@ def _read(map_bytes, reference_bytes, work_length, line_room):
 
 def read(map_bytes, reference_bytes, work_length, line_room):
     """The outcome of a call of the reader: StretchRead or Refused."""
-    return outcome_of(_read, map_bytes, reference_bytes, work_length, line_room)
+    return outcome_of(_read, map_bytes, None, reference_bytes, work_length, line_room)
+
+
+def read_of_message(map_bytes, message, reference_bytes, work_length, line_room):
+    """The same for a reference out of a message."""
+    return outcome_of(_read, map_bytes, message, reference_bytes, work_length, line_room)

@@ -31,7 +31,8 @@ BEST_FOUND_CASES = 240
 EDGES_OF_LEGS = {5_859, 5_860, 5_861, 11_719, 11_720, 11_721, 1_494_299, 1_494_300, 1_494_301, 1_499_999, 1_500_000, 1_500_001}
 KINDS = (cases.map_cases, cases.leg_cases, cases.read_cases, cases.write_cases, cases.leg_cases_across, cases.read_cases_across, cases.write_cases_across,
          cases.meridian_map_cases, cases.meridian_read_cases, cases.meridian_write_cases, cases.best_found_cases, cases.message_cases,
-         cases.two_portions_cases, cases.large_message_cases, cases.received_cases, cases.long_received_cases)
+         cases.two_portions_cases, cases.large_message_cases, cases.start_cases, cases.received_cases, cases.long_received_cases, cases.of_message_cases,
+         cases.as_by_itself_cases)
 
 
 def refusal_in_label(label):

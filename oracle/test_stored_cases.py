@@ -78,7 +78,7 @@ class StoredCases(unittest.TestCase):
         self.check_answers("test_reads", {1, *MAP_REFUSALS, *range(12, 21), 22}, {"lines"})
         self.check_answers("test_writes", {1, *MAP_REFUSALS, *range(7, 12), 21, 26}, {"bytes"})
         self.check_answers("test_points", {1, *MAP_REFUSALS, 7, *range(9, 21), 25}, {"lines", "bytes"})
-        self.check_answers(MESSAGE_PROGRAM, {27, 28}, {"open", "closed", "bytes", "from"})
+        self.check_answers(MESSAGE_PROGRAM, {1, *MAP_REFUSALS, *range(12, 21), 22, 27, 28, 30}, {"open", "closed", "bytes", "from", "lines"})
 
     def test_every_program_is_asked_and_held_to_plain_rust(self):
         for programs in (PROGRAMS, check_plain.PROGRAMS):

@@ -4,16 +4,19 @@
      write MAP STRETCH POS NEG TESTS ROOM   STRETCH is the line numbers' bytes, ROOM the byte buffer's count of bytes
      read_point MAP REFERENCE ROOM
      write_point MAP LINE OFFSET ORIENTATION SIDE ROOM
-     message ROOM CALL CALL ..              calls one after another on an empty message, in a buffer of ROOM bytes of which byte i is i mod 251 before the first
+     read_of_message MAP MESSAGE REFERENCE ROOM
+     read_point_of_message MAP MESSAGE REFERENCE ROOM
+     message ROOM CALL CALL ..              calls one after another, in a buffer of ROOM bytes of which byte i is i mod 251 before the first
      received MESSAGE N                     asks for reference N of a received message
 
-   A CALL is open, add:BYTES, close or ask:N. Offsets and spans are in centimetres. Bytes are hexadecimal, and - where there are none.
+   A CALL is start:MAP, open, add:BYTES, close or ask:N. Up to the first that is not refused all of them must be starts. Offsets and spans are in centimetres.
+   Bytes are hexadecimal, and - where there are none.
 
    Messages are answered by an item for each call: done:BYTES:OPEN:ADDED or refused:NUMBER, with @FROM=BYTES behind it where the buffer changed, the bytes after
    the call from the first changed one to the last; or, for what is asked, part:FROM:COUNT.
 
    A call that changes the buffer where it must not is answered by "buffer", a writer's refusal with a number that must be 0 and is not by "refused" and all of
-   its numbers, and a refusal that changes what is known of a message by "fields". None of them is ever expected. */
+   its numbers, a reader's by "numbers", and a refusal that changes what is known of a message by "fields". None of them is ever expected. */
 #include "openlr.h"
 
 _Static_assert(OPENLR_UNITS_PER_METRE == 100, "lengths and offsets are in centimetres");
@@ -41,9 +44,18 @@ static int kept(const uint8_t *buffer, size_t from, size_t room) {
     return 1;
 }
 
+static int has_place(uint32_t refusal) {
+    return refusal >= OPENLR_NO_NODE && refusal <= OPENLR_SEVERAL_READINGS;
+}
+
 static void print_refusal(uint32_t refusal, uint32_t place) {
     printf("refused %u", (unsigned)refusal);
-    if (refusal >= OPENLR_NO_NODE && refusal <= OPENLR_SEVERAL_READINGS) printf(" %u", (unsigned)place);
+    if (has_place(refusal)) printf(" %u", (unsigned)place);
+}
+
+/* Whether an answer of a reader has a number that must be 0: a place, or any of the others of a refusal, `rest` being all their bits. */
+static int wrong_numbers(uint32_t refusal, uint32_t place, uint32_t rest) {
+    return (place != 0 && !has_place(refusal)) || (refusal != 0 && rest != 0);
 }
 
 static void print_lines(const uint8_t *line_buffer, size_t count) {
@@ -54,7 +66,9 @@ static void print_lines(const uint8_t *line_buffer, size_t count) {
 }
 
 static void print_read(struct openlr_reading a, const uint8_t *line_buffer, size_t room) {
-    if (!kept(line_buffer, 4 * (size_t)a.line_count, room)) {
+    if (wrong_numbers(a.refusal, a.place, a.line_count | a.pos_least | a.pos_greatest | a.neg_least | a.neg_greatest)) {
+        printf("numbers");
+    } else if (!kept(line_buffer, 4 * (size_t)a.line_count, room)) {
         printf("buffer");
     } else if (a.refusal != 0) {
         print_refusal(a.refusal, a.place);
@@ -66,7 +80,9 @@ static void print_read(struct openlr_reading a, const uint8_t *line_buffer, size
 }
 
 static void print_point(struct openlr_point a, const uint8_t *line_buffer, size_t room) {
-    if (!kept(line_buffer, 4 * (size_t)a.lines, room)) {
+    if (wrong_numbers(a.refusal, a.place, a.lines | a.least | a.greatest | a.orientation | a.side)) {
+        printf("numbers");
+    } else if (!kept(line_buffer, 4 * (size_t)a.lines, room)) {
         printf("buffer");
     } else if (a.refusal != 0) {
         print_refusal(a.refusal, a.place);
@@ -129,23 +145,23 @@ static void print_part(struct openlr_part a) {
     printf("part:%u:%u", (unsigned)a.from, (unsigned)a.byte_count);
 }
 
-/* A buffer with a message, and both as they were before the last call. The bytes behind the buffer's `room` must stay. */
+/* A buffer with a message, and the buffer as it was before the last call. The bytes behind the buffer's `room` must stay. */
 static struct {
     size_t room;
-    struct openlr_message message, given;
+    struct openlr_message message;
     uint8_t buffer[LARGEST_BUFFER + BEHIND], before[LARGEST_BUFFER + BEHIND];
 } office;
 
-static void start_message(size_t room) {
-    static const struct openlr_message empty = OPENLR_EMPTY_MESSAGE;
+/* A new buffer. What a message is before it is started does not count, so it is one that nobody has. */
+static void new_buffer(size_t room) {
+    static const struct openlr_message none = {UINT32_MAX, UINT32_MAX, UINT32_MAX, UINT32_MAX};
     office.room = room;
-    office.message = empty;
+    office.message = none;
     for (size_t i = 0; i < room + BEHIND; i++) office.buffer[i] = (uint8_t)(i % 251);
 }
 
-/* Prints what the last call of open, add or close answered and changed. */
-static void print_message(void) {
-    struct openlr_message a = office.message, given = office.given;
+/* Prints what the last call of start, open, add or close answered and changed. A refusal must leave the fields as they are in `given`. */
+static void print_message(struct openlr_message a, struct openlr_message given) {
     size_t first = 0, end = office.room + BEHIND;
     while (first < end && office.buffer[first] == office.before[first]) first++;
     while (end > first && office.buffer[end - 1] == office.before[end - 1]) end--;
@@ -163,28 +179,42 @@ static void print_message(void) {
     }
 }
 
+/* Starts the message on a map. A start that is refused was given no message, so all of its fields are 0 then; the message under way goes on. */
+static void call_start(const char *map_text) {
+    static const struct openlr_message no_fields;
+    static uint8_t map[LONGEST_ROW / 2];
+    size_t map_len = bytes_of(map_text, map);
+    struct openlr_message started = openlr_message_start(map, map_len, office.buffer, office.room);
+    if (started.refusal == 0) office.message = started;
+    print_message(started, no_fields);
+}
+
 /* Makes a call of the message. An open one is told by any number but 0: by the largest in every other call. */
 static void call_message(const char *call, size_t index) {
     static uint8_t portion[LONGEST_ROW / 2];
-    if (office.message.open != 0 && index % 2 == 1) office.message.open = UINT32_MAX;
-    office.given = office.message;
+    struct openlr_message given = office.message;
+    if (given.open != 0 && index % 2 == 1) given.open = UINT32_MAX;
     memcpy(office.before, office.buffer, office.room + BEHIND);
+    if (strncmp(call, "start:", 6) == 0) {
+        call_start(call + 6);
+        return;
+    }
     if (strcmp(call, "open") == 0) {
-        office.message = openlr_message_open(office.given);
+        office.message = openlr_message_open(given);
     } else if (strcmp(call, "close") == 0) {
-        office.message = openlr_message_close(office.given);
+        office.message = openlr_message_close(given);
     } else if (strncmp(call, "add:", 4) == 0) {
         size_t portion_len = bytes_of(call + 4, portion);
-        office.message = openlr_message_add(office.given, office.buffer, office.room, portion, portion_len);
+        office.message = openlr_message_add(given, office.buffer, office.room, portion, portion_len);
     } else {
         exit(2);
     }
-    print_message();
+    print_message(office.message, given);
 }
 
 static void answer_history(void) {
     const char *call;
-    start_message(room_of());
+    new_buffer(room_of());
     for (size_t index = 0; (call = strtok(NULL, " \n")) != NULL; index++) {
         if (index > 0) printf(" ");
         if (strncmp(call, "ask:", 4) == 0)
@@ -198,6 +228,14 @@ static void answer_received(void) {
     static uint8_t received[LONGEST_ROW / 2];
     size_t received_len = bytes_of(word(), received);
     print_part(openlr_message_reference(received, received_len, number()));
+}
+
+static void answer_of_message(int is_point) {
+    static uint8_t map[LONGEST_ROW / 2], message[LONGEST_ROW / 2], reference[LONGEST_ROW / 2], buffer[LARGEST_BUFFER + 1];
+    size_t map_len = bytes_of(word(), map), message_len = bytes_of(word(), message), reference_len = bytes_of(word(), reference), room = room_of();
+    memset(buffer, UNTOUCHED, sizeof buffer);
+    if (is_point) print_point(openlr_read_point_of_message(map, map_len, message, message_len, reference, reference_len, buffer, room), buffer, room);
+    else print_read(openlr_read_of_message(map, map_len, message, message_len, reference, reference_len, buffer, room), buffer, room);
 }
 
 static void answer_on_map(const char *kind) {
@@ -232,6 +270,8 @@ int main(void) {
         if (kind == NULL) return 2;
         if (strcmp(kind, "message") == 0) answer_history();
         else if (strcmp(kind, "received") == 0) answer_received();
+        else if (strcmp(kind, "read_of_message") == 0) answer_of_message(0);
+        else if (strcmp(kind, "read_point_of_message") == 0) answer_of_message(1);
         else answer_on_map(kind);
         printf("\n");
     }

@@ -1,8 +1,8 @@
 /* The functions in a thread with a stack of just OPENLR_LEAST_STACK bytes, on full-size maps with 512 bans and on the calls that take most: 64 legs, 64 lines,
-   1,024 lines read, in many legs and in one, of a stretch and of a point; and on the longest messages. Prints how much of the stack was used, the thread's own
-   part with it. It is compiled without sanitizers, which need more stack. Lengths and offsets are in centimetres. */
+   1,024 lines read, in many legs and in one, of a stretch and of a point, by themselves and out of a message; and on the longest messages. Prints how much of
+   the stack was used, the thread's own part with it. It is compiled without sanitizers, which need more stack. Lengths and offsets are in centimetres. */
 #define _DEFAULT_SOURCE
-#include "ridge.h"
+#include "front.h"
 
 #include <pthread.h>
 #include <sys/mman.h>
@@ -21,25 +21,24 @@ static struct openlr_message message;
 static uint32_t reference_length, asked;
 static struct openlr_part part;
 
-static void put_number(uint32_t number) {
-    for (; number >= 128; number /= 128) map[map_len++] = (uint8_t)(number % 128 + 128);
-    map[map_len++] = (uint8_t)number;
+static void put_in_map(uint32_t number) {
+    map_len += put_number(map + map_len, number);
 }
 
 /* A line that leaves to the south-east, sector 12, and arrives from the north-west, sector 28. */
 static void put_line(uint32_t start, uint32_t end, uint32_t length, uint32_t form) {
     const uint32_t numbers[] = {start, end, length, 3, form, 250 + 141, 250 - 141, 250 - 141, 250 + 141};
-    for (int i = 0; i < 9; i++) put_number(numbers[i]);
+    for (int i = 0; i < 9; i++) put_in_map(numbers[i]);
 }
 
 static void put_nodes(void) {
     map_len = 0;
-    put_number(NODES);
+    put_in_map(NODES);
     for (uint32_t i = 0; i < NODES; i++) {
-        put_number(18000000 + 100 * (i % 32));
-        put_number(9000000 + 100 * (i / 32));
+        put_in_map(18000000 + 100 * (i % 32));
+        put_in_map(9000000 + 100 * (i / 32));
     }
-    put_number(LINES);
+    put_in_map(LINES);
 }
 
 /* Lines `from` to 1,023: there and back between nodes next to each other from node 15 on. They are of another form, and no leg below is shorter by them.
@@ -49,11 +48,11 @@ static void put_other_lines(uint32_t from) {
         uint32_t node = 15 + i / 2 % (NODES - 16);
         put_line(node + i % 2, node + 1 - i % 2, 200003, 5);
     }
-    put_number(BANS);
+    put_in_map(BANS);
     for (uint32_t i = 0; i < BANS; i++) {
         uint32_t line = from + 2 * i % (LINES - from);
-        put_number(line);
-        put_number(line + 1);
+        put_in_map(line);
+        put_in_map(line + 1);
     }
 }
 
@@ -75,6 +74,21 @@ static void *write_once(void *unused) {
 
 static void *read_point_once(void *unused) {
     point = openlr_read_point(map, map_len, given, given_len, line_buffer, sizeof line_buffer);
+    return unused;
+}
+
+static void *start_once(void *unused) {
+    message = openlr_message_start(map, map_len, message_buffer, sizeof message_buffer);
+    return unused;
+}
+
+static void *read_of_message_once(void *unused) {
+    reading = openlr_read_of_message(map, map_len, message_buffer, message.byte_count, given, given_len, line_buffer, sizeof line_buffer);
+    return unused;
+}
+
+static void *read_point_of_message_once(void *unused) {
+    point = openlr_read_point_of_message(map, map_len, message_buffer, message.byte_count, given, given_len, line_buffer, sizeof line_buffer);
     return unused;
 }
 
@@ -113,6 +127,31 @@ static void run(const char *what, void *(*call)(void *)) {
     EXPECT(pthread_attr_destroy(&attributes) == 0 && munmap(memory, GUARD + OPENLR_LEAST_STACK) == 0);
 }
 
+/* Reads by itself, and out of a message that is started for the map: the answers and the lines are the same. */
+static void run_read(const char *by_itself, const char *out_of_message) {
+    static uint8_t lines[sizeof line_buffer];
+    memset(line_buffer, 0, sizeof line_buffer);
+    run(by_itself, read_once);
+    struct openlr_reading before = reading;
+    memcpy(lines, line_buffer, sizeof lines);
+    memset(line_buffer, 0, sizeof line_buffer);
+    start_once(NULL);
+    run(out_of_message, read_of_message_once);
+    EXPECT(memcmp(&reading, &before, sizeof before) == 0 && memcmp(line_buffer, lines, sizeof lines) == 0);
+}
+
+static void run_read_point(const char *by_itself, const char *out_of_message) {
+    static uint8_t lines[sizeof line_buffer];
+    memset(line_buffer, 0, sizeof line_buffer);
+    run(by_itself, read_point_once);
+    struct openlr_point before = point;
+    memcpy(lines, line_buffer, sizeof lines);
+    memset(line_buffer, 0, sizeof line_buffer);
+    start_once(NULL);
+    run(out_of_message, read_point_of_message_once);
+    EXPECT(memcmp(&point, &before, sizeof before) == 0 && memcmp(line_buffer, lines, sizeof lines) == 0);
+}
+
 /* A ring of 16 lines, and 64 legs that each go once around it from node 0, with both offsets. Of 1,411,792 centimetres, D is 240 (F0), and byte 80 means
    703,139 (127.5 x 1,411,792 / 256 is 703,138.59) to 708,653 (128.5 x 1,411,792 / 256 is 708,653.41). */
 static void read_most(void) {
@@ -125,7 +164,7 @@ static void read_most(void) {
     for (size_t i = 0; i < 63; i++) memcpy(given + sizeof first + i * sizeof next, next, sizeof next);
     memcpy(given + sizeof first + 63 * sizeof next, last, sizeof last);
     given_len = sizeof given;
-    run("openlr_read, 64 legs, 1,024 lines", read_once);
+    run_read("openlr_read, 64 legs, 1,024 lines", "openlr_read_of_message, 64 legs, 1,024 lines");
     EXPECT(reading.refusal == 0 && reading.line_count == 1024);
     EXPECT(reading.pos_least == 703139 && reading.pos_greatest == 708653 && reading.neg_least == 703139 && reading.neg_greatest == 708653);
     for (uint32_t i = 0; i < 1024; i++) EXPECT(line_buffer[4 * i] == i % 16 && line_buffer[4 * i + 1] == 0);
@@ -145,20 +184,19 @@ static void read_longest_leg(void) {
     for (uint32_t i = 0; i < 510; i++) put_line(1 + i, 2 + i, length, 3);
     put_line(511, 0, length, 3);
     put_line(0, 1, length, 5);
-    put_number(BANS);
+    put_in_map(BANS);
     for (uint32_t i = 0; i < BANS; i++) {
-        put_number(i % 511);
-        put_number(512 + i % 511);
+        put_in_map(i % 511);
+        put_in_map(512 + i % 511);
     }
     memcpy(given, reference, sizeof reference);
     given_len = sizeof reference;
-    run("openlr_read, one leg of 1,024 lines", read_once);
+    run_read("openlr_read, one leg of 1,024 lines", "openlr_read_of_message, one leg of 1,024 lines");
     EXPECT(reading.refusal == 0 && reading.line_count == 1024);
     for (uint32_t i = 0; i < 1024; i++) EXPECT(line_buffer[4 * i] == i % 256 && line_buffer[4 * i + 1] == i / 256);
     memcpy(given, point_bytes, sizeof point_bytes);
     given_len = sizeof point_bytes;
-    memset(line_buffer, 0, sizeof line_buffer);
-    run("openlr_read_point, 1,024 lines", read_point_once);
+    run_read_point("openlr_read_point, 1,024 lines", "openlr_read_point_of_message, 1,024 lines");
     EXPECT(point.refusal == 0 && point.lines == 1024 && point.least == 1490352 && point.greatest == 1499135 && point.orientation == 3 && point.side == 2);
     for (uint32_t i = 0; i < 1024; i++) EXPECT(line_buffer[4 * i] == i % 256 && line_buffer[4 * i + 1] == i / 256);
 }
@@ -181,7 +219,7 @@ static void write_most_legs(void) {
     EXPECT(written.tests == OPENLR_MOST_TESTS && written.excess == 0);
     memcpy(given, byte_buffer, sizeof given);
     given_len = sizeof given;
-    run("openlr_read, 64 legs, 64 lines", read_once);
+    run_read("openlr_read, 64 legs, 64 lines", "openlr_read_of_message, 64 legs, 64 lines");
     EXPECT(reading.refusal == 0 && reading.line_count == 64 && reading.pos_least == 378518 && reading.neg_greatest == 381485);
     for (uint32_t i = 0; i < 64; i++) EXPECT(line_buffer[4 * i] == i);
 }
@@ -206,20 +244,20 @@ static void write_most_tests(void) {
    747,071 (127.5 x 1,500,000 / 256 is 747,070.31) to 752,929 (128.5 x 1,500,000 / 256 is 752,929.69). */
 static void longest_map(void) {
     map_len = 0;
-    put_number(NODES);
+    put_in_map(NODES);
     for (uint32_t i = 0; i < NODES; i++) {
-        put_number(35999998 - 100 * i);
-        put_number(18000000);
+        put_in_map(35999998 - 100 * i);
+        put_in_map(18000000);
     }
-    put_number(LINES);
+    put_in_map(LINES);
     for (uint32_t i = 0; i < LINES; i++) {
         const uint32_t numbers[] = {128 + i % 384, 128 + (i + 1) % 384, LONGEST_LINE - i / 384 * DISTANCE_STEP, 7, 7, 500, 500, 500, 500};
-        for (int k = 0; k < 9; k++) put_number(numbers[k]);
+        for (int k = 0; k < 9; k++) put_in_map(numbers[k]);
     }
-    put_number(BANS);
+    put_in_map(BANS);
     for (uint32_t i = 0; i < BANS; i++) {
-        put_number(128 + i);
-        put_number(129 + i);
+        put_in_map(128 + i);
+        put_in_map(129 + i);
     }
     EXPECT(map_len == OPENLR_LONGEST_MAP);
     put_stretch(1);
@@ -229,7 +267,7 @@ static void longest_map(void) {
     EXPECT(written.refusal == 0 && written.byte_count == 16 && written.tests == 1 && written.excess == 0);
     memcpy(given, byte_buffer, 16);
     given_len = 16;
-    run("openlr_read, longest map", read_once);
+    run_read("openlr_read, longest map", "openlr_read_of_message, longest map");
     EXPECT(reading.refusal == 0 && reading.line_count == 1 && line_buffer[0] == 1);
     point_line = 1;
     point_offset = LONGEST_LINE / 2;
@@ -237,31 +275,34 @@ static void longest_map(void) {
     EXPECT(point_written.refusal == 0 && point_written.bytes == OPENLR_LONGEST_POINT && byte_buffer[16] == 0x80);
     memcpy(given, byte_buffer, OPENLR_LONGEST_POINT);
     given_len = OPENLR_LONGEST_POINT;
-    line_buffer[0] = 0;
-    run("openlr_read_point, longest map", read_point_once);
+    run_read_point("openlr_read_point, longest map", "openlr_read_point_of_message, longest map");
     EXPECT(point.refusal == 0 && point.lines == 1 && line_buffer[0] == 1 && point.least == 747071 && point.greatest == 752929);
 }
 
-/* As many references of one length as a message holds, the last of them with the stack measured. Then the last one is asked for. */
+/* As many references of one length as a message for the longest map holds, the last of them with the stack measured. Then the last one is asked for. */
 static void put_message(const char *writing, const char *asking, uint32_t length, uint32_t length_bytes) {
-    const struct openlr_message empty = OPENLR_EMPTY_MESSAGE;
-    uint32_t count = OPENLR_LONGEST_MESSAGE / (length_bytes + length);
-    message = empty;
+    const uint32_t front = OPENLR_LONGEST_FRONT, count = (OPENLR_LONGEST_MESSAGE - front) / (length_bytes + length);
+    start_once(NULL);
     reference_length = length;
     for (uint32_t i = 0; i < sizeof given; i++) given[i] = (uint8_t)i;
     for (uint32_t i = 0; i + 1 < count; i++) message_once(NULL);
     run(writing, message_once);
-    EXPECT(message.refusal == 0 && message.byte_count == count * (length_bytes + length) && message.open == 0 && message.added == 0);
+    EXPECT(message.refusal == 0 && message.byte_count == front + count * (length_bytes + length) && message.open == 0 && message.added == 0);
     asked = count - 1;
     run(asking, ask_once);
-    EXPECT(part.from == asked * (length_bytes + length) + length_bytes && part.byte_count == length);
+    EXPECT(part.from == front + asked * (length_bytes + length) + length_bytes && part.byte_count == length);
     EXPECT(memcmp(message_buffer + part.from, given, length) == 0);
 }
 
-/* 35 of the longest references are 16,135 bytes, and 8,192 of the shortest are 16,384. */
+/* The front of the longest map has 8 bytes. 35 of the longest references are 16,135 bytes, and 8,188 of the shortest are 16,376. */
 static void longest_messages(void) {
+    uint8_t front[MOST_FRONT_BYTES];
+    EXPECT(put_front(front, map, map_len) == OPENLR_LONGEST_FRONT);
+    run("openlr_message_start, longest map", start_once);
+    EXPECT(message.refusal == 0 && message.byte_count == OPENLR_LONGEST_FRONT && message.open == 0 && message.added == 0);
+    EXPECT(memcmp(message_buffer, front, OPENLR_LONGEST_FRONT) == 0);
     put_message("openlr_message_open, _add, _close, 459 bytes", "openlr_message_reference, the last of 35", OPENLR_LONGEST_REFERENCE, 2);
-    put_message("openlr_message_open, _add, _close, 1 byte", "openlr_message_reference, the last of 8,192", 1, 1);
+    put_message("openlr_message_open, _add, _close, 1 byte", "openlr_message_reference, the last of 8,188", 1, 1);
 }
 
 int main(void) {

@@ -220,23 +220,17 @@ impl NodeOfCodes {
     }
 }
 
-#[derive(Clone, Debug)]
-pub struct DepotMap {
-    pub nodes: Vec<Node>,
-    pub lines: Vec<Line>,
-    /// As listed: a pair may stand there twice.
-    pub bans: Vec<Ban>,
-    outgoing: Grouped<LineAtNode>,
-    incoming: Grouped<LineAtNode>,
-    /// By line; no groups where there are no bans.
-    banned_after: Grouped<u32>,
-    banned_before: Grouped<u32>,
+/// What the bytes of a map list, which refusals 2 to 6, 23 and 24 let pass.
+struct Listed {
+    nodes: Vec<Node>,
+    lines: Vec<Line>,
+    bans: Vec<Ban>,
     node_of_codes: NodeOfCodes,
 }
 
-impl DepotMap {
-    /// The map that the bytes hold, or refusal 2 to 6, 23 or 24.
-    pub fn decode(map_bytes: &[u8]) -> Outcome<DepotMap> {
+impl Listed {
+    #[inline]
+    fn new(map_bytes: &[u8]) -> Outcome<Listed> {
         let mut numbers = Numbers { rest: map_bytes };
         let node_count = numbers.within(2, 512, Refusal::Count)?;
         let mut nodes = Vec::with_capacity(node_count as usize);
@@ -258,6 +252,38 @@ impl DepotMap {
         }
         let node_of_codes = NodeOfCodes::new(&nodes)?;
         check_turns(&lines, &bans)?;
+        Ok(Listed {
+            nodes,
+            lines,
+            bans,
+            node_of_codes,
+        })
+    }
+}
+
+#[derive(Clone, Debug)]
+pub struct DepotMap {
+    pub nodes: Vec<Node>,
+    pub lines: Vec<Line>,
+    /// As listed: a pair may stand there twice.
+    pub bans: Vec<Ban>,
+    outgoing: Grouped<LineAtNode>,
+    incoming: Grouped<LineAtNode>,
+    /// By line; no groups where there are no bans.
+    banned_after: Grouped<u32>,
+    banned_before: Grouped<u32>,
+    node_of_codes: NodeOfCodes,
+}
+
+impl DepotMap {
+    /// The map that the bytes hold, or refusal 2 to 6, 23 or 24.
+    pub fn decode(map_bytes: &[u8]) -> Outcome<DepotMap> {
+        let Listed {
+            nodes,
+            lines,
+            bans,
+            node_of_codes,
+        } = Listed::new(map_bytes)?;
         let banned_after = by_line(&lines, &bans, |ban| (ban.line, ban.next));
         let banned_before = by_line(&lines, &bans, |ban| (ban.next, ban.line));
         let outgoing = Grouped::new(
@@ -286,6 +312,11 @@ impl DepotMap {
             banned_before,
             node_of_codes,
         })
+    }
+
+    /// Refusals 2 to 6, 23 and 24, for a call that needs nothing else of the map.
+    pub fn check(map_bytes: &[u8]) -> Outcome<()> {
+        Listed::new(map_bytes).map(drop)
     }
 
     /// The map as a search in this direction sees it.

@@ -4,13 +4,17 @@
 mod choice;
 pub mod depot_map;
 pub mod fields;
+pub mod front;
 pub mod hexadecimal;
 mod leg_tests;
 pub mod legs;
+pub mod map_sum;
 pub mod maps;
 pub mod message;
 pub mod message_calls;
 pub mod message_list;
+#[cfg(feature = "openlr")]
+pub mod openlr;
 pub mod outcome;
 mod places;
 pub mod point;

@@ -2,6 +2,7 @@
 //! process, and prints `what | ours µs | plain Rust µs | ratio`.
 
 mod message_rows;
+mod of_message_rows;
 mod offset_rows;
 mod point_rows;
 mod proved;
@@ -172,7 +173,7 @@ fn sample(name: &'static str, plan: MapPlan) -> Sample {
 }
 
 /// Prints the rows of every kind but worst, or of the kind that the argument names: decode, search, read, write, point, offsets,
-/// message or worst.
+/// message, of_message or worst.
 /// `worst TEXT` prints those of the maps with this text in their names; they may take minutes.
 /// `once ROW` times nothing, for counting calls.
 fn main() {
@@ -187,9 +188,9 @@ fn main() {
     }
     let wanted = |name: &str| kind.as_deref().is_none_or(|kind| kind == name);
     let samples = samples();
-    let tenths: Vec<_> = samples
+    let said_last: Vec<_> = samples
         .iter()
-        .filter_map(|sample| print_rows_of(sample, wanted))
+        .map(|sample| print_rows_of(sample, wanted))
         .collect();
     if wanted("decode") {
         decode_row(&random_steps(3)).print();
@@ -207,11 +208,21 @@ fn main() {
     if wanted("message") {
         message_rows::print_rows();
     }
-    tenths.iter().for_each(test_rows::Tenth::print);
+    for SaidLast { tenth, shares } in &said_last {
+        tenth.iter().for_each(test_rows::Tenth::print);
+        shares.iter().for_each(of_message_rows::Share::print);
+    }
 }
 
-/// The rows of one map. Gives what is said last of its writings with a tenth of the tests.
-fn print_rows_of(sample: &Sample, wanted: impl Fn(&str) -> bool) -> Option<test_rows::Tenth> {
+/// What is said last of a map: of its writings with a tenth of the tests, and of its readings out of a message.
+#[derive(Default)]
+struct SaidLast {
+    tenth: Option<test_rows::Tenth>,
+    shares: Vec<of_message_rows::Share>,
+}
+
+/// The rows of one map.
+fn print_rows_of(sample: &Sample, wanted: impl Fn(&str) -> bool) -> SaidLast {
     if wanted("decode") {
         decode_row(sample).print();
     }
@@ -221,15 +232,21 @@ fn print_rows_of(sample: &Sample, wanted: impl Fn(&str) -> bool) -> Option<test_
     if wanted("read") {
         reading_rows(sample);
     }
-    let mut tenth = None;
+    let mut said_last = SaidLast::default();
     if wanted("write") {
         writing_rows(sample);
-        tenth = test_rows::print_rows(sample);
+        said_last.tenth = test_rows::print_rows(sample);
     }
     if wanted("point") {
         point_rows::print_rows(sample);
     }
-    tenth
+    if wanted("message") {
+        message_rows::print_start_row(sample);
+    }
+    if wanted("of_message") {
+        said_last.shares = of_message_rows::print_rows(sample);
+    }
+    said_last
 }
 
 fn decode_row(sample: &Sample) -> Row<'_> {
@@ -344,9 +361,7 @@ const REFERENCES: [(usize, u32); 5] = [
 
 fn reading_rows(sample: &Sample) {
     for (legs, leg_length) in REFERENCES {
-        let mut rng = Xorshift::new(7);
-        let mut next = || reference_with_legs(&mut rng, &sample.map, legs, leg_length);
-        let references: Vec<_> = (0..INPUTS).map_while(|_| next()).collect();
+        let references = reading_references(sample, legs, leg_length);
         if references.is_empty() {
             continue;
         }
@@ -362,6 +377,13 @@ fn reading_rows(sample: &Sample) {
         }
         reading_row(what, sample, references, proved::read, read).print();
     }
+}
+
+/// References with so many legs of about this length, and the lines that they stand for.
+fn reading_references(sample: &Sample, legs: usize, leg_length: u32) -> Vec<(Vec<u8>, Vec<u32>)> {
+    let mut rng = Xorshift::new(7);
+    let mut next = || reference_with_legs(&mut rng, &sample.map, legs, leg_length);
+    (0..INPUTS).map_while(|_| next()).collect()
 }
 
 /// A proved reader: of a map and a reference, with a work area and a line buffer. The answer is the

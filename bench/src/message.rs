@@ -1,8 +1,10 @@
-//! Messages: references one after another in a lent buffer, each behind its length ("Many stretches in
-//! one message").
+//! Messages: in a lent buffer a front that tells of the map, and behind it references one after another, each behind
+//! its length ("Many stretches in one message", "The wrong map").
 
+use crate::depot_map::DepotMap;
 use crate::fields::LONGEST_REFERENCE;
-use crate::outcome::{Outcome, Refusal};
+use crate::front::{front_length, Front};
+use crate::outcome::{check_work_area, Outcome, Refusal};
 
 /// Of a longer buffer, or of a longer message that was received, no more bytes are used.
 pub const LONGEST_MESSAGE: usize = 16_384;
@@ -10,17 +12,32 @@ pub const LONGEST_MESSAGE: usize = 16_384;
 /// From here on a length takes two bytes.
 const TWO_BYTE_LENGTH: usize = 128;
 
-/// What is known of a message beside its buffer. The default is an empty message.
+/// What is known of a message beside its buffer. The default is one that is not started yet.
 #[derive(Clone, Copy, Debug, Default, PartialEq, Eq)]
 pub struct Message {
-    /// How many bytes the finished references have, their lengths counted. They are the first of the
-    /// buffer.
+    /// How many bytes the front and the finished references have, lengths counted. They are the first of
+    /// the buffer.
     pub byte_count: u32,
     /// How many bytes the open reference has so far, if one is open.
     pub added: Option<u32>,
 }
 
 impl Message {
+    /// Starts a message for a map: refusals 1 to 6, 23, 24, and 28.
+    #[inline]
+    pub fn start(map_bytes: &[u8], work_length: usize, buffer: &mut [u8]) -> Outcome<Message> {
+        check_work_area(work_length)?;
+        DepotMap::check(map_bytes)?;
+        let front = Front::of_map(map_bytes);
+        let front = front.bytes();
+        let place = buffer.get_mut(..front.len());
+        place.ok_or(Refusal::MessageFull)?.copy_from_slice(front);
+        Ok(Message {
+            byte_count: front.len() as u32,
+            added: None,
+        })
+    }
+
     /// Opens a reference: refusal 27.
     #[inline]
     pub fn open(self) -> Outcome<Message> {
@@ -105,11 +122,16 @@ pub struct Part {
 }
 
 /// Asks for a reference of a message that was received, or of the finished bytes of one that is being
-/// written. They count from 0.
+/// written. They count from 0. Where the front cannot be read there is none.
 #[inline]
 pub fn reference(message: &[u8], number: u32) -> Part {
     let message = &message[..usable(message.len())];
-    let mut stop = 0;
+    let Some(mut stop) = front_length(message) else {
+        return Part {
+            from: 0,
+            byte_count: 0,
+        };
+    };
     for _ in 0..number {
         match part_at(message, stop) {
             Some(part) => stop = (part.from + part.byte_count) as usize,
@@ -162,7 +184,7 @@ impl State {
         }
     }
 
-    /// What a call answers that was given this state.
+    /// What a call answers that was given this state. A start is given none: for it this is the default.
     #[inline]
     pub fn answered(self, outcome: Outcome<Message>) -> State {
         match outcome {

@@ -1,13 +1,18 @@
-//! The calls that are made one after another on a message, as words: `open`, `add:BYTES`, `close` and `ask:NUMBER`.
+//! The calls that are made one after another on a message, as words: `start:MAP`, `open`, `add:BYTES`, `close` and
+//! `ask:NUMBER`. A start with a work area that is not of the least length has it before the map: `start:LENGTH:MAP`.
 
 use std::fmt;
 
 use crate::hexadecimal::{bytes, digits};
 use crate::message::{reference, Message, Part};
-use crate::outcome::Outcome;
+use crate::outcome::{Outcome, WORK_AREA};
 
 #[derive(Clone, Debug, PartialEq, Eq)]
 pub enum Call {
+    Start {
+        work_length: usize,
+        map: Vec<u8>,
+    },
     Open,
     Add(Vec<u8>),
     Close,
@@ -20,15 +25,38 @@ impl Call {
         match word.split_once(':') {
             None if word == "open" => Some(Call::Open),
             None if word == "close" => Some(Call::Close),
+            Some(("start", given)) => Call::start_of_word(given),
             Some(("add", portion)) => Some(Call::Add(bytes(portion)?)),
             Some(("ask", number)) => Some(Call::Ask(number.parse().ok()?)),
             _ => None,
         }
     }
 
+    fn start_of_word(given: &str) -> Option<Call> {
+        let (work_length, map) = match given.split_once(':') {
+            Some((work_length, map)) => (work_length.parse().ok()?, map),
+            None => (WORK_AREA, given),
+        };
+        Some(Call::Start {
+            work_length,
+            map: bytes(map)?,
+        })
+    }
+
+    /// With a work area that is long enough.
+    pub fn start(map: &[u8]) -> Call {
+        Call::Start {
+            work_length: WORK_AREA,
+            map: map.to_vec(),
+        }
+    }
+
     /// Makes the call on a message in this buffer.
     pub fn make(&self, message: Message, buffer: &mut [u8]) -> Answer {
         match self {
+            Call::Start { work_length, map } => {
+                Answer::Message(Message::start(map, *work_length, buffer))
+            }
             Call::Open => Answer::Message(message.open()),
             Call::Add(portion) => Answer::Message(message.add(buffer, portion)),
             Call::Close => Answer::Message(message.close()),
@@ -50,6 +78,11 @@ pub enum Answer {
 impl fmt::Display for Call {
     fn fmt(&self, out: &mut fmt::Formatter<'_>) -> fmt::Result {
         match self {
+            Call::Start {
+                work_length: WORK_AREA,
+                map,
+            } => write!(out, "start:{}", digits(map)),
+            Call::Start { work_length, map } => write!(out, "start:{work_length}:{}", digits(map)),
             Call::Open => write!(out, "open"),
             Call::Add(portion) => write!(out, "add:{}", digits(portion)),
             Call::Close => write!(out, "close"),

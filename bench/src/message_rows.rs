@@ -1,19 +1,23 @@
-//! The rows of messages: filling one in portions, additions by their length and at the edge of a length's
-//! bytes, opening and closing, asking for the last reference, and a whole morning.
+//! The rows of messages: starting one, filling one in portions, additions by their length and at the edge of a length's
+//! bytes, opening and closing, asking for the last reference, and a whole morning. Each whole message starts with a
+//! front, for a small map, so that reading the map weighs little.
 //! Every call goes by a pointer to a C function, on both sides: the caller is compiled with neither.
 
 use std::hint::black_box;
 use std::slice;
 
-use plain::maps::Xorshift;
-use plain::message::{bytes_of_length, reference, Part, State, LONGEST_MESSAGE};
+use plain::front::Front;
+use plain::maps::{small_map, Xorshift};
+use plain::message::{bytes_of_length, reference, Message, Part, State, LONGEST_MESSAGE};
+use plain::outcome::WORK_AREA;
 
 use crate::proved::PROVED_MESSAGES;
-use crate::Row;
+use crate::{Row, Sample};
 
-/// The four C functions of include/openlr.h for messages.
+/// The C functions of include/openlr.h for messages.
 #[derive(Clone, Copy)]
 pub struct MessageFunctions {
+    pub start: unsafe extern "C" fn(*const u8, usize, *mut u8, usize) -> State,
     pub open: unsafe extern "C" fn(State) -> State,
     pub add: unsafe extern "C" fn(State, *mut u8, usize, *const u8, usize) -> State,
     pub close: unsafe extern "C" fn(State) -> State,
@@ -21,6 +25,11 @@ pub struct MessageFunctions {
 }
 
 impl MessageFunctions {
+    fn start(&self, map: &[u8], buffer: &mut [u8]) -> State {
+        let (buffer, room) = (buffer.as_mut_ptr(), buffer.len());
+        unsafe { (self.start)(map.as_ptr(), map.len(), buffer, room) }
+    }
+
     fn open(&self, state: State) -> State {
         unsafe { (self.open)(state) }
     }
@@ -40,11 +49,24 @@ impl MessageFunctions {
 }
 
 const PLAIN_MESSAGES: MessageFunctions = MessageFunctions {
+    start: plain_start,
     open: plain_open,
     add: plain_add,
     close: plain_close,
     reference: plain_reference,
 };
+
+/// Each pointer is valid for the length beside it.
+unsafe extern "C" fn plain_start(
+    map: *const u8,
+    map_len: usize,
+    buffer: *mut u8,
+    buffer_len: usize,
+) -> State {
+    let map = slice::from_raw_parts(map, map_len);
+    let buffer = slice::from_raw_parts_mut(buffer, buffer_len);
+    State::default().answered(Message::start(map, WORK_AREA, buffer))
+}
 
 extern "C" fn plain_open(state: State) -> State {
     state.answered(state.message().open())
@@ -82,8 +104,19 @@ const ADDITIONS: [usize; 7] = [1, 16, 64, 127, 128, 256, 459];
 /// Lengths of references, for asking for the last of as many as a message holds.
 const LENGTHS: [usize; 3] = [1, 16, 459];
 
+/// Of one start.
+pub fn print_start_row(sample: &Sample) {
+    let map = &sample.bytes;
+    let what = format!("start, {}, {} bytes", sample.name, map.len());
+    row(what, |functions, buffer| {
+        let state = functions.start(black_box(map), buffer);
+        assert_eq!(state.refusal, 0, "there is room");
+    });
+}
+
 pub fn print_rows() {
-    filling_rows();
+    let map = &small_map(1).encode();
+    filling_rows(map);
     addition_rows();
     let opening = |functions: &MessageFunctions, _: &mut [u8]| {
         black_box(functions.open(black_box(closed_state(0))));
@@ -91,10 +124,10 @@ pub fn print_rows() {
     };
     repeated_row("openings and closings", opening);
     for length in LENGTHS {
-        asking_row(length);
+        asking_row(map, length);
     }
     for (least, greatest) in [(16, 16), (16, 100), (459, 459)] {
-        morning_row(least, greatest);
+        morning_row(map, least, greatest);
     }
 }
 
@@ -140,14 +173,15 @@ fn repeated_row(what: &str, work: impl Fn(&MessageFunctions, &mut [u8])) -> [f64
     row(format!("{TIMES} {what}"), many)
 }
 
-/// Puts these references into an empty message, each in portions of so many bytes. None is refused.
+/// Puts these references into a message for the map, each in portions of so many bytes. None is refused.
 fn fill(
     functions: &MessageFunctions,
     buffer: &mut [u8],
+    map: &[u8],
     references: &[Vec<u8>],
     portion: usize,
 ) -> State {
-    let mut state = State::default();
+    let mut state = functions.start(map, buffer);
     for reference in references {
         state = functions.open(state);
         for portion in reference.chunks(portion) {
@@ -159,11 +193,16 @@ fn fill(
     state
 }
 
-/// References of lengths from the least to the greatest, as many as a message holds.
-fn references(least: usize, greatest: usize) -> Vec<Vec<u8>> {
+/// How many bytes of a message for the map are left to references.
+fn room_behind_front(map: &[u8]) -> usize {
+    LONGEST_MESSAGE - Front::of_map(map).bytes().len()
+}
+
+/// References of lengths from the least to the greatest, as many as a message for the map holds.
+fn references(map: &[u8], least: usize, greatest: usize) -> Vec<Vec<u8>> {
     let mut rng = Xorshift::new(1);
     let mut references = Vec::new();
-    let mut left = LONGEST_MESSAGE;
+    let mut left = room_behind_front(map);
     loop {
         let length = rng.within(least as u32, greatest as u32);
         let whole = bytes_of_length(length as usize) + length as usize;
@@ -175,14 +214,15 @@ fn references(least: usize, greatest: usize) -> Vec<Vec<u8>> {
     }
 }
 
-fn filling_rows() {
-    let mut references = references(459, 459);
-    // It takes what 35 of 459 bytes leave.
-    references.push(vec![0xAA; 247]);
+fn filling_rows(map: &[u8]) {
+    let mut references = references(map, 459, 459);
+    // It takes what those of 459 bytes leave, and so has a length of two bytes.
+    let left = room_behind_front(map) - 461 * references.len();
+    references.push(vec![0xAA; left - 2]);
     for portion in PORTIONS {
         let what = format!("{LONGEST_MESSAGE} bytes in portions of {portion}");
         let times = row(what, |functions, buffer| {
-            let state = fill(functions, buffer, &references, portion);
+            let state = fill(functions, buffer, map, &references, portion);
             assert_eq!(state, closed_state(LONGEST_MESSAGE as u32));
         });
         let [ours, plain] = times.map(|time| 1_000.0 * time / LONGEST_MESSAGE as f64);
@@ -218,11 +258,11 @@ fn addition_rows() {
     }
 }
 
-fn asking_row(length: usize) {
-    let references = references(length, length);
+fn asking_row(map: &[u8], length: usize) {
+    let references = references(map, length, length);
     let last = references.len() as u32 - 1;
     let mut message = vec![0; LONGEST_MESSAGE];
-    let state = fill(&PLAIN_MESSAGES, &mut message, &references, length);
+    let state = fill(&PLAIN_MESSAGES, &mut message, map, &references, length);
     message.truncate(state.byte_count as usize);
     let from = message.len() - length;
     let what = format!("asking for the last of {} of {length}", references.len());
@@ -233,12 +273,12 @@ fn asking_row(length: usize) {
 }
 
 /// Puts references into a message, each at once, and asks for each of them.
-fn morning_row(least: usize, greatest: usize) {
-    let references = references(least, greatest);
+fn morning_row(map: &[u8], least: usize, greatest: usize) {
+    let references = references(map, least, greatest);
     let count = references.len() as u32;
     let what = format!("a morning of {count}, {least} to {greatest} bytes");
     row(what, |functions, buffer| {
-        let state = fill(functions, buffer, &references, greatest);
+        let state = fill(functions, buffer, map, &references, greatest);
         let message = &buffer[..state.byte_count as usize];
         for (number, reference) in (0..).zip(&references) {
             let part = functions.reference(message, number);

@@ -33,6 +33,7 @@ pub enum Refusal {
     TooFewTests,
     MessageOrder,
     MessageFull,
+    OtherMap,
 }
 
 pub type Outcome<T> = Result<T, Refusal>;
@@ -112,6 +113,7 @@ impl Refusal {
             Refusal::TooFewTests => 26,
             Refusal::MessageOrder => 27,
             Refusal::MessageFull => 28,
+            Refusal::OtherMap => 30,
         }
     }
 

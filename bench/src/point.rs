@@ -5,6 +5,7 @@ use crate::fields::{
     distance_byte, place_of_p, GREATEST_ORIENTATION_OR_SIDE, ORIENTATION_OR_SIDE_SHIFT,
     POINT_STATUS_BYTE,
 };
+use crate::front::check_front;
 use crate::legs::{matching_first_lines, matching_last_lines, verdict, Leg, LegEnd, Verdict};
 use crate::outcome::{check_work_area, Outcome, PointReading, Refusal};
 use crate::reader::Reference;
@@ -30,6 +31,20 @@ pub fn read_point(
 ) -> Outcome<PointReading> {
     check_work_area(work_length)?;
     let map = DepotMap::decode(map_bytes)?;
+    read_point_on_map(&map, reference, line_room)
+}
+
+/// Reads a point out of a message: refusal 30 after 23, and else as by itself.
+pub fn read_point_of_message(
+    map_bytes: &[u8],
+    message: &[u8],
+    reference: &[u8],
+    work_length: usize,
+    line_room: usize,
+) -> Outcome<PointReading> {
+    check_work_area(work_length)?;
+    let map = DepotMap::decode(map_bytes)?;
+    check_front(map_bytes, message)?;
     read_point_on_map(&map, reference, line_room)
 }
 

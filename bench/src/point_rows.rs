@@ -15,12 +15,23 @@ use crate::{
 const LEG_LENGTH: u32 = 120_000;
 
 pub fn print_rows(sample: &Sample) {
-    let accepted = points(sample, |point| written(sample, point).is_ok());
-    reading_row_of(sample, references(sample, &accepted));
-    reading_row_of(sample, along_several_lines(sample));
+    let accepted = accepted_points(sample);
+    for references in reading_references(sample) {
+        reading_row_of(sample, references);
+    }
     writing_row_of(sample, "", accepted);
     let not_alone = points(sample, |point| !is_alone(&sample.map, point.line));
     writing_row_of(sample, ", others alike", not_alone);
+}
+
+fn accepted_points(sample: &Sample) -> Vec<Point> {
+    points(sample, |point| written(sample, point).is_ok())
+}
+
+/// Of points along one line and of points along several.
+pub fn reading_references(sample: &Sample) -> [Vec<Reference>; 2] {
+    let along_one_line = references(sample, &accepted_points(sample));
+    [along_one_line, along_several_lines(sample)]
 }
 
 /// Some of the map's lines, at any offset.
@@ -44,7 +55,7 @@ fn written(sample: &Sample, point: &Point) -> Outcome<Vec<u8>> {
 }
 
 /// A reference, and the lines that it stands for.
-type Reference = (Vec<u8>, Vec<u32>);
+pub type Reference = (Vec<u8>, Vec<u32>);
 
 fn references(sample: &Sample, accepted: &[Point]) -> Vec<Reference> {
     let reference = |point: &Point| Some((written(sample, point).ok()?, vec![point.line]));

@@ -1,10 +1,15 @@
 //! The proved functions that are timed, those of crates/measured and the C functions for messages. Each
 //! reads and writes within the slices that it is lent alone; that it does is proved.
 
-use plain::message::{Part, State};
+use plain::openlr::{
+    openlr_message_add, openlr_message_close, openlr_message_open, openlr_message_reference,
+    openlr_message_start, openlr_read, openlr_read_of_message, openlr_read_point,
+    openlr_read_point_of_message, PointAnswer, ReadingAnswer,
+};
 use plain::point::Point;
 
 use crate::message_rows::MessageFunctions;
+use crate::of_message_rows::Readers;
 
 #[link(name = "measured", kind = "static")]
 extern "C" {
@@ -68,25 +73,22 @@ extern "C" {
     fn measured_span(leg: u32, byte: u8) -> u64;
 }
 
-#[link(name = "openlr", kind = "static")]
-extern "C" {
-    fn openlr_message_open(message: State) -> State;
-    fn openlr_message_add(
-        message: State,
-        buffer: *mut u8,
-        buffer_len: usize,
-        portion: *const u8,
-        portion_len: usize,
-    ) -> State;
-    fn openlr_message_close(message: State) -> State;
-    fn openlr_message_reference(message: *const u8, message_len: usize, n: u32) -> Part;
-}
-
 pub const PROVED_MESSAGES: MessageFunctions = MessageFunctions {
+    start: openlr_message_start,
     open: openlr_message_open,
     add: openlr_message_add,
     close: openlr_message_close,
     reference: openlr_message_reference,
+};
+
+pub const PROVED_READERS: Readers<ReadingAnswer> = Readers {
+    by_itself: openlr_read,
+    of_message: openlr_read_of_message,
+};
+
+pub const PROVED_POINT_READERS: Readers<PointAnswer> = Readers {
+    by_itself: openlr_read_point,
+    of_message: openlr_read_point_of_message,
 };
 
 /// Decodes a map into the work area. The answer is the number of the refusal, or 0.

@@ -6,6 +6,7 @@ use crate::fields::{
     NEGATIVE_FLAG, POINT_STATUS_BYTE, POSITIVE_FLAG, SHORTEST_REFERENCE, STATUS_BYTE,
     ZERO_BITS_OF_P, ZERO_BIT_OF_R,
 };
+use crate::front::check_front;
 use crate::legs::{verdict, Leg, LegEnd, Verdict};
 use crate::outcome::{check_work_area, Outcome, Reading, Refusal, Span};
 use crate::search::{Method, Search};
@@ -19,6 +20,20 @@ pub fn read(
 ) -> Outcome<Reading> {
     check_work_area(work_length)?;
     let map = DepotMap::decode(map_bytes)?;
+    read_on_map(&map, reference, line_room)
+}
+
+/// Reads a reference out of a message: refusal 30 after 23, and else as by itself.
+pub fn read_of_message(
+    map_bytes: &[u8],
+    message: &[u8],
+    reference: &[u8],
+    work_length: usize,
+    line_room: usize,
+) -> Outcome<Reading> {
+    check_work_area(work_length)?;
+    let map = DepotMap::decode(map_bytes)?;
+    check_front(map_bytes, message)?;
     read_on_map(&map, reference, line_room)
 }
 

@@ -1,11 +1,21 @@
-//! Messages: worked figures, and random histories and received bytes held to lists of references.
+//! Messages: worked figures, and random histories and received bytes held to lists of references. tests/front.rs has
+//! what is of fronts alone.
+
+mod by_definition;
+mod ridge;
 
 use plain::hexadecimal::bytes;
-use plain::maps::{push_number, Xorshift};
+use plain::maps::{grid, push_number, Lengths, Xorshift};
 use plain::message::{reference, Message, Part, State};
 use plain::message_calls::{bytes_before, Answer, Call};
-use plain::message_list::{list, Stop, STOPS};
-use plain::outcome::{Outcome, Refusal};
+use plain::message_list::{list, FrontFault, Stop, FRONT_FAULTS, STOPS};
+use plain::outcome::{Outcome, Refusal, WORK_AREA};
+
+use by_definition::front_of;
+use ridge::{refusal_of, ridge};
+
+/// A front for a map of 35 bytes with a sum of 2 to the 30th: six bytes.
+const FRONT: [u8; 6] = [35, 0x80, 0x80, 0x80, 0x80, 4];
 
 const ORDER: Outcome<Message> = Err(Refusal::MessageOrder);
 const FULL: Outcome<Message> = Err(Refusal::MessageFull);
@@ -29,9 +39,10 @@ fn part(from: u32, byte_count: u32) -> Part {
     Part { from, byte_count }
 }
 
-/// A message of references with these lengths, all of the same byte, each added at once.
+/// A message of references with these lengths behind the front, all of the same byte, each added at once.
 fn filled(buffer: &mut [u8], lengths: impl IntoIterator<Item = usize>) -> Message {
-    lengths.into_iter().fold(closed(0), |message, length| {
+    buffer[..6].copy_from_slice(&FRONT);
+    lengths.into_iter().fold(closed(6), |message, length| {
         let opened = message.open().unwrap();
         let added = opened.add(buffer, &vec![0xAA; length]).unwrap();
         added.close().unwrap()
@@ -40,29 +51,30 @@ fn filled(buffer: &mut [u8], lengths: impl IntoIterator<Item = usize>) -> Messag
 
 #[test]
 fn a_history_by_hand() {
-    let mut buffer = [0xEE; 8];
-    let message = closed(0).open();
-    assert_eq!(message, Ok(open(0, 0)));
-    assert_eq!(buffer, [0xEE; 8]);
+    let mut buffer = [0xEE; 14];
+    let message = filled(&mut buffer, []).open();
+    assert_eq!(message, Ok(open(6, 0)));
+    assert_eq!(buffer[..], *bytes("238080808004EEEEEEEEEEEEEEEE").unwrap());
     let message = message.unwrap().add(&mut buffer, &[0x0B]).unwrap();
-    assert_eq!(message, open(0, 1));
-    assert_eq!(buffer[..], *bytes("010BEEEEEEEEEEEE").unwrap());
+    assert_eq!(message, open(6, 1));
+    assert_eq!(buffer[..], *bytes("238080808004010BEEEEEEEEEEEE").unwrap());
     let message = message.add(&mut buffer, &[1, 2]).unwrap();
-    assert_eq!(message, open(0, 3));
-    assert_eq!(buffer[..], *bytes("030B0102EEEEEEEE").unwrap());
+    assert_eq!(message, open(6, 3));
+    assert_eq!(buffer[..], *bytes("238080808004030B0102EEEEEEEE").unwrap());
     let message = message.close().unwrap();
-    assert_eq!(message, closed(4));
+    assert_eq!(message, closed(10));
     let message = message.open().unwrap();
     let message = message.add(&mut buffer, &[7, 8, 9]).unwrap();
-    assert_eq!(buffer[..], *bytes("030B010203070809").unwrap());
+    assert_eq!(buffer[..], *bytes("238080808004030B010203070809").unwrap());
     assert_eq!(message.add(&mut buffer, &[10]), FULL);
-    assert_eq!(message.close(), Ok(closed(8)));
-    assert_eq!(buffer[..], *bytes("030B010203070809").unwrap());
-    assert_eq!(reference(&buffer[..4], 0), part(1, 3));
-    assert_eq!(reference(&buffer[..4], 1), part(4, 0));
-    assert_eq!(reference(&buffer, 1), part(5, 3));
-    assert_eq!(reference(&buffer, 2), part(8, 0));
-    assert_eq!(reference(&buffer, u32::MAX), part(8, 0));
+    assert_eq!(message.close(), Ok(closed(14)));
+    assert_eq!(buffer[..], *bytes("238080808004030B010203070809").unwrap());
+    assert_eq!(reference(&buffer[..6], 0), part(6, 0));
+    assert_eq!(reference(&buffer[..10], 0), part(7, 3));
+    assert_eq!(reference(&buffer[..10], 1), part(10, 0));
+    assert_eq!(reference(&buffer, 1), part(11, 3));
+    assert_eq!(reference(&buffer, 2), part(14, 0));
+    assert_eq!(reference(&buffer, u32::MAX), part(14, 0));
 }
 
 /// 27 is before 28.
@@ -160,23 +172,23 @@ fn buffers_that_are_too_short() {
     }
 }
 
-/// 35 references of 459 bytes have 35 * 461 = 16,135 with their lengths. 249 are left: 247 with a length of
-/// two bytes.
+/// 35 references of 459 bytes have 35 * 461 = 16,135 with their lengths, and 16,141 with the front. 243 are left: 241
+/// with a length of two bytes.
 #[test]
 fn messages_of_16384_bytes() {
     for room in [16_384, 16_385, 20_000] {
         let mut buffer = vec![0; room];
         let message = filled(&mut buffer, [459; 35]).open().unwrap();
-        assert_eq!(message, open(16_135, 0));
-        assert_eq!(message.add(&mut buffer, &[0xAA; 248]), FULL);
-        let message = message.add(&mut buffer, &[0xAA; 246]).unwrap();
+        assert_eq!(message, open(16_141, 0));
+        assert_eq!(message.add(&mut buffer, &[0xAA; 242]), FULL);
+        let message = message.add(&mut buffer, &[0xAA; 240]).unwrap();
         assert_eq!(message.close(), Ok(closed(16_383)));
         assert_eq!(message.add(&mut buffer, &[0xAA; 2]), FULL);
         let message = message.add(&mut buffer, &[0xAA; 1]).unwrap();
         assert_eq!(message.add(&mut buffer, &[0xAA; 1]), FULL);
         assert_eq!(message.close(), Ok(closed(16_384)));
-        assert_eq!(reference(&buffer, 34), part(34 * 461 + 2, 459));
-        assert_eq!(reference(&buffer, 35), part(16_137, 247));
+        assert_eq!(reference(&buffer, 34), part(6 + 34 * 461 + 2, 459));
+        assert_eq!(reference(&buffer, 35), part(16_143, 241));
         assert_eq!(reference(&buffer, 36), part(16_384, 0));
         let message = message.close().unwrap().open().unwrap();
         assert_eq!(message.add(&mut buffer, &[0xAA]), FULL);
@@ -184,23 +196,23 @@ fn messages_of_16384_bytes() {
     }
     let mut buffer = vec![0; 16_383];
     let message = filled(&mut buffer, [459; 35]).open().unwrap();
-    assert_eq!(message.add(&mut buffer, &[0xAA; 247]), FULL);
-    assert!(message.add(&mut buffer, &[0xAA; 246]).is_ok());
+    assert_eq!(message.add(&mut buffer, &[0xAA; 241]), FULL);
+    assert!(message.add(&mut buffer, &[0xAA; 240]).is_ok());
 }
 
-/// References of one byte take two: 8,192 of them.
+/// References of one byte take two: 8,189 of them behind the front.
 #[test]
 fn the_most_references() {
     let mut buffer = vec![0; 17_000];
-    let message = filled(&mut buffer, [1; 8_192]);
+    let message = filled(&mut buffer, [1; 8_189]);
     assert_eq!(message, closed(16_384));
     assert_eq!(message.open().unwrap().add(&mut buffer, &[0xAA]), FULL);
-    assert_eq!(reference(&buffer, 0), part(1, 1));
-    assert_eq!(reference(&buffer, 8_191), part(16_383, 1));
-    assert_eq!(reference(&buffer, 8_192), part(16_384, 0));
+    assert_eq!(reference(&buffer, 0), part(7, 1));
+    assert_eq!(reference(&buffer, 8_188), part(16_383, 1));
+    assert_eq!(reference(&buffer, 8_189), part(16_384, 0));
 }
 
-/// AA is in the list, and what follows stops it at byte 2. Behind each stands what could be a reference.
+/// AA is in the list, and what follows stops it at byte 8. Behind each stands what could be a reference.
 #[test]
 fn lists_that_stop() {
     for (rest, stop) in [
@@ -226,13 +238,45 @@ fn lists_that_stop() {
         ("8101BB", Stop::EndInReference),
         ("CB03", Stop::EndInReference),
     ] {
-        let message = [bytes("01AA").unwrap(), bytes(rest).unwrap()].concat();
+        let message = [&FRONT[..], &[1, 0xAA], &bytes(rest).unwrap()].concat();
         let listed = list(&message);
-        assert_eq!((listed.at, listed.stop), (2, stop), "{rest}");
-        assert_eq!(listed.parts, vec![1..2; 1], "{rest}");
-        assert_eq!(reference(&message, 0), part(1, 1), "{rest}");
+        assert_eq!((listed.at, listed.stop), (8, stop), "{rest}");
+        assert_eq!(listed.front, Some([35, 1 << 30]), "{rest}");
+        assert_eq!(listed.parts, vec![7..8; 1], "{rest}");
+        assert_eq!(reference(&message, 0), part(7, 1), "{rest}");
         for number in [1, 2, 3, u32::MAX] {
-            assert_eq!(reference(&message, number), part(2, 0), "{rest}");
+            assert_eq!(reference(&message, number), part(8, 0), "{rest}");
+        }
+    }
+}
+
+/// Behind each of them stands what could be a reference, but for those that end early.
+#[test]
+fn fronts_with_a_fault() {
+    for (message, fault) in [
+        ("-", FrontFault::EndInCount),
+        ("80", FrontFault::EndInCount),
+        ("FFFFFFFFFFFFFF", FrontFault::EndInCount),
+        ("23", FrontFault::EndInSum),
+        ("2380808080", FrontFault::EndInSum),
+        ("8000230101AA", FrontFault::CountNotShortest),
+        ("A380808080000101AA", FrontFault::CountNotShortest),
+        ("23A38000010101AA", FrontFault::SumNotShortest),
+        ("80808080100101AA", FrontFault::CountTooLarge),
+        ("A380808080010101AA", FrontFault::CountTooLarge),
+        ("238080808010010101AA", FrontFault::SumTooLarge),
+        ("23A3808080800101AA", FrontFault::SumTooLarge),
+    ] {
+        let listed = list(&bytes(message).unwrap());
+        assert_eq!(
+            (listed.at, listed.stop),
+            (0, Stop::Front(fault)),
+            "{message}"
+        );
+        assert_eq!((listed.front, listed.parts), (None, vec![]), "{message}");
+        for number in [0, 1, u32::MAX] {
+            let found = reference(&bytes(message).unwrap(), number);
+            assert_eq!(found, part(0, 0), "{message}");
         }
     }
 }
@@ -240,30 +284,30 @@ fn lists_that_stop() {
 /// With all of its bytes there, and more.
 #[test]
 fn lengths_up_to_459() {
-    let of_length = |number: &str| [bytes(number).unwrap(), vec![0xAA; 1_000]].concat();
-    assert_eq!(reference(&of_length("CB03"), 0), part(2, 459));
+    let of_length = |number: &str| [&FRONT[..], &bytes(number).unwrap(), &[0xAA; 1_000]].concat();
+    assert_eq!(reference(&of_length("CB03"), 0), part(8, 459));
     for number in ["CC03", "FF03", "8004", "CB07", "CB8301"] {
         let message = of_length(number);
         assert_eq!(list(&message).stop, Stop::LengthOver459, "{number}");
-        assert_eq!(reference(&message, 0), part(0, 0), "{number}");
+        assert_eq!(reference(&message, 0), part(6, 0), "{number}");
     }
 }
 
-/// 35 references of 459 bytes and then one of 245 bytes leave 2 of the 16,384, and with one of 246 there is 1.
+/// The front, 35 references of 459 bytes and then one of 239 bytes leave 2 of the 16,384, and with one of 240 there is 1.
 #[test]
 fn messages_longer_than_16384() {
     for (last, rest, stop, at) in [
-        (245, "", Stop::Whole, 16_382),
-        (245, "01BB", Stop::Whole, 16_384),
-        (245, "01BB00", Stop::WholeUpToLongest, 16_384),
-        (245, "01BB01BB", Stop::WholeUpToLongest, 16_384),
-        (245, "02BBBB", Stop::CutInReference, 16_382),
-        (245, "02BB", Stop::EndInReference, 16_382),
-        (246, "01BB", Stop::CutInReference, 16_383),
-        (246, "01", Stop::EndInReference, 16_383),
-        (246, "8001", Stop::CutInLength, 16_383),
-        (246, "80", Stop::EndInLength, 16_383),
-        (246, "00BB", Stop::LengthZero, 16_383),
+        (239, "", Stop::Whole, 16_382),
+        (239, "01BB", Stop::Whole, 16_384),
+        (239, "01BB00", Stop::WholeUpToLongest, 16_384),
+        (239, "01BB01BB", Stop::WholeUpToLongest, 16_384),
+        (239, "02BBBB", Stop::CutInReference, 16_382),
+        (239, "02BB", Stop::EndInReference, 16_382),
+        (240, "01BB", Stop::CutInReference, 16_383),
+        (240, "01", Stop::EndInReference, 16_383),
+        (240, "8001", Stop::CutInLength, 16_383),
+        (240, "80", Stop::EndInLength, 16_383),
+        (240, "00BB", Stop::LengthZero, 16_383),
     ] {
         let mut message = vec![0; 16_384];
         let byte_count = filled(&mut message, [459; 35].into_iter().chain([last])).byte_count;
@@ -275,7 +319,7 @@ fn messages_longer_than_16384() {
     }
 }
 
-/// Every reference of the list is given, and none behind it.
+/// Every reference of the list is given, and none behind it. Gives why it stops.
 fn check_list(message: &[u8]) -> Stop {
     let listed = list(message);
     for (number, range) in (0..).zip(&listed.parts) {
@@ -304,26 +348,36 @@ fn any_bytes(rng: &mut Xorshift, count: u32) -> Vec<u8> {
 fn received_bytes_against_the_list() {
     let rng = &mut Xorshift::new(1);
     let mut counts = [0; STOPS.len()];
+    let mut faults = [0; FRONT_FAULTS.len()];
     for _ in 0..100_000 {
         let count = rng.below(24);
-        let message = any_bytes(rng, count);
-        counts[check_list(&message) as usize] += 1;
+        let mut message = any_bytes(rng, count);
+        if rng.below(4) != 0 {
+            message.splice(..0, FRONT);
+        }
+        match check_list(&message) {
+            Stop::Front(fault) => faults[fault as usize] += 1,
+            stop => counts[STOPS.iter().position(|&other| other == stop).unwrap()] += 1,
+        }
     }
+    assert!(faults.iter().all(|&count| count > 0), "{faults:?}");
     let is_of_longest = |stop: &Stop| {
         matches!(
             stop,
             Stop::WholeUpToLongest | Stop::CutInLength | Stop::CutInReference
         )
     };
-    for stop in STOPS {
-        let count = counts[stop as usize];
+    for (stop, count) in STOPS.into_iter().zip(counts) {
         assert_eq!(count == 0, is_of_longest(&stop), "{stop:?}: {count}");
     }
 }
 
-/// What a message holds, as lists: every call makes its bytes anew.
+/// What a message holds, as lists: every call makes its bytes anew. Once it is started anew, what stood in the buffer
+/// stands behind its front.
 struct Lists {
     before: Vec<u8>,
+    /// None where nothing is started yet.
+    front: Option<Vec<u8>>,
     finished: Vec<Vec<u8>>,
     open: Option<Vec<u8>>,
 }
@@ -332,14 +386,15 @@ impl Lists {
     fn new(room: usize) -> Lists {
         Lists {
             before: bytes_before(room),
+            front: None,
             finished: Vec::new(),
             open: None,
         }
     }
 
-    /// The bytes of the finished references, and of the open one if it has any.
+    /// The bytes of the front and of the finished references, and of the open one if it has any.
     fn message(&self) -> Vec<u8> {
-        let mut message = Vec::new();
+        let mut message = self.front.clone().unwrap_or_default();
         let open = self.open.iter().filter(|open| !open.is_empty());
         for reference in self.finished.iter().chain(open) {
             push_number(&mut message, reference.len() as u32);
@@ -356,7 +411,31 @@ impl Lists {
     }
 
     /// The number of the refusal, or 0.
+    fn start(&mut self, work_length: usize, map: &[u8]) -> u32 {
+        let front = front_of(map);
+        if work_length < WORK_AREA {
+            return 1;
+        }
+        if let Some(refusal) = refusal_of(map) {
+            return refusal.number();
+        }
+        if front.len() > self.before.len() {
+            return 28;
+        }
+        *self = Lists {
+            before: self.buffer(),
+            front: Some(front),
+            finished: Vec::new(),
+            open: None,
+        };
+        0
+    }
+
+    /// The number of the refusal, or 0.
     fn call(&mut self, call: &Call) -> u32 {
+        if let Call::Start { work_length, map } = call {
+            return self.start(*work_length, map);
+        }
         match (call, &mut self.open) {
             (Call::Open, None) => self.open = Some(Vec::new()),
             (Call::Close, Some(open)) if !open.is_empty() => self.finished.extend(self.open.take()),
@@ -377,6 +456,7 @@ impl Lists {
 
     fn state(&self, refusal: u32) -> State {
         let mut finished = Lists::new(0);
+        finished.front.clone_from(&self.front);
         finished.finished.clone_from(&self.finished);
         State {
             refusal,
@@ -387,8 +467,35 @@ impl Lists {
     }
 }
 
-/// Mostly one that goes on with the message.
-fn any_call(rng: &mut Xorshift, lists: &Lists) -> Call {
+/// Two of the ridge, one of full size with a longer front, and three that are refused.
+fn maps() -> [Vec<u8>; 6] {
+    [
+        ridge(&[]).encode(),
+        ridge(&[(0, 1)]).encode(),
+        grid(1, Lengths::Equal).encode(),
+        ridge(&[(0, 3)]).encode(),
+        [ridge(&[]).encode(), vec![0]].concat(),
+        Vec::new(),
+    ]
+}
+
+fn any_start(rng: &mut Xorshift, maps: &[Vec<u8>]) -> Call {
+    Call::Start {
+        work_length: WORK_AREA - usize::from(rng.below(6) == 0),
+        map: rng.pick::<Vec<u8>>(maps).clone(),
+    }
+}
+
+/// Mostly one that goes on with the message. Nothing but starts before it is started. In a large buffer all others are
+/// refused, so that the message grows.
+fn any_call(rng: &mut Xorshift, lists: &Lists, maps: &[Vec<u8>]) -> Call {
+    if lists.front.is_none() {
+        return any_start(rng, maps);
+    }
+    if rng.below(40) == 0 {
+        let is_large = lists.before.len() >= 16_383;
+        return any_start(rng, if is_large { &maps[3..] } else { maps });
+    }
     let added = lists.open.as_ref().map(|open| open.len() as u32);
     match (rng.below(8), added) {
         (0, _) => Call::Open,
@@ -408,18 +515,42 @@ fn any_call(rng: &mut Xorshift, lists: &Lists) -> Call {
 }
 
 /// Makes the same calls on both. Gives how many calls had each refusal, and how long the message became.
-fn compare_histories(rng: &mut Xorshift, room: usize, calls: u32) -> ([u32; 29], usize) {
-    let mut counts = [0; 29];
+fn compare_histories(
+    rng: &mut Xorshift,
+    maps: &[Vec<u8>],
+    room: usize,
+    calls: u32,
+) -> ([u32; 31], usize) {
+    let mut counts = [0; 31];
+    let mut longest = 0;
     let mut lists = Lists::new(room);
     let mut buffer = bytes_before(room);
     let mut state = State::default();
     for _ in 0..calls {
-        let call = any_call(rng, &lists);
+        let call = any_call(rng, &lists, maps);
         let refusal = lists.call(&call);
         let Answer::Message(outcome) = call.make(state.message(), &mut buffer) else {
             unreachable!("what is finished is asked for after every call");
         };
-        state = state.answered(outcome);
+        match call {
+            // It is given no message, and where it is refused the one at hand goes on.
+            Call::Start { .. } => {
+                let started = State::default().answered(outcome);
+                assert_eq!(started.refusal, refusal, "{call} in {room}");
+                match refusal {
+                    0 => state = started,
+                    _ => assert_eq!(
+                        started,
+                        State {
+                            refusal,
+                            ..State::default()
+                        }
+                    ),
+                }
+                state.refusal = refusal;
+            }
+            _ => state = state.answered(outcome),
+        }
         assert_eq!(state, lists.state(refusal), "{call} in {room}");
         assert!(buffer == lists.buffer(), "{call} in {room}");
         let finished = &buffer[..state.byte_count as usize];
@@ -430,24 +561,28 @@ fn compare_histories(rng: &mut Xorshift, room: usize, calls: u32) -> ([u32; 29],
         let behind = reference(finished, lists.finished.len() as u32);
         assert_eq!(behind, part(state.byte_count, 0));
         counts[refusal as usize] += 1;
+        longest = longest.max(lists.message().len());
     }
-    (counts, lists.message().len())
+    (counts, longest)
 }
 
 #[test]
 fn random_histories_against_lists() {
     let rng = &mut Xorshift::new(2);
-    let mut sums = [0; 29];
-    let small = (0..600).map(|room| (room, 30));
+    let maps = maps();
+    let mut sums = [0; 31];
+    let small = (0..600).map(|room| (room, 40));
     let large = [16_383, 16_384, 16_385, 20_000].map(|room| (room, 800));
     for (room, calls) in small.chain(large) {
-        let (counts, longest) = compare_histories(rng, room, calls);
+        let (counts, longest) = compare_histories(rng, &maps, room, calls);
         assert!(room < 16_383 || longest >= 16_383, "{longest} in {room}");
         sums.iter_mut()
             .zip(counts)
             .for_each(|(sum, count)| *sum += count);
     }
-    assert!([0, 27, 28].iter().all(|&refusal| sums[refusal] > 100));
+    assert!([0, 1, 2, 23, 27, 28]
+        .iter()
+        .all(|&refusal| sums[refusal] > 100));
 }
 
 /// Any number but 0 says that one is open. A refusal gives back all but its own number as it was.
@@ -482,6 +617,17 @@ fn states_as_c_has_them() {
 #[test]
 fn calls_in_words() {
     for (word, call) in [
+        ("start:-", Some(Call::start(&[]))),
+        ("start:02FF", Some(Call::start(&[2, 0xFF]))),
+        (
+            "start:14335:02FF",
+            Some(Call::Start {
+                work_length: 14_335,
+                map: vec![2, 0xFF],
+            }),
+        ),
+        ("start", None),
+        ("start:1:2:03", None),
         ("open", Some(Call::Open)),
         ("close", Some(Call::Close)),
         ("add:-", Some(Call::Add(vec![]))),

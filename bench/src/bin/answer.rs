@@ -6,8 +6,10 @@
 //! - `write MAP POS NEG TESTS WORK_LENGTH BYTE_ROOM LINE...`
 //! - `read_point MAP REFERENCE WORK_LENGTH LINE_ROOM`
 //! - `write_point MAP LINE OFFSET ORIENTATION SIDE WORK_LENGTH BYTE_ROOM`
-//! - `message ROOM CALL...`, calls on one message from its start: `open`, `add:BYTES`, `close` or `ask:NUMBER`
+//! - `message ROOM CALL...`, calls on one buffer: `start:WORK_LENGTH:MAP`, `open`, `add:BYTES`, `close` or `ask:NUMBER`
 //! - `received MESSAGE NUMBER`
+//! - `read_of_message MAP MESSAGE REFERENCE WORK_LENGTH LINE_ROOM`
+//! - `read_point_of_message MAP MESSAGE REFERENCE WORK_LENGTH LINE_ROOM`
 //!
 //! Bytes are hexadecimal, with `-` for none. Each answer is one line. That of a message has an item for each
 //! call: `done:BYTES:OPEN:ADDED` or `refused:NUMBER`, and `@FROM=BYTES` behind it for what changed in the
@@ -24,8 +26,8 @@ use plain::maps::{MapPlan, PlannedLine};
 use plain::message::{reference, Message, Part, State};
 use plain::message_calls::{bytes_before, Answer, Call};
 use plain::outcome::{Outcome, Written};
-use plain::point::{read_point, write_point, Point};
-use plain::reader::read;
+use plain::point::{read_point, read_point_of_message, write_point, Point};
+use plain::reader::{read, read_of_message};
 use plain::search::{Method, Search};
 use plain::writer::write;
 
@@ -52,6 +54,10 @@ fn answer_on_map<'a>(kind: &str, mut words: impl Iterator<Item = &'a str>) -> Op
     match kind {
         "read" => return read_answer(&map_bytes, words, read),
         "read_point" => return read_answer(&map_bytes, words, read_point),
+        "read_of_message" => return read_of_message_answer(&map_bytes, words, read_of_message),
+        "read_point_of_message" => {
+            return read_of_message_answer(&map_bytes, words, read_point_of_message)
+        }
         _ => {}
     }
     let numbers = numbers(words)?;
@@ -78,6 +84,25 @@ fn read_answer<'a, Read: Display>(
     };
     let (work_length, line_room) = (work_length as usize, line_room as usize);
     Some(text(read(map_bytes, &reference, work_length, line_room)))
+}
+
+/// A reader of a map, a message and a reference, with the length of the work area and the room for lines.
+type OfMessage<Read> = fn(&[u8], &[u8], &[u8], usize, usize) -> Outcome<Read>;
+
+fn read_of_message_answer<'a, Read: Display>(
+    map_bytes: &[u8],
+    mut words: impl Iterator<Item = &'a str>,
+    read: OfMessage<Read>,
+) -> Option<String> {
+    let message = bytes(words.next()?)?;
+    let reference = bytes(words.next()?)?;
+    let rooms = numbers(words)?;
+    let [work_length, line_room] = rooms[..] else {
+        return None;
+    };
+    let (work_length, line_room) = (work_length as usize, line_room as usize);
+    let outcome = read(map_bytes, &message, &reference, work_length, line_room);
+    Some(text(outcome))
 }
 
 fn write_answer(map_bytes: &[u8], numbers: &[u32]) -> Option<String> {

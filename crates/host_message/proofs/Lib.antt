@@ -1,2 +1,3 @@
 -- Laws of messages whose numbers have 32 bits.
 pub mod Narrow
+pub mod Starting

@@ -1,16 +1,18 @@
-// Messages as a C host holds them: numbers of 32 bits by value (paper 02, W9). The crate openlr has the functions that it calls.
+// Messages as a C host holds them: numbers of 32 bits by value (paper 02, W9 and W10). The crate openlr has the functions that it calls.
 use message::add_bytes;
 use message::close_reference;
 use message::open_reference;
 use message_list::place;
+use message_start::start;
 use model::Message;
 use model::MessageAnswer;
 use model::Refusal;
+use model::limits::WORK_LENGTH;
 use model::number_of;
 ghost use mathlib.Core.Path.{_≡_};
 ghost use lib.ListN.{length};
 ghost use Rattle.model.specs.MessageCall.{opening, closing};
-ghost use Rattle.model.specs.HostMessage.{HostMessage, messageOf, hostMessage, hostPart, HostAdds};
+ghost use Rattle.model.specs.HostMessage.{HostMessage, messageOf, hostMessage, HostStartCall, hostPart, HostAdds};
 ghost use Rattle.host_message.specs.Held.{asMessage, asPart, Narrow, NarrowAnswer};
 ghost use Rattle.model.specs.declared.MessageAnswer.the-variants as Answer;
 
@@ -84,6 +86,20 @@ fn told(given: Held, answer: MessageAnswer) -> Held
         MessageAnswer::Now(m) => holding(m),
         MessageAnswer::Refused(why) => refused(given, why),
     }
+}
+
+// Starts a message for a map, with a work area of its own. A refusal returns a message of zeros, since none is given.
+pub fn begin(map: &[u8], buffer: &mut [u8]) -> Held
+    ensures { λ r. ⌜ HostStartCall (now (map .entry)) (now (buffer .entry)) (asMessage r) (now (buffer .exit)) ⌝ }
+{
+    let mut work = [0u32; WORK_LENGTH];
+    let none = Held {
+        refusal: 0,
+        bytes: 0,
+        is_open: 0,
+        added: 0,
+    };
+    told(none, start(map, &mut work, buffer))
 }
 
 // Opens a reference behind the last finished one.

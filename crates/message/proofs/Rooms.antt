@@ -2,14 +2,15 @@
 use Prim.Native.Nat.{ℕ, zero, suc, _+_, _-_, _≤_, _<_}
 use mathlib.Core.Path.{_≡_, refl, sym, _∙_, ap}
 use mathlib.Core.Logic.{⊎-elim}
-use mathlib.Core.List.{List, [], _++_, append-assoc, append-nil}
+use mathlib.Core.List.{List, _++_, append-assoc}
 use native.Mathlib.Omega.{arith}
-use lib.ListN.{length, take, drop, length-drop, length-append, drop-of-length-le}
-use lib.Seq.{drop-at, length-take-le, drop-drop, take-add, take-all}
+use lib.ListN.{length, take, drop, length-drop, length-append}
+use lib.Seq.{drop-at, length-take-le, drop-drop, take-add}
 use Rattle.model.specs.Work.{placed}
 use Rattle.model.specs.Message.{lengthBytes, framed}
 use Rattle.model.specs.MessageCall.{soFar, extended}
 use Rattle.buffers.proofs.Cases.{le-or-lt}
+use Rattle.buffers.proofs.Lent.{tail-lent, tail-back}
 use Rattle.message_laws.proofs.Lengths.{one-byte, two-bytes}
 
 -- Without a byte so far it does not matter where they would stand.
@@ -45,16 +46,6 @@ module _ (added count : ℕ) (p q : List ℕ) (short : added < 128) (long : 128 
   behind e =
       let same : added + 2 ≡ 2 + added = omega arith in
       rw (two-bytes count long most) (rw same at e)
-
--- The rest of a list, lent from a place on and put back.
-pub tail-lent : (a : ℕ) (xs : List ℕ) → take (length xs - a) (drop a xs) ≡ drop a xs
-tail-lent a xs = take-all (length xs - a) (drop a xs) (omega (arith, length-drop a xs))
-
-pub tail-back : (a : ℕ) (xs ys : List ℕ) → take a xs ++ (ys ++ drop (length xs - a) (drop a xs)) ≡ take a xs ++ ys
-tail-back a xs ys =
-    let all : length (drop a xs) ≤ length xs - a = omega (arith, length-drop a xs) in
-    let none : drop (length xs - a) (drop a xs) ≡ [] = drop-of-length-le (drop a xs) all in
-    rw (none, append-nil ys)
 
 -- The bytes so far where they are to stand, the portion behind them, and the new length before them.
 module _ (added : ℕ) (portion before moved last : List ℕ) where

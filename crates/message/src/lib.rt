@@ -1,4 +1,5 @@
-// Messages: several references in one lent buffer, each behind its length (paper 02, W9). What is known of a message beside its buffer is a `Message`, by value.
+// Messages: several references in one lent buffer, each behind its length (paper 02, W9). What is known of a message beside its buffer is a `Message`, by value;
+// the crate message_start begins one.
 use crate::frame::end_of;
 use crate::frame::extend;
 use crate::frame::fitting;
@@ -11,13 +12,6 @@ ghost use mathlib.Core.Path.{_≡_};
 ghost use Rattle.model.specs.MessageCall.{finishedBytes, opening, closing, Adds, finishedNumber};
 
 mod frame;
-
-// An empty message, whatever stands in its buffer.
-pub fn empty() -> Message
-    ensures { λ r. ⌜ r ≡ Message.Closed 0 ⌝ }
-{
-    Message::Closed(0)
-}
 
 // Opens a reference behind the last finished one. Nothing is written.
 pub fn open_reference(m: Message) -> MessageAnswer

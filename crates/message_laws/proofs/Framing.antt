@@ -8,8 +8,9 @@ use lib.Seq.{take-append-seam, drop-append-seam, take-all}
 use Rattle.model.specs.Number.{number, got}
 use Rattle.model.proofs.Numbers.{number-back}
 use Rattle.model.proofs.Every.{Every, none, also}
-use Rattle.model.specs.Message.{longestMessage, lengthBytes, framed, framedAll, reference, stop, next, references, listed}
-use Rattle.message_laws.proofs.Nexts.{next-is, a-reference, next-none}
+use Rattle.model.specs.Front.{front, frontOf}
+use Rattle.model.specs.Message.{longestMessage, lengthBytes, framed, framedAll, reference, stop, next, references, listedBehind, listed}
+use Rattle.message_laws.proofs.Nexts.{next-is, a-reference, next-none, front-shorter}
 
 -- A finished reference has 1 to 459 bytes.
 abbrev pub Proper : List ℕ → Type 0
@@ -50,17 +51,18 @@ references-framed (suc most) (r ∷ rs) bs (also p ps) e h =
     (ap (λ (l : List (List ℕ)). r ∷ l)
     (references-framed most rs bs ps e (omega (arith, ap length whole, length-append (framed r) (framedAll rs ++ bs), framed-some r, p .0))))
 
--- References in order, and then what stops the list: they are the list.
-pub listed-until : (rs : List (List ℕ)) (bs : List ℕ) → Every Proper rs → next bs ≡ stop → length (framedAll rs ++ bs) ≤ longestMessage →
-    listed (framedAll rs ++ bs) ≡ rs
-unfolding listed
-listed-until rs bs p e h =
-    ap (λ (l : List ℕ). references longestMessage l) (take-all longestMessage (framedAll rs ++ bs) h) ∙ references-framed longestMessage rs bs p e h
+-- Behind a front references in order, and then what stops the list: they are the list.
+pub listed-until : (message : List ℕ) (count sum : ℕ) (rs : List (List ℕ)) (bs : List ℕ) → frontOf message ≡ front count sum (framedAll rs ++ bs) →
+    length message ≤ longestMessage → Every Proper rs → next bs ≡ stop → listed message ≡ rs
+unfolding listed listedBehind
+listed-until message count sum rs bs f h p e =
+    ap (λ (l : List ℕ). listedBehind (frontOf l)) (take-all longestMessage message h) ∙ ap listedBehind f
+    ∙ references-framed longestMessage rs bs p e (omega (arith, front-shorter message count sum (framedAll rs ++ bs) f))
 
-pub listed-framed : (rs : List (List ℕ)) → Every Proper rs → length (framedAll rs) ≤ longestMessage → listed (framedAll rs) ≡ rs
-listed-framed rs p h =
-    let same = append-nil (framedAll rs) in
-    ap listed (sym same) ∙ listed-until rs [] p next-none (rw same h)
+pub listed-framed : (message : List ℕ) (count sum : ℕ) (rs : List (List ℕ)) → frontOf message ≡ front count sum (framedAll rs) →
+    length message ≤ longestMessage → Every Proper rs → listed message ≡ rs
+listed-framed message count sum rs f h p =
+    listed-until message count sum rs [] (f ∙ ap (front count sum) (sym (append-nil (framedAll rs)))) h p next-none
 
 pub framed-append : (rs : List (List ℕ)) (r : List ℕ) → framedAll (rs ++ r ∷ []) ≡ framedAll rs ++ framed r
 unfolding framedAll

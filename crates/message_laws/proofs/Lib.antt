@@ -8,9 +8,13 @@ pub mod Fitting
 pub mod Extended
 pub mod Steps
 pub mod Lasting
+pub mod Started
 pub mod Histories
 pub mod HostHistories
 pub mod Stops
 pub mod Unchanged
 pub mod Refusals
 pub mod Told
+pub mod Trips
+pub mod HostTrips
+pub mod WrongMap

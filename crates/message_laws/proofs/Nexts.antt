@@ -2,7 +2,7 @@
 use Prim.Native.Nat.{ℕ, zero, suc, _≤_, _<_}
 use mathlib.Core.Path.{_≡_, refl, sym, _∙_, ap, ap₂}
 use mathlib.Core.Bool.{Bool, true, false, _&&_}
-use mathlib.Core.List.{List, [], _∷_, _++_}
+use mathlib.Core.List.{List, [], _∷_, _++_, append-assoc}
 use native.Mathlib.Omega.{arith}
 use lib.ListN.{length, take, drop, getD, length-append, take-append-drop}
 use lib.Seq.{take-all, take-take}
@@ -11,7 +11,8 @@ use borrow.Author.Tests.{le-leb, lt-leb}
 use Rattle.model.specs.Number.{Number, got, faulty, groups, number}
 use Rattle.model.specs.Reference.{longestReference}
 use Rattle.model.proofs.Numbers.{Front, number-front}
-use Rattle.model.specs.Message.{longestMessage, Next, reference, stop, ofLength, next, references, listed, referenceNumber}
+use Rattle.model.specs.Front.{FrontRead, front, unreadable, frontOf}
+use Rattle.model.specs.Message.{longestMessage, Next, reference, stop, ofLength, next, references, listedBehind, listed, referenceNumber}
 
 -- ---- one reference
 
@@ -127,11 +128,53 @@ nth-listed (suc most) bs n h = go (next bs) refl n λ rest k shorter. nth-listed
     go stop a zero later = sym (nth-stop 0 bs a)
     go stop a (suc n) later = sym (nth-stop (suc n) bs a)
 
-pub numbered-start : (n : ℕ) (message : List ℕ) → length message ≤ 16_384 → referenceNumber n message ≡ nth n message
-unfolding referenceNumber listed
+-- ---- behind a front
+
+not-front : {count sum : ℕ} {rest : List ℕ} → unreadable ≡ front count sum rest → ⊥
+not-front e = let z : _≡_ {A = ℕ} 0 1 = cc in omega arith
+
+-- What stands before what a front is followed by.
+pub front-found : (message : List ℕ) (count sum : ℕ) (rest : List ℕ) → frontOf message ≡ front count sum rest →
+    (own : List ℕ) × (message ≡ own ++ rest)
+unfolding frontOf
+front-found message count sum rest e = go (number message) refl e
+  where
+    behind-count : (c : ℕ) (after : List ℕ) (a : Number) → number message ≡ got c after → number after ≡ a →
+        elim a [ got sum rest ↦ front c sum rest | faulty ↦ unreadable ] ≡ front count sum rest → (own : List ℕ) × (message ≡ own ++ rest)
+    behind-count c after (got s last) n a e =
+        let same : last ≡ rest = cc in
+        let f = number-front message c after n in
+        let g = number-front after s last a in
+        (f .own ++ g .own, f .is ∙ ap (λ (l : List ℕ). f .own ++ l) (g .is ∙ ap (λ (l : List ℕ). g .own ++ l) same) ∙ sym (append-assoc (f .own) (g .own) rest))
+    behind-count c after faulty n a e = absurd (not-front e)
+
+    go : (a : Number) → number message ≡ a →
+        elim a [
+          | got count after ↦ elim (number after) [ got sum rest ↦ front count sum rest | faulty ↦ unreadable ]
+          | faulty ↦ unreadable
+        ] ≡ front count sum rest → (own : List ℕ) × (message ≡ own ++ rest)
+    go (got c after) n e = behind-count c after (number after) n refl e
+    go faulty n e = absurd (not-front e)
+
+pub front-shorter : (message : List ℕ) (count sum : ℕ) (rest : List ℕ) → frontOf message ≡ front count sum rest → length rest ≤ length message
+front-shorter message count sum rest e =
+    let f = front-found message count sum rest e in
+    omega (arith, ap length (f .1), length-append (f .0) rest)
+
+-- Number n behind a front; nothing where that cannot be read.
+unfoldable pub nthBehind : ℕ → FrontRead → List ℕ
+nthBehind n (front count sum rest) = nth n rest
+nthBehind n unreadable = []
+
+pub numbered-start : (n : ℕ) (message : List ℕ) → length message ≤ 16_384 → referenceNumber n message ≡ nthBehind n (frontOf message)
+unfolding referenceNumber listed listedBehind nthBehind
 numbered-start n message h =
-    ap (λ (l : List ℕ). getD (references longestMessage l) n []) (take-all longestMessage message h) ∙ nth-listed longestMessage message n h
+    ap (λ (l : List ℕ). getD (listedBehind (frontOf l)) n []) (take-all longestMessage message h) ∙ go (frontOf message) refl
+  where
+    go : (f : FrontRead) → frontOf message ≡ f → getD (listedBehind f) n [] ≡ nthBehind n f
+    go (front count sum rest) e = nth-listed longestMessage rest n (omega (arith, front-shorter message count sum rest e))
+    go unreadable e = refl
 
 pub cut-short : (n : ℕ) (message : List ℕ) → referenceNumber n (take longestMessage message) ≡ referenceNumber n message
 unfolding referenceNumber listed
-cut-short n message = ap (λ (l : List ℕ). getD (references longestMessage l) n []) (take-take longestMessage longestMessage message (omega arith))
+cut-short n message = ap (λ (l : List ℕ). getD (listedBehind (frontOf l)) n []) (take-take longestMessage longestMessage message (omega arith))

@@ -5,8 +5,9 @@ use mathlib.Core.List.{List, [], _++_, append-assoc}
 use native.Mathlib.Omega.{arith}
 use lib.ListN.{length, take, drop, length-append, length-take, length-drop, take-append-drop}
 use lib.Seq.{length-take-le, take-all, take-take, take-append-seam, drop-append-seam}
-use Rattle.model.specs.Message.{longestMessage, Next, reference, stop, next, referenceNumber, behind, endOfNumber, startOfNumber}
-use Rattle.message_laws.proofs.Nexts.{next-found, next-shorter, nth, nth-stop, nth-here, nth-later, numbered-start, cut-short}
+use Rattle.model.specs.Front.{FrontRead, front, unreadable, frontOf}
+use Rattle.model.specs.Message.{longestMessage, Next, reference, stop, next, referenceNumber, behind, leftBehind, leftOf, endOfNumber, startOfNumber}
+use Rattle.message_laws.proofs.Nexts.{next-found, next-shorter, nth, nth-stop, nth-here, nth-later, front-found, nthBehind, numbered-start, cut-short}
 
 behind-none : (bs : List ℕ) → behind 0 bs ≡ bs
 unfolding behind
@@ -59,6 +60,28 @@ split (suc n) bs = go (next bs) refl (split n)
         }
     go stop e later = stopped (suc n) bs e
 
+-- The same of a message, behind its front.
+record SplitBehind (n : ℕ) (message : List ℕ) : Type 0 where
+  before : List ℕ
+  is : message ≡ before ++ (nthBehind n (frontOf message) ++ leftOf (suc n) message)
+
+split-behind : (n : ℕ) (message : List ℕ) → SplitBehind n message
+unfolding nthBehind leftBehind leftOf
+split-behind n message = go (frontOf message) refl
+  where
+    go : (f : FrontRead) → frontOf message ≡ f → SplitBehind n message
+    go (front count sum rest) e =
+        let own = front-found message count sum rest e in
+        let s = split n rest in
+        record {
+          before = own .0 ++ s .before;
+          is =
+              own .1 ∙ ap (λ (l : List ℕ). own .0 ++ l) (s .is) ∙ sym (append-assoc (own .0) (s .before) (nth n rest ++ behind (suc n) rest))
+              ∙ ap (λ (f : FrontRead). own .0 ++ s .before ++ (nthBehind n f ++ leftBehind (suc n) f message)) (sym e);
+        }
+    go unreadable e =
+        record { before = []; is = ap (λ (f : FrontRead). nthBehind n f ++ leftBehind (suc n) f message) (sym e) }
+
 -- Reference n in a message: it starts behind what stands before it, and ends inside.
 pub record Placed (n : ℕ) (message : List ℕ) : Type 0 where
   pub counted : endOfNumber n message ≡ startOfNumber n message + length (referenceNumber n message)
@@ -70,32 +93,33 @@ pub placed-in : (n : ℕ) (message : List ℕ) → Placed n message
 unfolding endOfNumber startOfNumber
 placed-in n message =
     let cut = take longestMessage message in
-    let s = split n cut in
-    let r : referenceNumber n message ≡ nth n cut = sym (cut-short n message) ∙ numbered-start n cut (omega (arith, length-take longestMessage message)) in
-    let rest = behind (suc n) cut in
-    let whole : length cut ≡ length (s .before) + (length (nth n cut) + length rest) =
-    ap length (s .is) ∙ length-append (s .before) (nth n cut ++ rest) ∙ ap (λ (k : ℕ). length (s .before) + k) (length-append (nth n cut) rest) in
+    let s = split-behind n cut in
+    let nth = nthBehind n (frontOf cut) in
+    let r : referenceNumber n message ≡ nth = sym (cut-short n message) ∙ numbered-start n cut (omega (arith, length-take longestMessage message)) in
+    let rest = leftOf (suc n) cut in
+    let whole : length cut ≡ length (s .before) + (length nth + length rest) =
+    ap length (s .is) ∙ length-append (s .before) (nth ++ rest) ∙ ap (λ (k : ℕ). length (s .before) + k) (length-append nth rest) in
     let count = ap length r in
     let start : length cut - length rest - length (referenceNumber n message) ≡ length (s .before) = omega arith in
-    let all : message ≡ s .before ++ (nth n cut ++ (rest ++ drop longestMessage message)) =
+    let all : message ≡ s .before ++ (nth ++ (rest ++ drop longestMessage message)) =
     sym (take-append-drop longestMessage message) ∙ ap (λ (l : List ℕ). l ++ drop longestMessage message) (s .is)
-    ∙ append-assoc (s .before) (nth n cut ++ rest) (drop longestMessage message)
-    ∙ ap (λ (l : List ℕ). s .before ++ l) (append-assoc (nth n cut) rest (drop longestMessage message)) in
+    ∙ append-assoc (s .before) (nth ++ rest) (drop longestMessage message)
+    ∙ ap (λ (l : List ℕ). s .before ++ l) (append-assoc nth rest (drop longestMessage message)) in
     record {
       counted = omega arith;
       inside = omega (arith, length-take longestMessage message);
       used = omega (arith, length-take longestMessage message);
       itself =
           ap₂ (λ (j k : ℕ). take j (drop k message)) count start
-          ∙ ap (λ (l : List ℕ). take (length (nth n cut)) (drop (length (s .before)) l)) all
-          ∙ ap (take (length (nth n cut))) (drop-append-seam (s .before) (nth n cut ++ (rest ++ drop longestMessage message)))
-          ∙ take-append-seam (nth n cut) (rest ++ drop longestMessage message) ∙ sym r;
+          ∙ ap (λ (l : List ℕ). take (length nth) (drop (length (s .before)) l)) all
+          ∙ ap (take (length nth)) (drop-append-seam (s .before) (nth ++ (rest ++ drop longestMessage message)))
+          ∙ take-append-seam nth (rest ++ drop longestMessage message) ∙ sym r;
     }
 
 -- Of a longer message only the first 16,384 bytes count.
 pub cut-end : (n : ℕ) (message : List ℕ) → endOfNumber n (take longestMessage message) ≡ endOfNumber n message
 unfolding endOfNumber
-cut-end n message = ap (λ (l : List ℕ). length l - length (behind (suc n) l)) (take-take longestMessage longestMessage message (omega arith))
+cut-end n message = ap (λ (l : List ℕ). length l - length (leftOf (suc n) l)) (take-take longestMessage longestMessage message (omega arith))
 
 pub cut-start : (n : ℕ) (message : List ℕ) → startOfNumber n (take longestMessage message) ≡ startOfNumber n message
 unfolding startOfNumber
@@ -110,15 +134,29 @@ pub record Asked (n : ℕ) (message : List ℕ) (at left : ℕ) : Type 0 where
   pub bytes : referenceNumber n message ≡ nth left (drop at message)
   pub rest : endOfNumber n message ≡ length message - length (behind (suc left) (drop at message))
 
-pub asked-start : (n : ℕ) (message : List ℕ) → length message ≤ longestMessage → Asked n message 0 n
-unfolding endOfNumber
-asked-start n message h =
+-- Behind the front, which ends at byte `at`.
+pub asked-start : (n : ℕ) (message : List ℕ) (count sum at : ℕ) → length message ≤ longestMessage → at ≤ length message →
+    frontOf message ≡ front count sum (drop at message) → Asked n message at n
+unfolding endOfNumber leftOf leftBehind nthBehind
+asked-start n message count sum at h inside e =
     record {
       short = h;
-      inside = omega arith;
-      bytes = numbered-start n message h;
-      rest = ap (λ (l : List ℕ). length l - length (behind (suc n) l)) (take-all longestMessage message h);
+      inside = inside;
+      bytes = numbered-start n message h ∙ ap (nthBehind n) e;
+      rest =
+          ap (λ (l : List ℕ). length l - length (leftOf (suc n) l)) (take-all longestMessage message h)
+          ∙ ap (λ (f : FrontRead). length message - length (leftBehind (suc n) f message)) e;
     }
+
+-- A front that cannot be read: the list is empty, and stops at byte 0.
+pub asked-unread : (n : ℕ) (message : List ℕ) → length message ≤ longestMessage → frontOf message ≡ unreadable →
+    (0 ≡ startOfNumber n message) × (0 ≡ endOfNumber n message)
+unfolding endOfNumber startOfNumber leftOf leftBehind nthBehind
+asked-unread n message h e =
+    let end =
+    ap (λ (l : List ℕ). length l - length (leftOf (suc n) l)) (take-all longestMessage message h)
+    ∙ ap (λ (f : FrontRead). length message - length (leftBehind (suc n) f message)) e in
+    (omega arith, omega arith)
 
 module _ {n : ℕ} {message : List ℕ} {at left : ℕ} (a : Asked n message at left) where
   -- The list stops there.

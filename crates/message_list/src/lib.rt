@@ -1,11 +1,15 @@
-// The references of a message's bytes, as a box receives them (paper 02, W9).
+// The references of a message's bytes, as a box receives them (paper 02, W9), behind the front (W10).
 use buffers::bytes::wide;
+use front::Front;
+use front::read_front;
 use model::limits::LONGEST_MESSAGE;
 use model::limits::LONGEST_REFERENCE;
 ghost use mathlib.Core.Path.{_≡_};
-ghost use Prim.Native.Nat.{_≤_};
+ghost use Prim.Native.Nat.{ℕ, _≤_};
 ghost use lib.ListN.{length, drop};
+ghost use Rattle.model.specs.Front.{frontOf};
 ghost use Rattle.model.specs.Message.{longestMessage, ofLength, next, referenceNumber, startOfNumber, endOfNumber};
+ghost use Rattle.model.specs.Front as definitions;
 ghost use Rattle.message_list.specs.Entry.{EntryIs};
 
 // The values of a group of seven bits. A byte from here on says that another group follows.
@@ -61,12 +65,13 @@ fn entry_at(message: &[u8], at: usize) -> Entry
     entry_of(message, at + 2, first - GROUP + second * GROUP)
 }
 
-// Where reference `n` stands in a message of at most 16,384 bytes.
-fn place_in(message: &[u8], n: usize) -> Part
-    requires { ⌜ length (now message) ≤ longestMessage ⌝ }
+// Where reference `n` of those from byte `behind` on stands, in a message of at most 16,384 bytes.
+fn place_behind(message: &[u8], behind: usize, n: usize) -> Part
+    requires { ⌜ (length (now message) ≤ longestMessage) × (behind ≤ length (now message)) ⌝ }
+    requires { ⌜ ((count sum : ℕ) × (frontOf (now message) ≡ definitions.front count sum (drop behind (now message)))) ⌝ }
     ensures { λ r. ⌜ (r .0 ≡ startOfNumber n (now (message .entry))) × (r .1 ≡ endOfNumber n (now (message .entry))) ⌝ }
 {
-    let mut at: usize = 0;
+    let mut at = behind;
     let mut left = n;
     loop {
         let Entry::Reference(start, end) = entry_at(message, at) else {
@@ -77,6 +82,17 @@ fn place_in(message: &[u8], n: usize) -> Part
         }
         at = end;
         left -= 1;
+    }
+}
+
+// Where reference `n` stands in a message of at most 16,384 bytes. A front that cannot be read stops the list at the first byte.
+fn place_in(message: &[u8], n: usize) -> Part
+    requires { ⌜ length (now message) ≤ longestMessage ⌝ }
+    ensures { λ r. ⌜ (r .0 ≡ startOfNumber n (now (message .entry))) × (r .1 ≡ endOfNumber n (now (message .entry))) ⌝ }
+{
+    match read_front(message) {
+        Front::Read(_, _, behind) => place_behind(message, behind, n),
+        Front::Unreadable => Part(0, 0),
     }
 }
 

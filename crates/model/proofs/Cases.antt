@@ -41,3 +41,4 @@ pub mod WrongPoints
 pub mod WrongOffsets
 pub mod Messages
 pub mod WrongMessages
+pub mod Fronts

@@ -8,6 +8,9 @@ pub mod Squares
 pub mod Decoded
 pub mod Nodes
 pub mod Numbers
+pub mod MapLengths
+pub mod Sums
+pub mod Fronts
 pub mod Ranges
 pub mod Steps
 pub mod Cut
@@ -42,6 +45,7 @@ pub mod PointTrip
 pub mod SpanEnds
 pub mod PointRows
 pub mod CallsOnce
+pub mod OfMessage
 pub mod HostWrote
 pub mod HostDemand3
 pub mod HostPointTrip

@@ -127,7 +127,7 @@ module _ (m : Map) (r : Reference) (room : ℕ) where
       joined-same lss′ (bannedMeeting m lss′) (rw same-lists at end) end′
 
 module _ (mb ref : List ℕ) (room : ℕ) {o o′ : ReadOutcome} where
-  read-parsed-same : (m : Map) (a : ParseAnswer) → ReadParsed m a room o → ReadParsed m a room o′ → o ≡ o′
+  pub read-parsed-same : (m : Map) (a : ParseAnswer) → ReadParsed m a room o → ReadParsed m a room o′ → o ≡ o′
   read-parsed-same m (parsed r) h h′ = read-on-same m r room h h′
   read-parsed-same m (ParseAnswer.refused n) h h′ = cc
 

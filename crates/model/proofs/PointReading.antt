@@ -32,7 +32,7 @@ module _ {m : Map} {a : PointAlong} {room : ℕ} where
   point-on-same (PointReadOn.not-accepted h) (PointReadOn.not-accepted h′) = let same = read-on-same m (lineReference a) room h h′ in cc
 
 module _ (mb ref : List ℕ) (room : ℕ) {o o′ : PointReadOutcome} where
-  parsed-same : (m : Map) (a : PointParse) → PointReadParsed m a room o → PointReadParsed m a room o′ → o ≡ o′
+  pub parsed-same : (m : Map) (a : PointParse) → PointReadParsed m a room o → PointReadParsed m a room o′ → o ≡ o′
   parsed-same m (parsed a) h h′ = point-on-same h h′
   parsed-same m (PointParse.refused r) h h′ = cc
 

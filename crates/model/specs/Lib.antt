@@ -1,5 +1,5 @@
 -- What the promises mean. In the order of paper 01, as far as one definition needs another; AsBefore is paper 02's W2, PointAlong and PointTrip are its W5,
--- LegTests and BestFound its W7, Tenfold its W8, and the modules of messages its W9.
+-- LegTests and BestFound its W7, Tenfold its W8, the modules of messages its W9, and Front, MessageStart, OfMessage and the trips of messages its W10.
 pub mod Number
 pub mod Field
 pub mod Sector
@@ -29,7 +29,12 @@ pub mod HostPointTrip
 pub mod AsBefore
 pub mod Tenfold
 pub mod BestFound
+pub mod Front
 pub mod Message
 pub mod MessageCall
+pub mod MessageStart
 pub mod MessageHistory
 pub mod HostMessage
+pub mod OfMessage
+pub mod MessageTrip
+pub mod HostMessageTrip

@@ -1,4 +1,5 @@
--- The bytes of a message: "references in order, each behind its length as a seven-bit number", and the references of a received one (paper 02, W9).
+-- The bytes of a message behind its front: "references in order, each behind its length as a seven-bit number"; and the references of a received one (paper
+-- 02, W9; the front: W10).
 use Prim.Native.Nat.{ℕ, zero, suc, _-_}
 use mathlib.Core.Bool.{true, false, _&&_}
 use mathlib.Core.List.{List, [], _∷_, _++_}
@@ -6,6 +7,7 @@ use lib.ListN.{length, take, drop, getD}
 use lib.Dec.{leb}
 use Rattle.model.specs.Number.{got, faulty, number, numberBytes}
 use Rattle.model.specs.Reference.{longestReference}
+use Rattle.model.specs.Front.{FrontRead, front, unreadable, frontOf}
 
 -- "At most the first 16,384 bytes are used."
 abbrev pub longestMessage : ℕ
@@ -42,9 +44,13 @@ unfoldable pub references : ℕ → List ℕ → List (List ℕ)
 references zero bs = []
 references (suc most) bs = elim (next bs) [ reference r rest ↦ r ∷ references most rest | stop ↦ [] ]
 
--- Those of a received message. They are no more than its bytes.
+-- Those of a received message stand behind its front, and are no more than its bytes. "A received front that cannot be read makes the list empty" (W10).
+unfoldable pub listedBehind : FrontRead → List (List ℕ)
+listedBehind (front count sum rest) = references longestMessage rest
+listedBehind unreadable = []
+
 unfoldable pub listed : List ℕ → List (List ℕ)
-listed message = references longestMessage (take longestMessage message)
+listed message = listedBehind (frontOf (take longestMessage message))
 
 -- "Asking for number n gives back that part of the message itself, without its length number, or an empty part if there is no finished n, counted from 0":
 -- the bytes of the part.
@@ -56,9 +62,17 @@ unfoldable pub behind : ℕ → List ℕ → List ℕ
 behind zero bs = bs
 behind (suc n) bs = elim (next bs) [ reference r rest ↦ behind n rest | stop ↦ bs ]
 
+-- What is left of a message behind its front and its first n references. Where the front cannot be read, it is the whole message.
+unfoldable pub leftBehind : ℕ → FrontRead → List ℕ → List ℕ
+leftBehind n (front count sum rest) message = behind n rest
+leftBehind n unreadable message = message
+
+unfoldable pub leftOf : ℕ → List ℕ → List ℕ
+leftOf n message = leftBehind n (frontOf message) message
+
 -- Where the part ends in the message, and where it starts. An empty one lies where the list stops.
 unfoldable pub endOfNumber : ℕ → List ℕ → ℕ
-endOfNumber n message = length (take longestMessage message) - length (behind (suc n) (take longestMessage message))
+endOfNumber n message = length (take longestMessage message) - length (leftOf (suc n) (take longestMessage message))
 
 unfoldable pub startOfNumber : ℕ → List ℕ → ℕ
 startOfNumber n message = endOfNumber n message - length (referenceNumber n message)

@@ -1,5 +1,5 @@
--- What each call on a message promises, for every message that it can be given, also one that no calls made (paper 02, W9). What this comes to over several
--- calls is in MessageHistory.
+-- What each call on a message promises, for every message that it can be given, also one that no calls made (paper 02, W9). Starting one is in MessageStart;
+-- what all this comes to over several calls is in MessageHistory.
 use Prim.Native.Nat.{ℕ, _+_, min}
 use mathlib.Core.Path.{_≡_}
 use mathlib.Core.Bool.{Bool, cond, _&&_}
@@ -15,7 +15,7 @@ use Rattle.model.specs.Work.{placed}
 use Rattle.model.specs.Reference.{longestReference}
 use Rattle.model.specs.Message.{longestMessage, lengthBytes, framed, referenceNumber}
 
--- How many bytes the finished references have, their lengths counted. They are the first of the buffer.
+-- How many bytes the front and the finished references have, lengths counted. They are the first of the buffer.
 abbrev pub finishedBytes : Message → ℕ
 finishedBytes (Closed finished) = finished
 finishedBytes (Open finished added) = finished

@@ -1,5 +1,5 @@
 -- The work area and the buffers of a call: how much of the area is used, and what a call leaves in what it was lent (paper 01, "Refused, by place").
-use Prim.Native.Nat.{ℕ, _+_}
+use Prim.Native.Nat.{ℕ}
 use mathlib.Core.Bool.{cond}
 use mathlib.Core.List.{List, _++_}
 use lib.ListN.{length, drop, replicate}

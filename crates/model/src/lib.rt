@@ -35,6 +35,7 @@ pub enum Refusal {
     Unfinished,
     MessageOrder,
     MessageFull,
+    OtherMap,
 }
 
 // The least and the greatest offset, in centimetres, that an offset byte may stand for. 0 and 0 where there is no byte.
@@ -117,6 +118,7 @@ pub fn row_of(why: Refusal) -> Row
         Refusal::Unfinished => Row(26, 0),
         Refusal::MessageOrder => Row(27, 0),
         Refusal::MessageFull => Row(28, 0),
+        Refusal::OtherMap => Row(30, 0),
     }
 }
 

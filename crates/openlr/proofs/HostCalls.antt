@@ -1,6 +1,6 @@
 -- A host's calls, put together from those of the reader and the writer.
-use Prim.Native.Nat.{ℕ, _/_, _≤_, min}
-use mathlib.Core.Path.{_≡_, sym, ap, subst, _∙_}
+use Prim.Native.Nat.{ℕ, _*_, _/_, _≤_, min}
+use mathlib.Core.Path.{_≡_, sym, ap, _∙_}
 use mathlib.Core.List.{List, _++_}
 use native.Mathlib.Omega.{arith}
 use lib.ListN.{length, take, drop, length-append}
@@ -10,10 +10,10 @@ use Rattle.model.specs.declared.Span.{Span}
 use Rattle.model.specs.declared.ReadAnswer.{ReadAnswer}
 use Rattle.model.specs.declared.ReadAnswer.the-variants.{Read, Refused}
 use Rattle.model.specs.Refusal.{refusalOf}
-use Rattle.model.specs.Outcome.{ReadOutcome, read, Reads}
-use Rattle.model.specs.Work.{workLength, placed}
-use Rattle.model.specs.Call.{linesAfter, ReadAnswers, lines, refusal, ReadAnswered}
-use Rattle.model.specs.Host.{greatestHostLines, wordBytes, hostRoom, HostRead, hostRead, hostLinesAfter, HostReadCall}
+use Rattle.model.specs.Outcome.{ReadOutcome, read}
+use Rattle.model.specs.Work.{placed}
+use Rattle.model.specs.Call.{linesAfter, ReadAnswers, lines, refusal, Answered, ReadAnswered}
+use Rattle.model.specs.Host.{greatestHostLines, wordBytes, hostRoom, HostRead, hostRead, hostLinesAfter}
 
 -- ---- the reader
 
@@ -76,35 +76,49 @@ module _ {Asks : ReadOutcome → Type 0} {front front′ : List ℕ} {a : ReadAn
   pub count-fits : count ≤ length front
   count-fits = within front front′ ls stands count-is kept
 
-  first : (rest : List ℕ) → take count (front′ ++ rest) ≡ ls
-  first rest = first-lines front front′ ls stands count-is kept rest
+-- ---- handed over
 
-module _ (mb ref : List ℕ) {front front′ : List ℕ} {a : ReadAnswer} (d : ReadAnswered (Reads mb ref workLength (length front)) front front′ a) where
-  pub host-read : {count : ℕ} {pos neg : Span} {room room′ : List ℕ} → a ≡ Read count pos neg → length front′ ≡ length front → (rest : List ℕ) →
-      length front ≡ hostRoom (length room) → room′ ≡ placed (wordBytes (take count (front′ ++ rest))) room →
-      HostReadCall mb ref room (accepted count pos neg) room′
-  unfolding hostRead hostLinesAfter
-  host-read {pos = pos} {neg = neg} {room = room} e kept rest size put =
-      let same = outcome-is d e kept in
-      record {
-        answered = record {
-          outcome = d .outcome;
-          asked = subst (λ (n : ℕ). Reads mb ref workLength n (d .outcome)) size (d .asked);
-          answers = ap (λ (n : ℕ). accepted n pos neg) (count-is d e kept) ∙ ap hostRead (sym same);
-          buffer-after = put ∙ ap (λ (l : List ℕ). placed (wordBytes l) room) (first d e kept rest) ∙ ap (λ (o : ReadOutcome). hostLinesAfter o room) (sym same);
-        };
-      }
+-- The lines that were read, whatever the call: their bytes stand first in the host's buffer.
+pub handed-read : {a : ReadAnswer} {o : ReadOutcome} {count : ℕ} {pos neg : Span} {numbers room′ : List ℕ} (before room : List ℕ) → ReadAnswers a o →
+    a ≡ Read count pos neg → numbers ≡ linesAfter o before → room′ ≡ placed (wordBytes (take count numbers)) room →
+    (accepted count pos neg ≡ hostRead o) × (room′ ≡ hostLinesAfter o room)
+unfolding linesAfter placed hostRead hostLinesAfter
+handed-read {o = o} {count} {pos} {neg} {numbers} before room t e stand put =
+    let k = told-read t e in
+    let lent : numbers ≡ k .0 ++ drop (length (k .0)) before = stand ∙ ap (λ (o : ReadOutcome). linesAfter o before) (k .1) in
+    let first : take count numbers ≡ k .0 = ap (take count) lent ∙ take-at (k .0) (drop (length (k .0)) before) count (sym (k .2)) in (
+      ap (λ (n : ℕ). accepted n pos neg) (k .2) ∙ ap hostRead (sym (k .1)),
+      put ∙ ap (λ (l : List ℕ). placed (wordBytes l) room) first ∙ ap (λ (o : ReadOutcome). hostLinesAfter o room) (sym (k .1)),
+    )
 
-  pub host-not-read : {why : Refusal} {room : List ℕ} {r : HostRead} → a ≡ Refused why → length front ≡ hostRoom (length room) →
-      r ≡ hostRead (ReadOutcome.refused (refusalOf why)) → HostReadCall mb ref room r room
-  unfolding hostLinesAfter
-  host-not-read {room = room} e size given =
-      let outcome-is = told-refused (d .answers) e in
-      record {
-        answered = record {
-          outcome = d .outcome;
-          asked = subst (λ (n : ℕ). Reads mb ref workLength n (d .outcome)) size (d .asked);
-          answers = given ∙ ap hostRead (sym outcome-is);
-          buffer-after = ap (λ (o : ReadOutcome). hostLinesAfter o room) (sym outcome-is);
-        };
-      }
+pub handed-refused : {a : ReadAnswer} {o : ReadOutcome} {why : Refusal} {room : List ℕ} {r : HostRead} → ReadAnswers a o → a ≡ Refused why →
+    r ≡ hostRead (ReadOutcome.refused (refusalOf why)) → (r ≡ hostRead o) × (room ≡ hostLinesAfter o room)
+unfolding hostLinesAfter
+handed-refused {room = room} t e given =
+    let is = told-refused t e in
+    (given ∙ ap hostRead (sym is), ap (λ (o : ReadOutcome). hostLinesAfter o room) (sym is))
+
+-- What the reader answered, handed over, is what the host's call answers.
+pub host-answered : {Asks : ReadOutcome → Type 0} {front front′ lent room room′ : List ℕ} {a : ReadAnswer} {r : HostRead} →
+    ReadAnswered Asks front front′ a → lent ≡ front′ →
+    ((o : ReadOutcome) (before : List ℕ) → ReadAnswers a o → lent ≡ linesAfter o before → (r ≡ hostRead o) × (room′ ≡ hostLinesAfter o room)) →
+    Answered (λ given o. given ≡ hostRead o) hostLinesAfter Asks room room′ r
+host-answered {front = front} d same hand =
+    let h = hand (d .outcome) front (d .answers) (same ∙ d .buffer-after) in
+    record { outcome = d .outcome; asked = d .asked; answers = h .0; buffer-after = h .1 }
+
+-- What was lent to the reader of all numbers, and comes back as `last`.
+module _ (numbers lines last : List ℕ) (room : ℕ) (is : room ≡ min (length lines / 4) (length numbers)) (all : length numbers ≡ greatestHostLines)
+    (kept : length last ≡ length (take room numbers)) where
+  size : length (take room numbers) ≡ room
+  size = length-take-le room numbers (omega (arith, is))
+
+  -- It is lent once more, to be handed over.
+  pub lent-is : take room (last ++ drop room numbers) ≡ last
+  lent-is = take-at last (drop room numbers) room (kept ∙ size)
+
+  -- As many lines as there was room for can be handed over.
+  pub lent-room : (count : ℕ) → count ≤ length (take room numbers) →
+      (count ≤ length (take room (last ++ drop room numbers))) × (count * 4 ≤ length lines) × (count ≤ greatestHostLines)
+  lent-room count h =
+      (omega (arith, kept, ap (length {A = ℕ}) lent-is), omega (arith, is, size), omega (arith, is, size, all))

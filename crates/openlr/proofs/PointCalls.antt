@@ -1,18 +1,20 @@
 -- A host's calls with points, put together from those of the reader and the writer of points.
 use Prim.Native.Nat.{ℕ, _≤_}
-use mathlib.Core.Path.{_≡_, sym, ap, subst, _∙_}
+use mathlib.Core.Path.{_≡_, sym, ap, _∙_}
 use mathlib.Core.List.{List, _++_}
 use native.Mathlib.Omega.{arith}
-use lib.ListN.{length, take}
+use lib.ListN.{length, take, drop}
+use lib.Seq.{take-at}
 use Rattle.model.specs.declared.Refusal.{Refusal}
 use Rattle.model.specs.declared.Span.{Span}
 use Rattle.model.specs.declared.PointReadAnswer.{PointReadAnswer}
 use Rattle.model.specs.declared.PointReadAnswer.the-variants.{Read, Refused}
 use Rattle.model.specs.Refusal.{refusalOf}
-use Rattle.model.specs.Work.{workLength, placed}
-use Rattle.model.specs.PointAlong.{PointReadOutcome, read, PointReads, pointLinesAfter, PointReadAnswers, PointReadAnswered}
-use Rattle.model.specs.Host.{wordBytes, hostRoom, HostPoint, hostPoint, hostPointLinesAfter, HostPointReadCall}
-use Rattle.openlr.proofs.HostCalls.{within, first-lines}
+use Rattle.model.specs.Work.{placed}
+use Rattle.model.specs.Call.{Answered}
+use Rattle.model.specs.PointAlong.{PointReadOutcome, read, pointLinesAfter, PointReadAnswers, PointReadAnswered}
+use Rattle.model.specs.Host.{wordBytes, HostPoint, hostPoint, hostPointLinesAfter}
+use Rattle.openlr.proofs.HostCalls.{within}
 
 told-read : {a : PointReadAnswer} {o : PointReadOutcome} {count orientation side : ℕ} {span : Span} → PointReadAnswers a o →
     a ≡ Read count span orientation side → (ls : List ℕ) × (o ≡ read ls span orientation side) × (count ≡ length ls)
@@ -58,36 +60,34 @@ module _ {Asks : PointReadOutcome → Type 0} {front front′ : List ℕ} {a : P
   pub count-fits : count ≤ length front
   count-fits = within front front′ ls stands count-is kept
 
-  first : (rest : List ℕ) → take count (front′ ++ rest) ≡ ls
-  first rest = first-lines front front′ ls stands count-is kept rest
+-- ---- handed over
 
-module _ (mb ref : List ℕ) {front front′ : List ℕ} {a : PointReadAnswer}
-    (d : PointReadAnswered (PointReads mb ref workLength (length front)) front front′ a) where
-  pub host-point : {count orientation side : ℕ} {span : Span} {room room′ : List ℕ} → a ≡ Read count span orientation side → length front′ ≡ length front →
-      (rest : List ℕ) → length front ≡ hostRoom (length room) → room′ ≡ placed (wordBytes (take count (front′ ++ rest))) room →
-      HostPointReadCall mb ref room (accepted count span orientation side) room′
-  unfolding hostPoint hostPointLinesAfter
-  host-point {orientation = orientation} {side = side} {span = span} {room = room} e kept rest size put =
-      let same = outcome-is d e kept in
-      record {
-        answered = record {
-          outcome = d .outcome;
-          asked = subst (λ (n : ℕ). PointReads mb ref workLength n (d .outcome)) size (d .asked);
-          answers = ap (λ (n : ℕ). accepted n span orientation side) (count-is d e kept) ∙ ap hostPoint (sym same);
-          buffer-after = put ∙ ap (λ (l : List ℕ). placed (wordBytes l) room) (first d e kept rest) ∙ ap (λ (o : PointReadOutcome). hostPointLinesAfter o room) (sym same);
-        };
-      }
+-- The lines that were read, whatever the call: their bytes stand first in the host's buffer.
+pub handed-read : {a : PointReadAnswer} {o : PointReadOutcome} {count orientation side : ℕ} {span : Span} {numbers room′ : List ℕ} (before room : List ℕ) →
+    PointReadAnswers a o → a ≡ Read count span orientation side → numbers ≡ pointLinesAfter o before →
+    room′ ≡ placed (wordBytes (take count numbers)) room →
+    (accepted count span orientation side ≡ hostPoint o) × (room′ ≡ hostPointLinesAfter o room)
+unfolding pointLinesAfter placed hostPoint hostPointLinesAfter
+handed-read {o = o} {count} {orientation} {side} {span} {numbers} before room t e stand put =
+    let k = told-read t e in
+    let lent : numbers ≡ k .0 ++ drop (length (k .0)) before = stand ∙ ap (λ (o : PointReadOutcome). pointLinesAfter o before) (k .1) in
+    let first : take count numbers ≡ k .0 = ap (take count) lent ∙ take-at (k .0) (drop (length (k .0)) before) count (sym (k .2)) in (
+      ap (λ (n : ℕ). accepted n span orientation side) (k .2) ∙ ap hostPoint (sym (k .1)),
+      put ∙ ap (λ (l : List ℕ). placed (wordBytes l) room) first ∙ ap (λ (o : PointReadOutcome). hostPointLinesAfter o room) (sym (k .1)),
+    )
 
-  pub host-no-point : {why : Refusal} {room : List ℕ} {r : HostPoint} → a ≡ Refused why → length front ≡ hostRoom (length room) →
-      r ≡ hostPoint (PointReadOutcome.refused (refusalOf why)) → HostPointReadCall mb ref room r room
-  unfolding hostPointLinesAfter
-  host-no-point {room = room} e size given =
-      let outcome-is = told-refused (d .answers) e in
-      record {
-        answered = record {
-          outcome = d .outcome;
-          asked = subst (λ (n : ℕ). PointReads mb ref workLength n (d .outcome)) size (d .asked);
-          answers = given ∙ ap hostPoint (sym outcome-is);
-          buffer-after = ap (λ (o : PointReadOutcome). hostPointLinesAfter o room) (sym outcome-is);
-        };
-      }
+pub handed-refused : {a : PointReadAnswer} {o : PointReadOutcome} {why : Refusal} {room : List ℕ} {r : HostPoint} → PointReadAnswers a o → a ≡ Refused why →
+    r ≡ hostPoint (PointReadOutcome.refused (refusalOf why)) → (r ≡ hostPoint o) × (room ≡ hostPointLinesAfter o room)
+unfolding hostPointLinesAfter
+handed-refused {room = room} t e given =
+    let is = told-refused t e in
+    (given ∙ ap hostPoint (sym is), ap (λ (o : PointReadOutcome). hostPointLinesAfter o room) (sym is))
+
+-- What the reader answered, handed over, is what the host's call answers.
+pub host-answered : {Asks : PointReadOutcome → Type 0} {front front′ lent room room′ : List ℕ} {a : PointReadAnswer} {r : HostPoint} →
+    PointReadAnswered Asks front front′ a → lent ≡ front′ →
+    ((o : PointReadOutcome) (before : List ℕ) → PointReadAnswers a o → lent ≡ pointLinesAfter o before →
+    (r ≡ hostPoint o) × (room′ ≡ hostPointLinesAfter o room)) → Answered (λ given o. given ≡ hostPoint o) hostPointLinesAfter Asks room room′ r
+host-answered {front = front} d same hand =
+    let h = hand (d .outcome) front (d .answers) (same ∙ d .buffer-after) in
+    record { outcome = d .outcome; asked = d .asked; answers = h .0; buffer-after = h .1 }

@@ -12,16 +12,19 @@ use model::limits::WORK_LENGTH;
 use model::number_of;
 use model::row_of;
 ghost use mathlib.Core.Path.{_≡_};
-ghost use Prim.Native.Nat.{ℕ, _≤_};
+ghost use Prim.Native.Nat.{ℕ, _*_, _≤_};
 ghost use mathlib.Core.List.{List};
 ghost use lib.ListN.{length, take};
 ghost use Rattle.model.specs.Refusal.{refusalOf};
 ghost use Rattle.model.specs.Reference.{longestReference};
 ghost use Rattle.model.specs.Outcome.{ReadOutcome, Reads, WriteOutcome, Writes};
 ghost use Rattle.model.specs.Work.{workLength};
-ghost use Rattle.model.specs.Call.{WriteAnswers, ReadAnswered, WriteAnswered};
+ghost use Rattle.model.specs.Call.{linesAfter, ReadAnswers, WriteAnswers, ReadAnswered, WriteAnswered};
+ghost use Rattle.model.specs.declared.Span.{Span};
+ghost use Rattle.model.specs.declared.ReadAnswer.the-variants as Reader;
 ghost use Rattle.model.specs.declared.WriteAnswer.the-variants as Writer;
-ghost use Rattle.model.specs.Host.{greatestHostLines, hostRead, HostReadCall, hostWritten, HostWriteCall};
+ghost use Rattle.model.specs.Host.{greatestHostLines, hostRead, hostLinesAfter, HostReadCall, hostWritten, HostWriteCall};
+ghost use Rattle.model.specs.OfMessage.{ReadsOfMessage, HostReadOfMessageCall};
 ghost use Rattle.model.specs.Stretch.{stretchOf};
 ghost use Rattle.openlr.specs.Host.{asRead, asWritten, stretchLines};
 
@@ -101,13 +104,14 @@ fn read_into(map: &[u8], reference: &[u8], numbers: &mut [u32]) -> ReadAnswer
     reader::read(map, reference, &mut work, numbers)
 }
 
-// Reads with line numbers in `numbers`, and puts them into `lines`, four bytes each, low byte first.
-fn read_lines(map: &[u8], reference: &[u8], numbers: &mut [u32], lines: &mut [u8]) -> Lines
-    requires { ⌜ length (now numbers) ≡ greatestHostLines ⌝ }
-    ensures { λ r. ⌜ HostReadCall (now (map .entry)) (now (reference .entry)) (now (lines .entry)) (asRead r) (now (lines .exit)) ⌝ }
+// What the host gets for the reader's answer. The lines that were read stand first in `numbers`, and go into `lines`, four bytes each, low byte first.
+fn handed(answer: ReadAnswer, numbers: &[u32], lines: &mut [u8]) -> Lines
+    requires { ⌜ ((count : ℕ) (pos neg : Span) → answer ≡ Reader.Read count pos neg
+        → (count ≤ length (now numbers)) × (count * 4 ≤ length (now lines)) × (count ≤ greatestHostLines)) ⌝ }
+    ensures { λ r. ⌜ ((o : ReadOutcome) (before : List ℕ) → ReadAnswers answer o → now (numbers .entry) ≡ linesAfter o before
+        → (asRead r ≡ hostRead o) × (now (lines .exit) ≡ hostLinesAfter o (now (lines .entry)))) ⌝ }
 {
-    let room = lesser(lines.len() / WORD_BYTES, numbers.len());
-    match read_into(map, reference, &mut numbers[..room]) {
+    match answer {
         ReadAnswer::Read(count, pos, neg) => {
             put_words(&numbers[..count], lines);
             Lines {
@@ -124,6 +128,16 @@ fn read_lines(map: &[u8], reference: &[u8], numbers: &mut [u32], lines: &mut [u8
     }
 }
 
+// Reads with line numbers in `numbers`.
+fn read_lines(map: &[u8], reference: &[u8], numbers: &mut [u32], lines: &mut [u8]) -> Lines
+    requires { ⌜ length (now numbers) ≡ greatestHostLines ⌝ }
+    ensures { λ r. ⌜ HostReadCall (now (map .entry)) (now (reference .entry)) (now (lines .entry)) (asRead r) (now (lines .exit)) ⌝ }
+{
+    let room = lesser(lines.len() / WORD_BYTES, numbers.len());
+    let answer = read_into(map, reference, &mut numbers[..room]);
+    handed(answer, &numbers[..room], lines)
+}
+
 // Reads a reference on a map.
 #[no_mangle]
 pub extern "C" fn openlr_read(map: &[u8], reference: &[u8], lines: &mut [u8]) -> Lines
@@ -131,6 +145,50 @@ pub extern "C" fn openlr_read(map: &[u8], reference: &[u8], lines: &mut [u8]) ->
 {
     let mut numbers = [0u32; GREATEST_HOST_LINES];
     read_lines(map, reference, &mut numbers, lines)
+}
+
+// Reads out of a message with a work area of its own.
+fn read_of_message_into(
+    map: &[u8],
+    message: &[u8],
+    reference: &[u8],
+    numbers: &mut [u32],
+) -> ReadAnswer
+    ensures { λ r. ⌜ ReadAnswered (ReadsOfMessage (now (map .entry)) (now (message .entry)) (now (reference .entry)) workLength (length (now (numbers .entry))))
+        (now (numbers .entry)) (now (numbers .exit)) r ⌝ }
+{
+    let mut work = [0u32; WORK_LENGTH];
+    reader::read_of_message(map, message, reference, &mut work, numbers)
+}
+
+// Reads out of a message with line numbers in `numbers`.
+fn read_lines_of_message(
+    map: &[u8],
+    message: &[u8],
+    reference: &[u8],
+    numbers: &mut [u32],
+    lines: &mut [u8],
+) -> Lines
+    requires { ⌜ length (now numbers) ≡ greatestHostLines ⌝ }
+    ensures { λ r. ⌜ HostReadOfMessageCall (now (map .entry)) (now (message .entry)) (now (reference .entry)) (now (lines .entry)) (asRead r) (now (lines .exit)) ⌝ }
+{
+    let room = lesser(lines.len() / WORD_BYTES, numbers.len());
+    let answer = read_of_message_into(map, message, reference, &mut numbers[..room]);
+    handed(answer, &numbers[..room], lines)
+}
+
+// Reads a reference out of a message on a map.
+#[no_mangle]
+pub extern "C" fn openlr_read_of_message(
+    map: &[u8],
+    message: &[u8],
+    reference: &[u8],
+    lines: &mut [u8],
+) -> Lines
+    ensures { λ r. ⌜ HostReadOfMessageCall (now (map .entry)) (now (message .entry)) (now (reference .entry)) (now (lines .entry)) (asRead r) (now (lines .exit)) ⌝ }
+{
+    let mut numbers = [0u32; GREATEST_HOST_LINES];
+    read_lines_of_message(map, message, reference, &mut numbers, lines)
 }
 
 // Takes the line numbers of a stretch from its bytes, as many as there is room for. Bytes whose count is no multiple of four hold no line.

@@ -1,4 +1,4 @@
-// The functions for points along a line that a C program calls (paper 02, W5). include/openlr.h has them for C.
+// The functions for points along a line that a C program calls (paper 02, W5; out of a message: W10). include/openlr.h has them for C.
 use buffers::lesser;
 use buffers::words::WORD_BYTES;
 use buffers::words::put_words;
@@ -10,14 +10,18 @@ use model::limits::WORK_LENGTH;
 use model::number_of;
 use model::row_of;
 ghost use mathlib.Core.Path.{_≡_};
-ghost use Prim.Native.Nat.{ℕ, _≤_};
+ghost use Prim.Native.Nat.{ℕ, _*_, _≤_};
+ghost use mathlib.Core.List.{List};
 ghost use lib.ListN.{length};
 ghost use Rattle.model.specs.Refusal.{refusalOf};
 ghost use Rattle.model.specs.Work.{workLength};
-ghost use Rattle.model.specs.PointAlong.{PointReadOutcome, PointReads, PointReadAnswered, PointWriteOutcome, PointWrites, PointWriteAnswers, PointWriteAnswered, pointGiven};
+ghost use Rattle.model.specs.PointAlong.{PointReadOutcome, PointReads, PointReadAnswers, PointReadAnswered, pointLinesAfter, PointWriteOutcome, PointWrites, PointWriteAnswers, PointWriteAnswered, pointGiven};
 ghost use Rattle.model.specs.PointAlong.{longestPoint};
+ghost use Rattle.model.specs.declared.Span.{Span};
+ghost use Rattle.model.specs.declared.PointReadAnswer.the-variants as Reader;
 ghost use Rattle.model.specs.declared.PointWriteAnswer.the-variants as Writer;
-ghost use Rattle.model.specs.Host.{greatestHostLines, hostPoint, HostPointReadCall, hostPointWritten, HostPointWriteCall};
+ghost use Rattle.model.specs.Host.{greatestHostLines, hostPoint, hostPointLinesAfter, HostPointReadCall, hostPointWritten, HostPointWriteCall};
+ghost use Rattle.model.specs.OfMessage.{PointReadsOfMessage, HostPointReadOfMessageCall};
 ghost use Rattle.openlr.specs.Host.{asPoint, asPointWritten};
 
 // What the host gets from the reader of points; `struct openlr_point` in C. 0 where a number says nothing.
@@ -64,13 +68,15 @@ fn read_point_into(map: &[u8], reference: &[u8], numbers: &mut [u32]) -> PointRe
     point_reader::read_point(map, reference, &mut work, numbers)
 }
 
-// Reads a point with line numbers in `numbers`, and puts them into `lines`, four bytes each, low byte first.
-fn read_point_lines(map: &[u8], reference: &[u8], numbers: &mut [u32], lines: &mut [u8]) -> Point
-    requires { ⌜ length (now numbers) ≡ greatestHostLines ⌝ }
-    ensures { λ r. ⌜ HostPointReadCall (now (map .entry)) (now (reference .entry)) (now (lines .entry)) (asPoint r) (now (lines .exit)) ⌝ }
+// What the host gets for the answer of the reader of points. The lines that were read stand first in `numbers`, and go into `lines`, four bytes each, low byte
+// first.
+fn handed(answer: PointReadAnswer, numbers: &[u32], lines: &mut [u8]) -> Point
+    requires { ⌜ ((count : ℕ) (span : Span) (orientation side : ℕ) → answer ≡ Reader.Read count span orientation side
+        → (count ≤ length (now numbers)) × (count * 4 ≤ length (now lines)) × (count ≤ greatestHostLines)) ⌝ }
+    ensures { λ r. ⌜ ((o : PointReadOutcome) (before : List ℕ) → PointReadAnswers answer o → now (numbers .entry) ≡ pointLinesAfter o before
+        → (asPoint r ≡ hostPoint o) × (now (lines .exit) ≡ hostPointLinesAfter o (now (lines .entry)))) ⌝ }
 {
-    let room = lesser(lines.len() / WORD_BYTES, numbers.len());
-    match read_point_into(map, reference, &mut numbers[..room]) {
+    match answer {
         PointReadAnswer::Read(count, span, orientation, side) => {
             put_words(&numbers[..count], lines);
             Point {
@@ -87,6 +93,16 @@ fn read_point_lines(map: &[u8], reference: &[u8], numbers: &mut [u32], lines: &m
     }
 }
 
+// Reads a point with line numbers in `numbers`.
+fn read_point_lines(map: &[u8], reference: &[u8], numbers: &mut [u32], lines: &mut [u8]) -> Point
+    requires { ⌜ length (now numbers) ≡ greatestHostLines ⌝ }
+    ensures { λ r. ⌜ HostPointReadCall (now (map .entry)) (now (reference .entry)) (now (lines .entry)) (asPoint r) (now (lines .exit)) ⌝ }
+{
+    let room = lesser(lines.len() / WORD_BYTES, numbers.len());
+    let answer = read_point_into(map, reference, &mut numbers[..room]);
+    handed(answer, &numbers[..room], lines)
+}
+
 // Reads a point along a line on a map.
 #[no_mangle]
 pub extern "C" fn openlr_read_point(map: &[u8], reference: &[u8], lines: &mut [u8]) -> Point
@@ -94,6 +110,50 @@ pub extern "C" fn openlr_read_point(map: &[u8], reference: &[u8], lines: &mut [u
 {
     let mut numbers = [0u32; GREATEST_HOST_LINES];
     read_point_lines(map, reference, &mut numbers, lines)
+}
+
+// Reads a point out of a message with a work area of its own.
+fn read_point_of_message_into(
+    map: &[u8],
+    message: &[u8],
+    reference: &[u8],
+    numbers: &mut [u32],
+) -> PointReadAnswer
+    ensures { λ r. ⌜ PointReadAnswered (PointReadsOfMessage (now (map .entry)) (now (message .entry)) (now (reference .entry)) workLength (length (now (numbers .entry))))
+        (now (numbers .entry)) (now (numbers .exit)) r ⌝ }
+{
+    let mut work = [0u32; WORK_LENGTH];
+    point_reader::read_point_of_message(map, message, reference, &mut work, numbers)
+}
+
+// Reads a point out of a message with line numbers in `numbers`.
+fn read_point_lines_of_message(
+    map: &[u8],
+    message: &[u8],
+    reference: &[u8],
+    numbers: &mut [u32],
+    lines: &mut [u8],
+) -> Point
+    requires { ⌜ length (now numbers) ≡ greatestHostLines ⌝ }
+    ensures { λ r. ⌜ HostPointReadOfMessageCall (now (map .entry)) (now (message .entry)) (now (reference .entry)) (now (lines .entry)) (asPoint r) (now (lines .exit)) ⌝ }
+{
+    let room = lesser(lines.len() / WORD_BYTES, numbers.len());
+    let answer = read_point_of_message_into(map, message, reference, &mut numbers[..room]);
+    handed(answer, &numbers[..room], lines)
+}
+
+// Reads a point along a line out of a message on a map.
+#[no_mangle]
+pub extern "C" fn openlr_read_point_of_message(
+    map: &[u8],
+    message: &[u8],
+    reference: &[u8],
+    lines: &mut [u8],
+) -> Point
+    ensures { λ r. ⌜ HostPointReadOfMessageCall (now (map .entry)) (now (message .entry)) (now (reference .entry)) (now (lines .entry)) (asPoint r) (now (lines .exit)) ⌝ }
+{
+    let mut numbers = [0u32; GREATEST_HOST_LINES];
+    read_point_lines_of_message(map, message, reference, &mut numbers, lines)
 }
 
 // What the host gets for the answer of the writer of points.

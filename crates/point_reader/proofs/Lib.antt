@@ -1,2 +1,3 @@
 -- Laws of the answers of the reader of points.
 pub mod Answers
+pub mod OfMessages

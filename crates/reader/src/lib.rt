@@ -1,6 +1,7 @@
-// The reader of references (paper 01): `read`, and its parts in the order in which they are asked.
+// The reader of references (paper 01): `read`, and its parts in the order in which they are asked; `read_of_message` for those out of a message (paper 02, W10).
 use buffers::copy;
 use ending::answer;
+use front::same_map;
 use model::ReadAnswer;
 use model::Refusal;
 use model::limits::WORK_LENGTH;
@@ -20,9 +21,12 @@ ghost use lib.ListN.{length, take};
 ghost use Rattle.model.specs.Map.{Map, decode};
 ghost use Rattle.model.specs.Reference.{referenceAt, parse};
 ghost use Rattle.model.specs.Reading.{joined};
-ghost use Rattle.model.specs.Outcome.{LegsRead, every, ReadOn, ReadParsed, ReadMap};
+ghost use Rattle.model.specs.Outcome.{LegsRead, every, ReadOutcome, ReadOn, ReadParsed, ReadMap};
 ghost use Rattle.model.specs.Locate.{located};
 ghost use Rattle.model.specs.Work.{workLength, placed};
+ghost use Rattle.model.specs.Opening.{OnMap};
+ghost use Rattle.model.specs.Front.{sameMap};
+ghost use Rattle.model.specs.OfMessage.{OnFront, ReadOfMessageCall};
 ghost use Rattle.model.specs.Call.{ReadAnswered, ReadCall};
 ghost use Rattle.search_cells.specs.Area.{Set};
 ghost use Rattle.references.specs.Form.{SoundBytes};
@@ -149,6 +153,65 @@ pub fn read(map: &[u8], reference: &[u8], work: &mut [u32], lines: &mut [u32]) -
         return ReadAnswer::Refused(Refusal::WorkAreaShort);
     }
     let given = on_area(map, reference, &mut work[..WORK_LENGTH], lines);
+    clear(work);
+    given
+}
+
+// The answer on a map that is ready in the work area, for a reference out of a message: whether the message is of that map is asked first.
+fn on_front(
+    map: &[u8],
+    message: &[u8],
+    reference: &[u8],
+    work: &mut [u32],
+    nodes: u32,
+    lines: usize,
+    out: &mut [u32],
+) -> ReadAnswer
+    requires { ⌜ ((m : Map) × Set m lines (now work) × (length (m .nodes) ≡ nodes)) ⌝ }
+    ensures { λ r. ⌜ ((m : Map) → Set m lines (now (work .entry)) → length (m .nodes) ≡ nodes
+        → ReadAnswered (OnFront ReadOutcome.refused (ReadParsed m (parse (now (reference .entry))) (length (now (out .entry))))
+        (sameMap (now (map .entry)) (now (message .entry)))) (now (out .entry)) (now (out .exit)) r) ⌝ }
+{
+    if !same_map(map, message) {
+        return ReadAnswer::Refused(Refusal::OtherMap);
+    }
+    on_map(reference, work, nodes, lines, out)
+}
+
+// The answer where the work area is large enough, for a reference out of a message.
+fn on_area_of_message(
+    map: &[u8],
+    message: &[u8],
+    reference: &[u8],
+    work: &mut [u32],
+    out: &mut [u32],
+) -> ReadAnswer
+    requires { ⌜ workLength ≤ length (now work) ⌝ }
+    ensures { λ r. ⌜ ReadAnswered (OnMap ReadOutcome.refused (λ m. OnFront ReadOutcome.refused
+        (ReadParsed m (parse (now (reference .entry))) (length (now (out .entry)))) (sameMap (now (map .entry)) (now (message .entry))))
+        (decode (now (map .entry)))) (now (out .entry)) (now (out .exit)) r ⌝ }
+{
+    match open_map(map, work) {
+        Opened::Ready(nodes, lines) => on_front(map, message, reference, work, nodes, lines, out),
+        Opened::Refused(why) => ReadAnswer::Refused(why),
+    }
+}
+
+// Reads a reference out of a message on a map: as `read`, once the message's front is that of the map. Nothing else is looked at in the message.
+pub fn read_of_message(
+    map: &[u8],
+    message: &[u8],
+    reference: &[u8],
+    work: &mut [u32],
+    lines: &mut [u32],
+) -> ReadAnswer
+    ensures { λ r. ⌜ ReadOfMessageCall (now (map .entry)) (now (message .entry)) (now (reference .entry)) (now (work .entry)) (now (lines .entry)) r
+        (now (work .exit)) (now (lines .exit)) ⌝ }
+{
+    if work.len() < WORK_LENGTH {
+        return ReadAnswer::Refused(Refusal::WorkAreaShort);
+    }
+    let given = on_area_of_message(map, message, reference, &mut work[..WORK_LENGTH], lines);
     clear(work);
     given
 }

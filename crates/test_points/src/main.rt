@@ -2,27 +2,21 @@
 // call left of the work area, and whether the rest of the buffer is as it was. Where bytes were written, the row goes on with what the reader of points answers
 // to exactly those. What it prints is held to what the unrelated implementation says (oracle/pack.py).
 use answer_text::put;
-use answer_text::put_head;
-use answer_text::put_number;
 use buffers::lesser;
 use cases::Part;
-use cases::sum_of;
 use cases::word_at;
 use console::hand_over;
 use marks::bytes_kept;
 use marks::fill;
 use marks::fill_bytes;
-use marks::is_kept;
 use marks::put_point_written;
 use marks::put_rest;
 use marks::put_work;
-use model::PointReadAnswer;
 use model::PointWriteAnswer;
-use model::ReadAnswer;
-use model::Span;
 use point_reader::read_point;
 use point_writer::write_point;
-ghost use Rattle.io.specs.Counts.{Counts};
+use reading_rows::put_point;
+use reading_rows::show_point;
 
 // More bytes than a part of a row has: 6 for a word, 100 for an answer, 25 for a sum, 13 for each of the last two.
 const ROW: usize = 192;
@@ -30,63 +24,12 @@ const ROW: usize = 192;
 // The length of the byte buffer, some bytes more than a point has.
 const BYTES: usize = 40;
 
-// Puts a count of lines and the span of an offset.
-fn put_span(count: usize, span: Span, row: &mut [u8], at: usize) -> usize
-    ensures { λ r. ⌜ Counts r (now (row .exit)) ⌝ }
-{
-    let counted = put_number(b"lines ", count as u64, row, at);
-    let least = put_number(b" offset ", span.least as u64, row, counted);
-    put_number(b" ", span.greatest as u64, row, least)
-}
-
-// Puts an orientation and a side, and a sum over the lines.
-fn put_rest_of_point(orientation: u32, side: u32, sum: u64, row: &mut [u8], at: usize) -> usize
-    ensures { λ r. ⌜ Counts r (now (row .exit)) ⌝ }
-{
-    let oriented = put_number(b" orientation ", orientation as u64, row, at);
-    let sided = put_number(b" side ", side as u64, row, oriented);
-    put_number(b" sum ", sum, row, sided)
-}
-
-// Puts what the reader answers and, where it hands back lines, a sum over them; a count beyond the buffer shows by itself.
-fn put_point(answer: PointReadAnswer, lines: &[u32], row: &mut [u8], at: usize) -> usize
-    ensures { λ r. ⌜ Counts r (now (row .exit)) ⌝ }
-{
-    match answer {
-        PointReadAnswer::Read(count, span, orientation, side) => {
-            let sum = sum_of(lines, 0, lesser(count, lines.len()), 0);
-            let end = put_span(count, span, row, at);
-            put_rest_of_point(orientation, side, sum, row, end)
-        }
-        PointReadAnswer::Refused(why) => put_head(ReadAnswer::Refused(why), row, at),
-    }
-}
-
-// How many lines an answer hands back.
-fn line_count(answer: PointReadAnswer) -> usize {
-    match answer {
-        PointReadAnswer::Read(count, _, _, _) => count,
-        PointReadAnswer::Refused(_) => 0,
-    }
-}
-
 // How many bytes an answer hands back.
 fn byte_count(answer: PointWriteAnswer) -> usize {
     match answer {
         PointWriteAnswer::Written(count) => count,
         PointWriteAnswer::Refused(_) => 0,
     }
-}
-
-// Prints the row of a reading.
-fn show_point(answer: PointReadAnswer, work: &[u32], lines: &[u32]) {
-    let mut row = [0; ROW];
-    let count = lesser(line_count(answer), lines.len());
-    let told = put_point(answer, lines, &mut row, 0);
-    let state = put_work(work, &mut row, told);
-    let rest = put_rest(is_kept(lines, count), &mut row, state);
-    let end = put(b"\n", &mut row, rest);
-    hand_over(&row[..end]);
 }
 
 // Fills the buffers, reads a point into them and prints the row.

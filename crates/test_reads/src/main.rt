@@ -1,58 +1,18 @@
 // Reads the references of cases.bin, each on its own map, and prints a row for each: the answer, a sum over the lines handed back, what the call left of
 // the work area, and whether the rest of the line buffer is as it was. What it prints is held to what the unrelated implementation says (oracle/pack.py).
-use answer_text::put;
-use answer_text::put_head;
-use answer_text::put_number;
 use buffers::lesser;
 use cases::Part;
-use cases::sum_of;
 use cases::word_at;
-use console::hand_over;
 use marks::fill;
-use marks::is_kept;
-use marks::put_rest;
-use marks::put_work;
-use model::ReadAnswer;
 use reader::read;
-
-// More bytes than a row has: 118 for the answer's first row, 25 for the sum, 13 for each of the last two.
-const ROW: usize = 192;
-
-// How many lines an answer hands back.
-fn count_of(answer: ReadAnswer) -> usize {
-    match answer {
-        ReadAnswer::Read(count, _, _) => count,
-        ReadAnswer::Refused(_) => 0,
-    }
-}
-
-// Puts an answer's first row and, where it hands back lines, a sum over them; a count beyond the buffer shows by itself.
-fn put_sum(answer: ReadAnswer, lines: &[u32], row: &mut [u8]) -> usize {
-    let end = put_head(answer, row, 0);
-    let ReadAnswer::Read(count, _, _) = answer else {
-        return end;
-    };
-    let handed_back = lesser(count, lines.len());
-    put_number(b" sum ", sum_of(lines, 0, handed_back, 0), row, end)
-}
-
-// Prints a row.
-fn show_row(answer: ReadAnswer, work: &[u32], lines: &[u32]) {
-    let mut row = [0; ROW];
-    let count = lesser(count_of(answer), lines.len());
-    let sum = put_sum(answer, lines, &mut row);
-    let state = put_work(work, &mut row, sum);
-    let rest = put_rest(is_kept(lines, count), &mut row, state);
-    let end = put(b"\n", &mut row, rest);
-    hand_over(&row[..end]);
-}
+use reading_rows::show_lines;
 
 // Fills the buffers, reads into them and prints the row.
 fn call(map: &[u8], reference: &[u8], work: &mut [u32], lines: &mut [u32]) {
     fill(work);
     fill(lines);
     let answer = read(map, reference, work, lines);
-    show_row(answer, work, lines);
+    show_lines(answer, work, lines);
 }
 
 // Makes the call with a work area and a line buffer of the lengths that the numbers of the case say.

@@ -1,95 +1,14 @@
-//! The C functions of include/openlr.h.
+//! Calls of the C functions for stretches and points on lent memory.
 
 use std::ops::Range;
 
+use plain::openlr::{
+    openlr_read, openlr_read_point, openlr_write, openlr_write_point, PointAnswer,
+    PointWrittenAnswer, ReadingAnswer, WrittenAnswer,
+};
 use plain::point::Point;
 
 use crate::memory::Memory;
-
-/// `struct openlr_reading`.
-#[repr(C)]
-#[derive(Clone, Copy, Debug, Default, PartialEq, Eq)]
-pub struct ReadingAnswer {
-    pub refusal: u32,
-    pub place: u32,
-    pub line_count: u32,
-    pub pos_least: u32,
-    pub pos_greatest: u32,
-    pub neg_least: u32,
-    pub neg_greatest: u32,
-}
-
-/// `struct openlr_point`.
-#[repr(C)]
-#[derive(Clone, Copy, Debug, Default, PartialEq, Eq)]
-pub struct PointAnswer {
-    pub refusal: u32,
-    pub place: u32,
-    pub lines: u32,
-    pub least: u32,
-    pub greatest: u32,
-    pub orientation: u32,
-    pub side: u32,
-}
-
-/// `struct openlr_written`.
-#[repr(C)]
-#[derive(Clone, Copy, Debug, Default, PartialEq, Eq)]
-pub struct WrittenAnswer {
-    pub refusal: u32,
-    pub byte_count: u32,
-    pub tests: u32,
-    pub excess: u32,
-}
-
-/// `struct openlr_point_written`.
-#[repr(C)]
-#[derive(Clone, Copy, Debug, Default, PartialEq, Eq)]
-pub struct PointWrittenAnswer {
-    pub refusal: u32,
-    pub bytes: u32,
-}
-
-#[link(name = "openlr", kind = "static")]
-extern "C" {
-    fn openlr_read(
-        map: *const u8,
-        map_len: usize,
-        reference: *const u8,
-        reference_len: usize,
-        line_buffer: *mut u8,
-        line_buffer_len: usize,
-    ) -> ReadingAnswer;
-    fn openlr_write(
-        map: *const u8,
-        map_len: usize,
-        stretch: *const u8,
-        stretch_len: usize,
-        pos: u32,
-        neg: u32,
-        tests: u32,
-        byte_buffer: *mut u8,
-        byte_buffer_len: usize,
-    ) -> WrittenAnswer;
-    fn openlr_read_point(
-        map: *const u8,
-        map_len: usize,
-        reference: *const u8,
-        reference_len: usize,
-        line_buffer: *mut u8,
-        line_buffer_len: usize,
-    ) -> PointAnswer;
-    fn openlr_write_point(
-        map: *const u8,
-        map_len: usize,
-        line: u32,
-        offset: u32,
-        orientation: u32,
-        side: u32,
-        byte_buffer: *mut u8,
-        byte_buffer_len: usize,
-    ) -> PointWrittenAnswer;
-}
 
 /// Reads the reference that is this part of what the memory holds beside the map.
 pub fn read(memory: &mut Memory, part: Range<usize>) -> ReadingAnswer {

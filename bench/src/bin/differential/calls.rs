@@ -3,10 +3,11 @@
 use std::fmt::{self, Debug};
 
 use plain::hexadecimal::{bytes, digits};
+use plain::openlr::{ReadingAnswer, WrittenAnswer};
 use plain::outcome::{Outcome, Reading, Refusal, Written, WORK_AREA};
 use plain::{reader, writer};
 
-use crate::c_functions::{self, ReadingAnswer, WrittenAnswer};
+use crate::c_functions;
 use crate::memory::Memory;
 
 /// A list of more lines is refused, however long the buffer.
@@ -40,10 +41,7 @@ impl ReadCall<'_> {
     /// The C function reads the reference where it stands in a message, from this byte on.
     pub fn compare_within(&self, message: &[u8], from: usize) -> Result<Outcome<Reading>, String> {
         let outcome = reader::read(self.map, self.reference, WORK_AREA, line_room(self.room));
-        let (answer, result) = match &outcome {
-            Ok(reading) => (reading_answer(reading), line_bytes(&reading.lines)),
-            Err(refusal) => (reading_refusal(*refusal), Vec::new()),
-        };
+        let (answer, result) = expected_reading(&outcome);
         let memory = Memory::new(self.map, message, self.room);
         let part = from..from + self.reference.len();
         let read = |memory: &mut Memory| c_functions::read(memory, part);
@@ -126,24 +124,10 @@ pub fn check_answer<Answer: Debug + PartialEq>(
     Ok(())
 }
 
-fn reading_answer(reading: &Reading) -> ReadingAnswer {
-    ReadingAnswer {
-        refusal: 0,
-        place: 0,
-        line_count: reading.lines.len() as u32,
-        pos_least: reading.positive.least,
-        pos_greatest: reading.positive.greatest,
-        neg_least: reading.negative.least,
-        neg_greatest: reading.negative.greatest,
-    }
-}
-
-fn reading_refusal(refusal: Refusal) -> ReadingAnswer {
-    ReadingAnswer {
-        refusal: refusal.number(),
-        place: refusal.place().unwrap_or(0),
-        ..ReadingAnswer::default()
-    }
+/// What C answers to a reading, and what it puts into the line buffer.
+pub fn expected_reading(outcome: &Outcome<Reading>) -> (ReadingAnswer, Vec<u8>) {
+    let lines = outcome.as_ref().map(|reading| line_bytes(&reading.lines));
+    (ReadingAnswer::of(outcome), lines.unwrap_or_default())
 }
 
 fn written_answer(written: &Written) -> WrittenAnswer {

@@ -3,7 +3,7 @@
 use plain::outcome::Outcome;
 
 /// How many calls had each answer: accepted, and then every refusal by its number.
-pub type Answers = [u64; 29];
+pub type Answers = [u64; 31];
 
 pub fn count<T>(answers: &mut Answers, outcome: &Outcome<T>) {
     let number = outcome

@@ -8,6 +8,7 @@ mod c_functions;
 mod calls;
 mod counts;
 mod damages;
+mod fronts;
 mod inputs;
 mod length_counts;
 mod memory;
@@ -17,6 +18,8 @@ mod message_counts;
 mod message_functions;
 mod message_inputs;
 mod message_run;
+mod of_message_calls;
+mod of_message_run;
 mod offset_counts;
 mod point_calls;
 mod point_counts;
@@ -34,6 +37,7 @@ use plain::maps::Xorshift;
 
 use calls::{ReadCall, WriteCall};
 use message_calls::{History, MadeUpCall, ReceivedCall};
+use of_message_calls::ReadOfMessageCall;
 use point_calls::{ReadPointCall, WritePointCall};
 use run::Run;
 
@@ -68,6 +72,7 @@ fn compare_row(row: &str) -> Option<Result<(), String>> {
         History::compare_row(row)
             .or_else(|| ReceivedCall::compare_row(row))
             .or_else(|| MadeUpCall::compare_row(row))
+            .or_else(|| ReadOfMessageCall::compare_row(row))
     };
     of_lines.or_else(of_points).or_else(of_messages)
 }

@@ -9,14 +9,17 @@ use plain::message_calls::{bytes_before, Answer, Call};
 
 use crate::calls::check_answer;
 use crate::memory::Lent;
-use crate::message_functions::{self, MessageAnswer};
+use crate::message_functions::{self, given_beside, MessageAnswer};
 
 /// Each says that a reference is open.
 const OPEN_NUMBERS: [u32; 5] = [1, 2, 1, u32::MAX, 1 << 31];
 
-/// A message from its start on: what the C functions made of it, and beside it plain Rust.
+/// A buffer from the first call on: what the C functions made of it, and beside it plain Rust. Calls but starts are
+/// made once a message is started.
 pub struct History {
     calls: Vec<Call>,
+    /// That of the last start which was not refused.
+    map: Option<Vec<u8>>,
     returned: State,
     buffer: Lent,
     message: Message,
@@ -29,6 +32,7 @@ impl History {
         let buffer = Lent::of(&bytes_before(room));
         History {
             calls: Vec::new(),
+            map: None,
             returned: State::default(),
             expected: buffer.clone(),
             buffer,
@@ -45,6 +49,15 @@ impl History {
         self.message
     }
 
+    pub fn is_started(&self) -> bool {
+        self.map.is_some()
+    }
+
+    /// That the message is for.
+    pub fn map(&self) -> Option<&[u8]> {
+        self.map.as_deref()
+    }
+
     /// How many are finished.
     pub fn references(&self) -> u32 {
         self.references
@@ -57,30 +70,46 @@ impl History {
 
     /// The answer that both agree on, or how they differ.
     pub fn make(&mut self, call: Call) -> Result<Answer, String> {
-        let given = self.given();
+        // A start is given no message.
+        let given = match call {
+            Call::Start { .. } => State::default(),
+            _ => self.given(),
+        };
         let answer = call.make(self.message, self.expected.bytes_mut());
         let expected = match answer {
             Answer::Message(outcome) => MessageAnswer::State(given.answered(outcome)),
             Answer::Part(part) => MessageAnswer::Part(part),
         };
-        let mut portion = portion_of(&call);
-        let portion_before = portion.clone();
-        let found = message_functions::make(&call, given, &mut self.buffer, &mut portion);
-        self.references += u32::from(matches!(
-            (&call, answer),
-            (Call::Close, Answer::Message(Ok(_)))
-        ));
-        self.calls.push(call);
+        let mut beside = given_beside(&call);
+        let beside_before = beside.clone();
+        let found = message_functions::make(&call, given, &mut self.buffer, &mut beside);
+        self.calls.push(call.clone());
         check_answer(found, expected)?;
-        if let MessageAnswer::State(state) = found {
-            self.returned = state;
+        beside.check("map or portion", &beside_before)?;
+        self.buffer.check("buffer", &self.expected)?;
+        self.go_on(call, answer, found);
+        Ok(answer)
+    }
+
+    /// With what the call answered, but for a start that was refused: then with what there was before.
+    fn go_on(&mut self, call: Call, answer: Answer, found: MessageAnswer) {
+        let is_accepted = matches!(answer, Answer::Message(Ok(_)));
+        match (found, &call) {
+            (MessageAnswer::State(_), Call::Start { .. }) if !is_accepted => {}
+            (MessageAnswer::State(state), _) => self.returned = state,
+            (MessageAnswer::Part(_), _) => {}
         }
         if let Answer::Message(Ok(message)) = answer {
             self.message = message;
         }
-        portion.check("portion", &portion_before)?;
-        self.buffer.check("buffer", &self.expected)?;
-        Ok(answer)
+        match call {
+            Call::Start { map, .. } if is_accepted => {
+                self.map = Some(map);
+                self.references = 0;
+            }
+            Call::Close if is_accepted => self.references += 1,
+            _ => {}
+        }
     }
 
     /// What is handed to the next call: what the last one returned, but for the number that says that one is
@@ -156,7 +185,7 @@ impl fmt::Display for ReceivedCall<'_> {
     }
 }
 
-/// A call that changes a message, with a state of any numbers.
+/// A call that is given a message and changes it, with a state of any numbers.
 pub struct MadeUpCall {
     pub room: usize,
     pub state: State,
@@ -169,7 +198,7 @@ impl MadeUpCall {
     pub fn check(&self) -> Result<(), String> {
         let mut buffer = Lent::of(&bytes_before(self.room));
         let mut expected = buffer.clone();
-        let mut portion = portion_of(&self.call);
+        let mut portion = given_beside(&self.call);
         let portion_before = portion.clone();
         message_functions::make(&self.call, self.state, &mut buffer, &mut portion);
         let kept = self.room.min(self.state.byte_count as usize);
@@ -190,7 +219,7 @@ impl MadeUpCall {
             added: number()?,
         };
         let call = Call::of_word(words.next()?)?;
-        let changes = !matches!(call, Call::Ask(_));
+        let changes = !matches!(call, Call::Start { .. } | Call::Ask(_));
         changes.then(|| MadeUpCall { room, state, call }.check())
     }
 }
@@ -209,12 +238,5 @@ impl fmt::Display for MadeUpCall {
             out,
             "made_up {room} {refusal} {byte_count} {open} {added} {call}"
         )
-    }
-}
-
-fn portion_of(call: &Call) -> Lent {
-    match call {
-        Call::Add(portion) => Lent::of(portion),
-        _ => Lent::of(&[]),
     }
 }

@@ -1,14 +1,18 @@
 //! How many calls on messages had what: each call in each state of a message, the edges of lengths, buffers
-//! and messages, and each reason why a list stops.
+//! and messages, starts of each kind, and each reason why a list stops.
 
 use plain::fields::LONGEST_REFERENCE;
 use plain::message::{bytes_of_length, usable, Message, Part, LONGEST_MESSAGE};
 use plain::message_calls::{Answer, Call};
-use plain::message_list::{List, STOPS};
-use plain::outcome::Refusal;
+use plain::message_list::{List, Stop, FRONT_FAULTS, STOPS};
+use plain::outcome::{Outcome, Refusal};
 
-use crate::counts::print_rows;
+use crate::counts::{count, print_answers, print_rows, Answers};
+use crate::fronts::front_of;
 use crate::message_calls::MadeUpCall;
+
+/// What a start is refused with.
+const OF_START: [usize; 8] = [2, 3, 4, 5, 24, 6, 23, 28];
 
 /// With none open, with one to which nothing was added, and with one that has bytes.
 type States = [u64; 3];
@@ -22,10 +26,12 @@ fn state_of(message: Message) -> usize {
 }
 
 /// A message and its buffer before a call.
-#[derive(Clone, Copy)]
+#[derive(Clone)]
 pub struct Before {
     pub room: usize,
     pub message: Message,
+    /// That it is for, if one is started.
+    pub map: Option<Vec<u8>>,
     /// How many are finished.
     pub references: u32,
 }
@@ -45,6 +51,7 @@ impl Before {
 
 #[derive(Default)]
 pub struct MessageCounts {
+    starts: StartCounts,
     opened: States,
     closed: States,
     added: States,
@@ -65,7 +72,87 @@ pub struct MessageCounts {
     asked: [[u64; 3]; 3],
     /// By why the list stops: for a reference of it, and for one behind it.
     received: [[u64; 2]; STOPS.len()],
+    /// By why the front cannot be read: for the first reference, and for another.
+    no_front: [[u64; 2]; FRONT_FAULTS.len()],
     made_up: MadeUp,
+}
+
+#[derive(Default)]
+struct StartCounts {
+    answers: Answers,
+    /// Where none is started, and by the state of one that is: accepted, a refusal of the map, and 28.
+    states: [[u64; 3]; 4],
+    /// Accepted again for the map that it was for, for another of the same length, and for one of another.
+    again: [u64; 3],
+    /// In a buffer that lacks one byte, that is just long enough, and that has one byte more.
+    edges: [u64; 3],
+    /// Fronts of 2 bytes, of 6, of 7, and of 8.
+    lengths: [u64; 4],
+}
+
+impl StartCounts {
+    fn count(&mut self, before: &Before, map: &[u8], outcome: &Outcome<Message>) {
+        count(&mut self.answers, outcome);
+        let state = match before.map {
+            None => 0,
+            Some(_) => 1 + state_of(before.message),
+        };
+        let front = front_of(map).len();
+        match outcome {
+            Ok(_) => {
+                self.states[state][0] += 1;
+                self.count_again(before, map);
+                let place = [2, 6, 7, 8].iter().position(|&length| length == front);
+                if let Some(place) = place {
+                    self.lengths[place] += 1;
+                }
+            }
+            Err(Refusal::MessageFull) => self.states[state][2] += 1,
+            Err(_) => {
+                self.states[state][1] += 1;
+                return;
+            }
+        }
+        if let Some(edge @ 0..=2) = (before.room + 1).checked_sub(front) {
+            self.edges[edge] += 1;
+        }
+    }
+
+    fn count_again(&mut self, before: &Before, map: &[u8]) {
+        match &before.map {
+            None => {}
+            Some(same) if same == map => self.again[0] += 1,
+            Some(other) if other.len() == map.len() => self.again[1] += 1,
+            Some(_) => self.again[2] += 1,
+        }
+    }
+
+    fn report(&self) -> Result<(), String> {
+        print_answers("start", &self.answers, &OF_START)?;
+        let states = [
+            ("none started", self.states[0]),
+            ("none open", self.states[1]),
+            ("nothing added", self.states[2]),
+            ("with bytes", self.states[3]),
+        ];
+        print_rows("messages started: accepted, 2 to 24, 28", &states)?;
+        let [same, same_length, other] = self.again;
+        let [lacks_one, just, one_more] = self.edges;
+        let [two, six, seven, eight] = self.lengths;
+        let others = [
+            ("again for the same map", [same]),
+            ("again for another map of its length", [same_length]),
+            ("again for a map of another length", [other]),
+            ("in a buffer that lacks one byte", [lacks_one]),
+            ("in one that is just long enough", [just]),
+            ("in one that has a byte more", [one_more]),
+            ("front of 2 bytes", [two]),
+            ("front of 6 bytes", [six]),
+            ("front of 7 bytes", [seven]),
+            ("front of 8 bytes", [eight]),
+        ];
+        print_rows("messages started, at the edges", &others)
+    }
 }
 
 /// By the call: opening, adding and closing.
@@ -81,6 +168,10 @@ impl MessageCounts {
     pub fn count(&mut self, before: &Before, call: &Call, answer: Answer) {
         let state = state_of(before.message);
         match (call, answer) {
+            (Call::Start { map, .. }, Answer::Message(outcome)) => {
+                self.starts.count(before, map, &outcome);
+            }
+            (Call::Start { .. }, Answer::Part(_)) => {}
             (Call::Open, _) => self.opened[state] += 1,
             (Call::Close, _) => self.closed[state] += 1,
             (Call::Ask(number), _) => {
@@ -143,8 +234,12 @@ impl MessageCounts {
         }
     }
 
-    pub fn count_received(&mut self, list: &List, part: Part) {
-        self.received[list.stop as usize][usize::from(part.byte_count == 0)] += 1;
+    pub fn count_received(&mut self, list: &List, number: u32, part: Part) {
+        let is_behind = usize::from(part.byte_count == 0);
+        match list.stop {
+            Stop::Front(fault) => self.no_front[fault as usize][usize::from(number != 0)] += 1,
+            stop => self.received[place_of(stop)][is_behind] += 1,
+        }
     }
 
     pub fn count_made_up(&mut self, made_up: &MadeUpCall) {
@@ -165,6 +260,7 @@ impl MessageCounts {
 
     /// Prints the counts. Nothing must be missing.
     pub fn report(&self) -> Result<(), String> {
+        self.starts.report()?;
         let calls = [
             ("open: accepted, 27, 27", self.opened),
             ("add: 27, accepted, accepted", self.added),
@@ -183,12 +279,20 @@ impl MessageCounts {
         let title = "messages asked for a finished reference, the next, a later one";
         print_rows(title, &asked)?;
         self.report_additions()?;
-        let received = STOPS.map(|stop| (format!("{stop:?}"), self.received[stop as usize]));
+        let received = STOPS.map(|stop| (format!("{stop:?}"), self.received[place_of(stop)]));
         let received = received
             .each_ref()
             .map(|(stop, counts)| (stop.as_str(), *counts));
         let title = "messages received, a reference of the list and one behind it, by its stop";
         print_rows(title, &received)?;
+        let no_front =
+            FRONT_FAULTS.map(|fault| (format!("{fault:?}"), self.no_front[fault as usize]));
+        let no_front = no_front
+            .each_ref()
+            .map(|(fault, counts)| (fault.as_str(), *counts));
+        let title =
+            "messages received with no front, the first reference and another, by its fault";
+        print_rows(title, &no_front)?;
         let MadeUp {
             past_the_buffer,
             over_459,
@@ -228,6 +332,12 @@ impl MessageCounts {
         ];
         print_rows("messages added to, at the edges", &edges)
     }
+}
+
+/// Among those of lists behind a front.
+fn place_of(stop: Stop) -> usize {
+    let place = STOPS.iter().position(|&other| other == stop);
+    place.expect("the list is behind a front")
 }
 
 fn all_that_hold(reasons: [bool; 3]) -> Vec<usize> {

@@ -5,7 +5,9 @@ use plain::maps::{push_number, Xorshift};
 use plain::message::{bytes_of_length, usable, State, LONGEST_MESSAGE};
 use plain::message_calls::Call;
 
-use crate::inputs::random_bytes;
+use crate::damages::damaged_map;
+use crate::fronts::{any_front, faulty_front, map_with_small_sum, with_one_other_byte};
+use crate::inputs::{any_small_plan, full_size_plan, random_bytes};
 use crate::message_calls::{History, MadeUpCall};
 
 /// At the edges of a length's bytes, and the greatest.
@@ -36,9 +38,42 @@ pub fn any_large_room(rng: &mut Xorshift) -> usize {
     *rng.pick(&[16_383, 16_384, 16_385, 16_386, 16_500, 20_000])
 }
 
-/// Mostly a call that goes on with the message.
-pub fn any_call(rng: &mut Xorshift, history: &History) -> Call {
+/// A buffer that is about as long as a front.
+pub fn any_tight_room(rng: &mut Xorshift) -> usize {
+    rng.below(10) as usize
+}
+
+/// Maps for the starts of one history, some of which may be refused: two of any kind, one that differs from one of them
+/// in one byte, and one with something changed.
+pub fn any_maps(rng: &mut Xorshift) -> Vec<Vec<u8>> {
+    let plan = any_small_plan(rng);
+    let map = plan.encode();
+    vec![
+        with_one_other_byte(rng, &map),
+        damaged_map(rng, &plan),
+        any_small_plan(rng).encode(),
+        map,
+    ]
+}
+
+/// One with a short front and one of full size, whose front goes past a buffer that has a message with the other.
+pub fn any_tight_maps(rng: &mut Xorshift) -> Vec<Vec<u8>> {
+    let kind = u64::from(rng.below(20));
+    let mut maps = vec![map_with_small_sum(rng), full_size_plan(rng, kind).encode()];
+    if rng.below(2) == 0 {
+        maps.extend(any_maps(rng));
+    }
+    maps
+}
+
+/// Mostly a call that goes on with the message. It starts one for one of these maps, if there are any.
+pub fn any_call(rng: &mut Xorshift, history: &History, maps: &[Vec<u8>]) -> Call {
     let is_empty = history.message().added == Some(0);
+    let start_every = if history.is_started() { 20 } else { 1 };
+    if !maps.is_empty() && rng.below(start_every) == 0 {
+        let map: &Vec<u8> = rng.pick(maps);
+        return Call::start(map);
+    }
     match (rng.below(20), history.message().added) {
         (0, _) => Call::Open,
         (1, _) => Call::Close,
@@ -101,12 +136,21 @@ pub fn portions(rng: &mut Xorshift, reference: &[u8]) -> [Vec<u8>; 2] {
     [&reference[..place], &reference[place..]].map(<[u8]>::to_vec)
 }
 
-/// References, and often something behind them that stops the list.
+/// A front, mostly one that can be read, then references, and often something behind them that stops the list.
 pub fn any_received(rng: &mut Xorshift) -> Vec<u8> {
-    let mut message = Vec::new();
+    let mut message = match rng.below(8) {
+        0 => {
+            let front = faulty_front(rng, 35, 1 << 30);
+            if rng.below(2) == 0 {
+                return front;
+            }
+            front
+        }
+        _ => any_front(rng),
+    };
     match rng.below(16) {
         0 => return random_bytes(rng, &[0, 1, 2, 3, 8, 300]),
-        1 => return any_longest(rng),
+        1 => return any_longest(rng, message),
         _ => {
             for _ in 0..rng.below(6) {
                 push_any_reference(rng, &mut message);
@@ -170,9 +214,8 @@ fn push_any_stop(rng: &mut Xorshift, message: &mut Vec<u8>) {
     push_any_reference(rng, message);
 }
 
-/// A message of 16,384 bytes or a few less, and often more references behind them.
-fn any_longest(rng: &mut Xorshift) -> Vec<u8> {
-    let mut message = Vec::new();
+/// A message of 16,384 bytes or a few less behind this front, and often more references behind them.
+fn any_longest(rng: &mut Xorshift, mut message: Vec<u8>) -> Vec<u8> {
     let left = *rng.pick(&[0, 0, 1, 1, 2, 3, 129, 130]);
     fill(rng, &mut message, LONGEST_MESSAGE - left);
     for _ in 0..rng.below(4) {

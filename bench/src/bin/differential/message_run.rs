@@ -9,13 +9,15 @@ use plain::message_list::list;
 
 use crate::calls::ReadCall;
 use crate::counts::print_rows;
+use crate::fronts::front_of;
 use crate::inputs::random_bytes;
 use crate::message_calls::{History, ReceivedCall};
 use crate::message_counts::{Before, MessageCounts};
 use crate::message_inputs::{
-    any_call, any_large_room, any_made_up, any_number, any_received, any_room, portions,
-    quick_portion,
+    any_call, any_large_room, any_made_up, any_maps, any_number, any_received, any_room,
+    any_tight_maps, any_tight_room, portions, quick_portion,
 };
+use crate::of_message_calls::{Place, ReadOfMessageCall};
 use crate::point_calls::ReadPointCall;
 use crate::run::ENOUGH_FOR_LINES;
 
@@ -26,8 +28,10 @@ const LARGE_EVERY: u64 = 60;
 pub struct MessageRun {
     pub calls: u64,
     counts: MessageCounts,
-    /// References of stretches and of points that were read where they stand in a message.
+    /// References of stretches and of points that were read where they stand in a message, by themselves and out of
+    /// it.
     read_within: [u64; 2],
+    read_of_message: [u64; 2],
 }
 
 impl MessageRun {
@@ -42,27 +46,58 @@ impl MessageRun {
     }
 
     fn small_history(&mut self, rng: &mut Xorshift) -> Result<(), String> {
-        let mut history = History::new(any_room(rng));
-        self.any_calls(rng, &mut history, 12)
+        if rng.below(4) == 0 {
+            return self.tight_history(rng);
+        }
+        let maps = any_maps(rng);
+        // So long behind a front.
+        let front = front_of(rng.pick::<Vec<u8>>(&maps)).len();
+        let room = front + any_room(rng);
+        self.any_calls(rng, &mut History::new(room), &maps, 20)
+    }
+
+    /// In a buffer about as long as a front. Most of them have a short front, and what fits behind it, before a start
+    /// with a long one.
+    fn tight_history(&mut self, rng: &mut Xorshift) -> Result<(), String> {
+        let (room, maps) = (any_tight_room(rng), any_tight_maps(rng));
+        let mut history = History::new(room);
+        let [short, long] = [&maps[0], &maps[1]].map(|map| Call::start(map));
+        let calls = [short, Call::Open, Call::Add(vec![0xAA]), Call::Close];
+        for call in &calls[..rng.below(5) as usize] {
+            if history.is_started() || *call == calls[0] {
+                let _ = self.make(&mut history, call.clone())?;
+            }
+        }
+        let _ = self.make(&mut history, long)?;
+        self.any_calls(rng, &mut history, &maps, 12)
     }
 
     /// References of about 459 bytes until the message is nearly full, and then any calls.
     fn large_history(&mut self, rng: &mut Xorshift) -> Result<(), String> {
         let mut history = History::new(any_large_room(rng));
+        let mut maps = any_maps(rng);
+        while !history.is_started() {
+            let map: &Vec<u8> = rng.pick(&maps);
+            let _ = self.make(&mut history, Call::start(map))?;
+            maps = any_maps(rng);
+        }
         while let Some(portion) = quick_portion(rng, &history) {
             self.put(&mut history, [portion])?;
         }
-        self.any_calls(rng, &mut history, 40)
+        // Another start would begin anew.
+        maps.truncate(rng.below(2) as usize);
+        self.any_calls(rng, &mut history, &maps, 40)
     }
 
     fn any_calls(
         &mut self,
         rng: &mut Xorshift,
         history: &mut History,
+        maps: &[Vec<u8>],
         count: u32,
     ) -> Result<(), String> {
         for _ in 0..count {
-            let call = any_call(rng, history);
+            let call = any_call(rng, history, maps);
             let _ = self.make(history, call)?;
         }
         Ok(())
@@ -86,6 +121,7 @@ impl MessageRun {
         let before = Before {
             room: history.room(),
             message: history.message(),
+            map: history.map().map(<[u8]>::to_vec),
             references: history.references(),
         };
         let made = history.make(call.clone());
@@ -102,7 +138,7 @@ impl MessageRun {
         self.calls += 1;
         let compared = call.compare();
         let part = compared.map_err(|difference| format!("{call}\n{difference}"))?;
-        self.counts.count_received(&list, part);
+        self.counts.count_received(&list, number, part);
         Ok(())
     }
 
@@ -114,7 +150,7 @@ impl MessageRun {
         checked.map_err(|difference| format!("{call}\n{difference}"))
     }
 
-    /// What was written on a map, in one message with other bytes between, is there and is read there as by
+    /// What was written on a map, in one message for it with other bytes between, is there and is read there as by
     /// itself.
     pub fn written(
         &mut self,
@@ -124,6 +160,7 @@ impl MessageRun {
     ) -> Result<(), String> {
         rng.shuffle(&mut references);
         let mut history = History::new(LONGEST_MESSAGE);
+        let _ = self.make(&mut history, Call::start(map))?;
         let mut numbers = Vec::new();
         for reference in &references {
             if rng.below(4) == 0 {
@@ -157,7 +194,10 @@ impl MessageRun {
             Answer::Part(Part { from, byte_count })
                 if message[from as usize..][..byte_count as usize] == *reference =>
             {
-                compare_within(map, reference, message, from as usize)
+                compare_within(map, reference, message, from as usize)?;
+                self.calls += 1;
+                self.read_of_message[usize::from(is_point(reference))] += 1;
+                compare_of_message(map, reference, history, from as usize)
             }
             _ => Err(format!("{answer:?} is not {reference:02X?}")),
         }
@@ -167,13 +207,39 @@ impl MessageRun {
     pub fn report(&self) -> Result<(), String> {
         println!("messages: {} calls", self.calls);
         self.counts.report()?;
-        let read = [("as by themselves", self.read_within)];
+        let read = [
+            ("as by themselves", self.read_within),
+            ("out of the message", self.read_of_message),
+        ];
         print_rows("messages with stretches and points, read there", &read)
     }
 }
 
 fn is_point(reference: &[u8]) -> bool {
     reference[0] == POINT_STATUS_BYTE
+}
+
+/// The C reader, given the part and the message, accepts what was written.
+fn compare_of_message(
+    map: &[u8],
+    reference: &[u8],
+    history: &mut History,
+    from: usize,
+) -> Result<(), String> {
+    let message_len = history.message().byte_count as usize;
+    let call = ReadOfMessageCall {
+        is_point: is_point(reference),
+        map,
+        lent: history.bytes(),
+        message_len,
+        reference: Place::Within(from..from + reference.len()),
+        room: ENOUGH_FOR_LINES,
+    };
+    match call.compare() {
+        Ok(Ok(_)) => Ok(()),
+        Ok(Err(refusal)) => Err(format!("{call}\n{refusal} of what was written")),
+        Err(difference) => Err(format!("{call}\n{difference}")),
+    }
 }
 
 /// The C reader, given the part as it stands in the message, answers what the plain one answers to the

@@ -3,10 +3,11 @@
 use std::fmt;
 
 use plain::hexadecimal::{bytes, digits};
+use plain::openlr::{PointAnswer, PointWrittenAnswer};
 use plain::outcome::{Outcome, PointReading, Refusal, WORK_AREA};
 use plain::point::{read_point, write_point, Point};
 
-use crate::c_functions::{self, PointAnswer, PointWrittenAnswer};
+use crate::c_functions;
 use crate::calls::{compare, line_bytes, line_room};
 use crate::memory::Memory;
 
@@ -38,10 +39,7 @@ impl ReadPointCall<'_> {
         from: usize,
     ) -> Result<Outcome<PointReading>, String> {
         let outcome = read_point(self.map, self.reference, WORK_AREA, line_room(self.room));
-        let (answer, result) = match &outcome {
-            Ok(reading) => (point_answer(reading), line_bytes(&reading.lines)),
-            Err(refusal) => (point_refusal(*refusal), Vec::new()),
-        };
+        let (answer, result) = expected_point(&outcome);
         let memory = Memory::new(self.map, message, self.room);
         let part = from..from + self.reference.len();
         let read = |memory: &mut Memory| c_functions::read_point(memory, part);
@@ -110,24 +108,10 @@ fn written_refusal(refusal: Refusal) -> PointWrittenAnswer {
     }
 }
 
-fn point_answer(reading: &PointReading) -> PointAnswer {
-    PointAnswer {
-        refusal: 0,
-        place: 0,
-        lines: reading.lines.len() as u32,
-        least: reading.offset.least,
-        greatest: reading.offset.greatest,
-        orientation: reading.orientation,
-        side: reading.side,
-    }
-}
-
-fn point_refusal(refusal: Refusal) -> PointAnswer {
-    PointAnswer {
-        refusal: refusal.number(),
-        place: refusal.place().unwrap_or(0),
-        ..PointAnswer::default()
-    }
+/// What C answers to a reading, and what it puts into the line buffer.
+pub fn expected_point(outcome: &Outcome<PointReading>) -> (PointAnswer, Vec<u8>) {
+    let lines = outcome.as_ref().map(|reading| line_bytes(&reading.lines));
+    (PointAnswer::of(outcome), lines.unwrap_or_default())
 }
 
 /// As `differential replay` takes it.

@@ -9,6 +9,7 @@ use crate::counts::{count, print_answers, Answers};
 use crate::inputs::{any_reference, random_bytes, room_at_the_edge};
 use crate::length_counts::LengthCounts;
 use crate::meridian::Meridian;
+use crate::of_message_run::OfMessageRun;
 use crate::offset_counts::PointOffsets;
 use crate::point_calls::{ReadPointCall, WritePointCall};
 use crate::point_counts::PointCounts;
@@ -29,6 +30,7 @@ pub struct PointRun {
     steps: StepCounts,
     lengths: LengthCounts,
     counts: PointCounts,
+    pub of_message: OfMessageRun,
     /// References to points on the map.
     pub written: Vec<Vec<u8>>,
 }
@@ -151,6 +153,12 @@ impl PointRun {
         let outcome = compared.map_err(|difference| format!("{call}\n{difference}"))?;
         count(&mut self.reads, &outcome);
         self.count_refused(&outcome, call.map, step_counts::READER);
+        let ReadPointCall {
+            map,
+            reference,
+            room,
+        } = call;
+        self.of_message.also(true, map, reference, room)?;
         Ok(outcome)
     }
 
@@ -239,6 +247,10 @@ impl PointRun {
         self.counts.report()?;
         print_answers("write point", &self.writes, &OF_WRITER)?;
         print_answers("read point", &self.reads, &OF_READER)
+    }
+
+    pub fn report_of_message(&self) -> Result<(), String> {
+        self.of_message.report("read point", &OF_READER)
     }
 }
 

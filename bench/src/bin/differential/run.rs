@@ -17,6 +17,7 @@ use crate::inputs::{
 use crate::length_counts::LengthCounts;
 use crate::meridian::Meridian;
 use crate::message_run::MessageRun;
+use crate::of_message_run::OfMessageRun;
 use crate::offset_counts::StretchOffsets;
 use crate::point_inputs::any_point_reference;
 use crate::point_run::PointRun;
@@ -57,6 +58,7 @@ pub struct Run {
     lengths: LengthCounts,
     points: PointRun,
     messages: MessageRun,
+    of_message: OfMessageRun,
     /// References to stretches of the map.
     written: Vec<Vec<u8>>,
 }
@@ -107,7 +109,8 @@ impl Sample {
 
 impl Run {
     pub fn calls(&self) -> u64 {
-        self.calls + self.points.calls + self.messages.calls
+        let of_message = self.of_message.calls + self.points.of_message.calls;
+        self.calls + self.points.calls + self.messages.calls + of_message
     }
 
     pub fn turn(&mut self, rng: &mut Xorshift, turn: u64) -> Result<(), String> {
@@ -313,6 +316,12 @@ impl Run {
         let outcome = compared.map_err(|difference| format!("{call}\n{difference}"))?;
         count(&mut self.reads, &outcome);
         self.count_refused(&outcome, call.map, step_counts::READER);
+        let ReadCall {
+            map,
+            reference,
+            room,
+        } = call;
+        self.of_message.also(false, map, reference, room)?;
         let lines = outcome.as_ref().map_or(0, |reading| reading.lines.len());
         self.most_lines = self.most_lines.max(lines);
         Ok(outcome)
@@ -421,7 +430,9 @@ impl Run {
         print_answers("write", &self.writes, &OF_WRITER)?;
         print_answers("read", &self.reads, &OF_READER)?;
         self.points.report()?;
-        self.messages.report()
+        self.messages.report()?;
+        self.of_message.report("read", &OF_READER)?;
+        self.points.report_of_message()
     }
 }
 

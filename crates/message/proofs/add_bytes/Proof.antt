@@ -5,7 +5,7 @@ use mathlib.Core.Bool.{true}
 use denote.Ref.{now}
 use mathlib.Core.List.{List, _++_}
 use lib.ListN.{length, take, length-drop}
-use Rattle.message.proofs.Rooms.{tail-lent, tail-back}
+use Rattle.buffers.proofs.Lent.{tail-lent, tail-back}
 use borrow.Author.Tests.{not-true, not-false}
 use Rattle.model.specs.MessageCall.{fits, extended}
 use Rattle.message_laws.proofs.Fitting.{behind-finished, end-is, Fit, fit-of}

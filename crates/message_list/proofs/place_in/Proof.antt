@@ -1,89 +1,45 @@
--- `place_in` meets its contract: number n of the message is number `left` of what stands from `at` on. Each turn takes a byte at least, so there are no more
--- turns than bytes.
-use Prim.Native.Nat.{ℕ, _-_, _<_}
+-- `place_in` meets its contract: the references stand behind the front, if it can be read.
 use mathlib.Core.Path.{subst}
-use mathlib.Core.List.{List}
-use denote.Ref.{now}
-use native.Mathlib.Omega.{arith}
+use Rattle.front.specs.Front.{FrontIs}
+use Rattle.message_laws.proofs.Parts.{asked-unread}
 use borrow.Author.Needs.{needs}
-use lib.ListN.{length, drop}
-use Rattle.model.specs.Message.{next}
-use Rattle.message_list.specs.Entry.{Stands, EntryIs}
-use Rattle.message_laws.proofs.Parts.{Asked, asked-start, asked-stop, asked-here, asked-later}
 use Rattle.message_list.proofs.place_in.Statement.{statement}
 use Rattle.message_list.proofs.place_in.Tie as tie
 use Rattle.message_list.proofs.place_in.Reads as reads
 use Rattle.message_list.proofs.place_in.Lts as lts
-use Rattle.message_list.proofs.entry_at.Reads as entry-at-reads
+use Rattle.front.proofs.read_front.Reads as read-front-reads
+use Rattle.message_list.proofs.place_behind.Reads as place-behind-reads
 
-abbrev Inv-loop : tie.InvT-loop
-Inv-loop message n at₀ left₀ at left = Asked n message at left
+read-front-requires : tie.Need-read-front-requires
+read-front-requires c κs = search needs
 
-abbrev μ-loop : tie.MeasureT-loop
-μ-loop message n at₀ left₀ at left = length message - at
+enum-known-behind : tie.Need-enum-known-behind
+enum-known-behind c = search needs
 
--- The reference that was found.
-abbrev bytes-at : tie.After-start Inv-loop μ-loop → List ℕ
-bytes-at h = now (h .before .before .before .before .before .args .message)
+place-behind-requires : tie.Need-place-behind-requires
+place-behind-requires c κs =
+    let h = c .before in
+    let r = subst (FrontIs _) (h .behind .given .1) (h .before .before .read-front .ensures) in
+    ((h .before .before .before .before .pre, r .1), (h .behind .given .0 .0, h .behind .given .0 .1 .0, r .0))
 
-stands : (h : tie.After-start Inv-loop μ-loop) →
-    Stands (bytes-at h) (next (drop (h .before .before .before .loop .at) (bytes-at h))) (h .start .given .0 .0) (h .start .given .0 .1 .0)
-stands h =
-    subst (EntryIs (bytes-at h) (next (drop (h .before .before .before .loop .at) (bytes-at h)))) (h .start .given .1) (h .before .before .entry-at .ensures)
-
-loop-holds : tie.Need-loop-holds Inv-loop μ-loop
-loop-holds c = asked-start _ _ (c .before .pre)
-
-entry-at-requires : tie.Need-entry-at-requires Inv-loop μ-loop
-entry-at-requires c κs = search needs
-
-enum-known-start : tie.Need-enum-known-start Inv-loop μ-loop
-enum-known-start c = search needs
-
-enum-told : tie.Need-enum-told Inv-loop μ-loop
+enum-told : tie.Need-enum-told
 enum-told c = search needs
 
-returns : tie.Need-returns Inv-loop μ-loop
-returns c =
-    asked-stop (c .before .before .before .loop .inv) (subst (EntryIs _ _) (c .enum-told .given .1) (c .before .before .entry-at .ensures))
+returns : tie.Need-returns
+returns c = search needs
 
-returns-2 : tie.Need-returns-2 Inv-loop μ-loop
+returns-2 : tie.Need-returns-2
 returns-2 c =
-    let h = c .before .before in
-    let s = stands h in
-    asked-here (h .before .before .before .loop .inv) _ _ (s .ordered) (s .inside) (s .is) (c .if1 .taken)
-
-sub-left : tie.Need-sub-left Inv-loop μ-loop
-sub-left c = search needs
-
--- The next turn.
-next-turn : (c : tie.Else1 Inv-loop μ-loop) →
-    (c .before .before .before .before .before .loop .at < c .before .before .start .given .0 .1 .0)
-    × Asked (c .before .before .before .before .before .before .before .args .n) (bytes-at (c .before .before)) (c .before .before .start .given .0 .1 .0)
-    (c .before .before .before .before .before .loop .left - 1)
-next-turn c =
-    let h = c .before .before in
-    let s = stands h in
-    asked-later (h .before .before .before .loop .inv) _ _ (s .ordered) (s .inside) (s .is) (omega arith)
-
-loop-less : tie.Need-loop-less Inv-loop μ-loop
-loop-less c = let s = stands (c .before .before) in omega (arith, next-turn c .0, s .inside)
-
-loop-again : tie.Need-loop-again Inv-loop μ-loop
-loop-again c = next-turn c .1
+    let r = subst (FrontIs _) (c .enum-told .given .1) (c .before .before .read-front .ensures) in
+    asked-unread _ _ (c .before .before .before .before .pre) r
 
 pub place-in-spec : {M : Type 1} → statement M
 place-in-spec =
     tie.close
     (tie.spec
-    Inv-loop
-    μ-loop
-    loop-holds
-    entry-at-requires
-    enum-known-start
+    read-front-requires
+    enum-known-behind
+    place-behind-requires
     enum-told
     returns
-    returns-2
-    sub-left
-    loop-less
-    loop-again)
+    returns-2)

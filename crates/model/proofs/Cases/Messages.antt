@@ -9,28 +9,33 @@ use Rattle.model.specs.declared.MessageAnswer.the-variants.{Now, Refused
 use Rattle.model.specs.Refusal.{numberOf, refusalOf}
 use Rattle.model.specs.Number.{groups, number, groupBytes, numberBytes}
 use Rattle.model.specs.Work.{placed}
-use Rattle.model.specs.Message.{lengthBytes, framed, framedAll, ofLength, next, references, listed, referenceNumber, behind, endOfNumber, startOfNumber}
+use Rattle.model.specs.Front.{summed, mapSum, frontBytes, frontOf}
+use Rattle.model.specs.Message.{lengthBytes, framed, framedAll, ofLength, next, references, listedBehind, listed, referenceNumber, behind, leftBehind, leftOf, endOfNumber, startOfNumber}
 use Rattle.model.specs.MessageCall.{endOf, fits, opening, closing, adding, soFar, extended, bufferAdded, finishedNumber}
-use Rattle.model.specs.MessageHistory.{whole, partial, contentBytes, Call, opens, adds, closes, done, refused, lengthened, outcome, left, after, stateOf}
+use Rattle.model.specs.MessageHistory.{whole, partial, finishedOf, contentBytes, Call, opens, adds, closes, done, refused, lengthened, outcome, left, after, stateOf}
 use Rattle.model.specs.HostMessage.{messageOf, hostMessage, hostPart}
+
+-- Bytes as of a map, whose front is 02 83 02: two bytes, and a sum of 259.
+abbrev mb : List ℕ
+mb = 1 ∷ 2 ∷ []
 
 -- A finished reference 01 02 03, added in two portions, and an open one that has 09 so far. The latest call stands first.
 abbrev calls : List Call
 calls = adds (9 ∷ []) ∷ opens ∷ closes ∷ adds (3 ∷ []) ∷ adds (1 ∷ 2 ∷ []) ∷ opens ∷ []
 
 pub record Written : Type 0 where
-  pub bytes : contentBytes (after 100 calls) ≡ 3 ∷ 1 ∷ 2 ∷ 3 ∷ 1 ∷ 9 ∷ []
-  pub state : stateOf (after 100 calls) ≡ Open 4 1
-  -- Refusals change nothing: adding with none open, closing with nothing added, opening twice, an addition past the room of 3.
-  pub refusals : after 3 (adds (4 ∷ []) ∷ adds (7 ∷ 8 ∷ []) ∷ opens ∷ closes ∷ opens ∷ adds (5 ∷ []) ∷ []) ≡ partial [] (7 ∷ 8 ∷ [])
-  pub order : outcome 0 (whole []) (adds (5 ∷ [])) ≡ refused 27
-  pub empty-to-none : outcome 100 (whole []) (adds []) ≡ refused 27
-  pub empty-in-no-room : outcome 0 (partial [] []) (adds []) ≡ done (partial [] [])
-  pub past-the-room : outcome 2 (partial [] (7 ∷ [])) (adds (8 ∷ [])) ≡ refused 28
-  pub to-the-room : outcome 3 (partial [] (7 ∷ [])) (adds (8 ∷ [])) ≡ done (partial [] (7 ∷ 8 ∷ []))
+  pub bytes : contentBytes mb (after mb 100 calls) ≡ 2 ∷ 131 ∷ 2 ∷ 3 ∷ 1 ∷ 2 ∷ 3 ∷ 1 ∷ 9 ∷ []
+  pub state : stateOf mb (after mb 100 calls) ≡ Open 7 1
+  -- Refusals change nothing: adding with none open, closing with nothing added, opening twice, an addition past the room of 6, front counted.
+  pub refusals : after mb 6 (adds (4 ∷ []) ∷ adds (7 ∷ 8 ∷ []) ∷ opens ∷ closes ∷ opens ∷ adds (5 ∷ []) ∷ []) ≡ partial [] (7 ∷ 8 ∷ [])
+  pub order : outcome mb 0 (whole []) (adds (5 ∷ [])) ≡ refused 27
+  pub empty-to-none : outcome mb 100 (whole []) (adds []) ≡ refused 27
+  pub empty-in-no-room : outcome mb 3 (partial [] []) (adds []) ≡ done (partial [] [])
+  pub past-the-room : outcome mb 5 (partial [] (7 ∷ [])) (adds (8 ∷ [])) ≡ refused 28
+  pub to-the-room : outcome mb 6 (partial [] (7 ∷ [])) (adds (8 ∷ [])) ≡ done (partial [] (7 ∷ 8 ∷ []))
 
 written : Written
-unfolding contentBytes framedAll framed lengthBytes numberBytes groupBytes lengthened outcome left after stateOf
+unfolding finishedOf contentBytes frontBytes mapSum summed framedAll framed lengthBytes numberBytes groupBytes lengthened outcome left after stateOf
 written =
     record {
       bytes = refl;
@@ -64,11 +69,11 @@ pub record Called : Type 0 where
   pub moved : bufferAdded (Open 0 127) (127 ∷ replicate 127 7 ++ 1 ∷ 2 ∷ 3 ∷ []) (9 ∷ []) ≡ 128 ∷ 1 ∷ replicate 127 7 ++ 9 ∷ 3 ∷ []
   pub behind-finished : bufferAdded (Open 2 1) (1 ∷ 7 ∷ 1 ∷ 8 ∷ 5 ∷ 6 ∷ []) (9 ∷ []) ≡ 1 ∷ 7 ∷ 2 ∷ 8 ∷ 9 ∷ 6 ∷ []
   -- The open one, 08, is not there yet.
-  pub finished : finishedNumber (Open 2 1) (1 ∷ 7 ∷ 1 ∷ 8 ∷ []) 0 ≡ 7 ∷ []
-  pub not-yet : finishedNumber (Open 2 1) (1 ∷ 7 ∷ 1 ∷ 8 ∷ []) 1 ≡ []
+  pub finished : finishedNumber (Open 5 1) (2 ∷ 131 ∷ 2 ∷ 1 ∷ 7 ∷ 1 ∷ 8 ∷ []) 0 ≡ 7 ∷ []
+  pub not-yet : finishedNumber (Open 5 1) (2 ∷ 131 ∷ 2 ∷ 1 ∷ 7 ∷ 1 ∷ 8 ∷ []) 1 ≡ []
 
 called : Called
-unfolding lengthBytes framed numberBytes groupBytes endOf fits opening closing adding soFar extended placed bufferAdded finishedNumber referenceNumber listed references next ofLength number groups
+unfolding lengthBytes framed numberBytes groupBytes endOf fits opening closing adding soFar extended placed bufferAdded finishedNumber referenceNumber frontOf listedBehind listed references next ofLength number groups
 called =
     record {
       opened = refl;
@@ -92,28 +97,28 @@ called =
       not-yet = refl;
     }
 
--- A received message: 07 08, then 09, then a length of 0.
+-- A received message behind a front: 07 08, then 09, then a length of 0.
 abbrev stopped : List ℕ
-stopped = 2 ∷ 7 ∷ 8 ∷ 1 ∷ 9 ∷ 0 ∷ 1 ∷ 5 ∷ []
+stopped = 2 ∷ 131 ∷ 2 ∷ 2 ∷ 7 ∷ 8 ∷ 1 ∷ 9 ∷ 0 ∷ 1 ∷ 5 ∷ []
 
 pub record Received : Type 0 where
   pub at-zero : listed stopped ≡ (7 ∷ 8 ∷ []) ∷ (9 ∷ []) ∷ []
-  pub early : listed (2 ∷ 7 ∷ 8 ∷ 3 ∷ 9 ∷ []) ≡ (7 ∷ 8 ∷ []) ∷ []
-  pub not-shortest : listed (1 ∷ 7 ∷ 129 ∷ 0 ∷ 9 ∷ []) ≡ (7 ∷ []) ∷ []
+  pub early : listed (6 ∷ 5 ∷ 2 ∷ 7 ∷ 8 ∷ 3 ∷ 9 ∷ []) ≡ (7 ∷ 8 ∷ []) ∷ []
+  pub not-shortest : listed (6 ∷ 5 ∷ 1 ∷ 7 ∷ 129 ∷ 0 ∷ 9 ∷ []) ≡ (7 ∷ []) ∷ []
   -- 4,294,967,297 in five bytes.
-  pub too-large : listed (1 ∷ 7 ∷ 129 ∷ 128 ∷ 128 ∷ 128 ∷ 16 ∷ 9 ∷ []) ≡ (7 ∷ []) ∷ []
-  pub of-459 : listed (203 ∷ 3 ∷ replicate 459 7) ≡ replicate 459 7 ∷ []
-  pub of-460 : listed (204 ∷ 3 ∷ replicate 460 7) ≡ []
+  pub too-large : listed (6 ∷ 5 ∷ 1 ∷ 7 ∷ 129 ∷ 128 ∷ 128 ∷ 128 ∷ 16 ∷ 9 ∷ []) ≡ (7 ∷ []) ∷ []
+  pub of-459 : listed (6 ∷ 5 ∷ 203 ∷ 3 ∷ replicate 459 7) ≡ replicate 459 7 ∷ []
+  pub of-460 : listed (6 ∷ 5 ∷ 204 ∷ 3 ∷ replicate 460 7) ≡ []
   pub second : referenceNumber 1 stopped ≡ 9 ∷ []
   pub third : referenceNumber 2 stopped ≡ []
-  -- From byte 4 up to byte 5; where there is none, at byte 5, where the list stops.
-  pub second-starts : startOfNumber 1 stopped ≡ 4
-  pub second-ends : endOfNumber 1 stopped ≡ 5
-  pub stops-at : startOfNumber 2 stopped ≡ 5
-  pub still-stops : endOfNumber 7 stopped ≡ 5
+  -- From byte 7 up to byte 8; where there is none, at byte 8, where the list stops.
+  pub second-starts : startOfNumber 1 stopped ≡ 7
+  pub second-ends : endOfNumber 1 stopped ≡ 8
+  pub stops-at : startOfNumber 2 stopped ≡ 8
+  pub still-stops : endOfNumber 7 stopped ≡ 8
 
 received : Received
-unfolding listed references next ofLength number groups referenceNumber behind endOfNumber startOfNumber
+unfolding frontOf listedBehind leftBehind leftOf listed references next ofLength number groups referenceNumber behind endOfNumber startOfNumber
 received =
     record {
       at-zero = refl;
@@ -137,8 +142,8 @@ pub record Hosted : Type 0 where
   pub refused : hostMessage (record { refusal = 0; bytes = 4; isOpen = 7; added = 3 }) (Refused MessageFull)
       ≡ record { refusal = 28; bytes = 4; isOpen = 7; added = 3 }
   pub done : hostMessage (record { refusal = 27; bytes = 4; isOpen = 7; added = 3 }) (Now (Closed 8)) ≡ record { refusal = 0; bytes = 8; isOpen = 0; added = 0 }
-  pub part : hostPart 1 stopped ≡ record { start = 4; bytes = 1 }
+  pub part : hostPart 1 stopped ≡ record { start = 7; bytes = 1 }
 
 hosted : Hosted
-unfolding messageOf hostMessage numberOf refusalOf hostPart listed references next ofLength number groups referenceNumber behind endOfNumber startOfNumber
+unfolding messageOf hostMessage numberOf refusalOf hostPart frontOf listedBehind leftBehind leftOf listed references next ofLength number groups referenceNumber behind endOfNumber startOfNumber
 hosted = record { means-closed = refl; means-open = refl; refused = refl; done = refl; part = refl }

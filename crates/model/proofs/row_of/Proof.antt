@@ -88,6 +88,9 @@ enum-told-24 c = search needs
 enum-told-25 : tie.Need-enum-told-25
 enum-told-25 c = search needs
 
+enum-told-26 : tie.Need-enum-told-26
+enum-told-26 c = search needs
+
 returns : tie.Need-returns
 unfolding numberOf placeOf refusalOf
 returns c = (simp (c .enum-told .given .1), simp (c .enum-told .given .1))
@@ -200,6 +203,10 @@ returns-28 : tie.Need-returns-28
 unfolding numberOf placeOf refusalOf
 returns-28 c = (simp (c .enum-told25 .given .1), simp (c .enum-told25 .given .1))
 
+returns-29 : tie.Need-returns-29
+unfolding numberOf placeOf refusalOf
+returns-29 c = (simp (c .enum-told26 .given .1), simp (c .enum-told26 .given .1))
+
 pub row-of-spec : {M : Type 1} → statement M
 row-of-spec =
     tie.close
@@ -232,6 +239,7 @@ row-of-spec =
     enum-told-23
     enum-told-24
     enum-told-25
+    enum-told-26
     returns
     returns-2
     returns-3
@@ -259,4 +267,5 @@ row-of-spec =
     returns-25
     returns-26
     returns-27
-    returns-28)
+    returns-28
+    returns-29)

@@ -10,7 +10,6 @@ use Rattle.test_messages.proofs.begin.Lts as lts
 use Rattle.buffers.proofs.lesser.Reads as lesser-reads
 use Rattle.cases.proofs.word_at.Reads as word-at-reads
 use Rattle.marks.proofs.fill_bytes.Reads as fill-bytes-reads
-use Rattle.message.proofs.empty.Reads as empty-reads
 
 word-at-requires : tie.Need-word-at-requires
 word-at-requires c κs = search needs
@@ -30,9 +29,6 @@ slice-aggregate-fill-bytes c = sym (length-take-le _ _ (omega (arith, c .before 
 fill-bytes-requires : tie.Need-fill-bytes-requires
 fill-bytes-requires c κs = search needs
 
-empty-requires : tie.Need-empty-requires
-empty-requires c κs = search needs
-
 same-length : tie.Need-same-length
 same-length c = search needs
 
@@ -49,6 +45,5 @@ begin-spec =
     slice-relend-prefix-fill-bytes
     slice-aggregate-fill-bytes
     fill-bytes-requires
-    empty-requires
     same-length
     returns)

@@ -1,0 +1,2 @@
+-- Laws of starting a message.
+pub mod Starts
