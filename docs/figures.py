@@ -34,7 +34,7 @@ A row of offsets is of all spans or bytes that it names, each by a call of its o
 A row of "tests" writes stretches of 64 lines, which have 2,080 legs, with so many leg tests; the other rows of stretches have tests for all. Many calls with
 few tests are refused. Plain Rust answers what the tests would give and makes only those that matter to it.
 A row of messages is of the C functions, which both sides are called as: of so many calls where it names a number of them, else of one whole message. A morning
-puts as many references as fit into a message, each at once, and asks for every one of them.
+puts as many references as fit into a message, each at once, and asks for every one of them. Whole messages start on a map of few bytes.
 """
 
 OF_MESSAGE = """\
