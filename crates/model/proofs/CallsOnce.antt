@@ -8,7 +8,7 @@ use native.Mathlib.Omega.{arith}
 use lib.ListN.{length}
 use lib.Dec.{eqb}
 use Rattle.model.specs.declared.Refusal.{Refusal}
-use Rattle.model.specs.declared.Refusal.TheVariants.{WorkAreaShort, MapNumber, MapCount, MapCoordinate, MapLine, EqualCodes, StretchLines, StretchGap, StretchOffsets, NoChoice, BytesShort, ReferenceLength, ReferenceStatus, ReferenceBits, ReferenceFlags, NoNode, NoReading, SeveralReadings, NoOffset, LinesShort, StretchBan, JoinedBan, MapBan, MapStep, PointMarks, Unfinished, MessageOrder, MessageFull, OtherMap, BoardNumber, NoSight}
+use Rattle.model.specs.declared.Refusal.TheVariants.{WorkAreaShort, MapNumber, MapCount, MapCoordinate, MapLine, EqualCodes, StretchLines, StretchGap, StretchOffsets, NoChoice, BytesShort, ReferenceLength, ReferenceStatus, ReferenceBits, ReferenceFlags, NoNode, NoReading, SeveralReadings, NoOffset, LinesShort, StretchBan, JoinedBan, MapBan, MapStep, PointMarks, Unfinished, MessageOrder, MessageFull, OtherMap}
 use Rattle.model.specs.declared.ReadAnswer.{ReadAnswer}
 use Rattle.model.specs.declared.WriteAnswer.{WriteAnswer}
 use Rattle.model.specs.declared.PointReadAnswer.{PointReadAnswer}
@@ -53,8 +53,7 @@ case_of n k =
     (cond (eqb n 15) ReferenceFlags (cond (eqb n 16) (NoNode k) (cond (eqb n 17) (NoReading k) (cond (eqb n 18) (SeveralReadings k)
     (cond (eqb n 19) NoOffset (cond (eqb n 20) LinesShort (cond (eqb n 21) StretchBan (cond (eqb n 22) JoinedBan
     (cond (eqb n 23) MapBan (cond (eqb n 24) MapStep (cond (eqb n 25) PointMarks (cond (eqb n 26) Unfinished
-    (cond (eqb n 27) MessageOrder (cond (eqb n 28) MessageFull (cond (eqb n 30) OtherMap
-    (cond (eqb n 31) BoardNumber NoSight)))))))))))))))))))))))))))))
+    (cond (eqb n 27) MessageOrder (cond (eqb n 28) MessageFull OtherMap)))))))))))))))))))))))))))
 
 case_back : (why : Refusal) → case_of (number_of (refusal_of why)) (place_of (refusal_of why)) ≡ why
 unfolding case_of number_of place_of refusal_of
@@ -87,8 +86,6 @@ case_back Unfinished = refl
 case_back MessageOrder = refl
 case_back MessageFull = refl
 case_back OtherMap = refl
-case_back BoardNumber = refl
-case_back NoSight = refl
 
 -- Two cases of the enum are the same row of the table only where they are the same case.
 pub refusal_once : (a b : Refusal) → refusal_of a ≡ refusal_of b → a ≡ b

@@ -42,5 +42,3 @@ pub mod WrongOffsets
 pub mod Messages
 pub mod WrongMessages
 pub mod Fronts
-pub mod Boards
-pub mod WrongViews

@@ -1,5 +1,5 @@
 -- Legs that each have one reading only: every way to read them gives just those readings.
-use Prim.Native.Nat.{ℕ}
+use Prim.Native.Nat.{ℕ, ◌+◌}
 use mathlib.Core.Path.{◌≡◌, refl, sym, ◌∙◌, ap₂}
 use mathlib.Core.Bool.{true, false}
 use mathlib.Core.List.{List, [], ◌∷◌}
@@ -37,7 +37,7 @@ not_several o s = s.differ (o.only _ s.first ∙ sym (o.only _ s.second))
 
 pub legs_read : {m : Map} {k : ℕ} {legs : List Leg} {lss : List (List ℕ)} → Sole m legs lss → LegsRead m k legs (every lss)
 legs_read none = LegsRead.none
-legs_read (also o s) = LegsRead.only o (legs_read s)
+legs_read {k = k} (also o s) = LegsRead.only o (legs_read {k = k + 1} s)
 
 -- Legs are read in one way.
 pub legs_same : {m : Map} {k : ℕ} {legs : List Leg} {a b : LegsAnswer} → LegsRead m k legs a → LegsRead m k legs b → a ≡ b

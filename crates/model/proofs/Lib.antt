@@ -46,7 +46,6 @@ pub mod SpanEnds
 pub mod PointRows
 pub mod CallsOnce
 pub mod OfMessage
-pub mod BoardViews
 pub mod HostWrote
 pub mod HostDemand3
 pub mod HostPointTrip

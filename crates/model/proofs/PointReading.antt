@@ -156,6 +156,7 @@ module _ (m : Map) (a : PointAlong) (room : ℕ) where
   leg_row : (leg : Leg) {n k : ℕ} → LegsRead m 0 (leg ∷ []) (failed n k) → PointRow (row_at n k)
   leg_row leg (LegsRead.unread u) = no_reading
   leg_row leg (LegsRead.several t) = several
+  leg_row leg (LegsRead.later o h) = elim h [ ]
 
   end_row : (lss : List (List ℕ)) {why : Refused} → ReadEnd m (line_reference a) room lss (ReadOutcome.refused why) → PointRow why
   end_row lss (ReadEnd.no_pos x) = no_offset

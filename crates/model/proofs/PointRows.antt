@@ -79,7 +79,7 @@ point_write_same : (r s : Refused) → PointWriteOutcome.refused r ≡ PointWrit
 point_write_same r s e = cc
 
 write_on_rows : {m : Map} {p : GivenPoint} {room : ℕ} {why : Refused} → PointWriteOn m p room (PointWriteOutcome.refused why) → From 10 11 why
-write_on_rows (PointWriteOn.not-Good n) = at 10 (omega arith) (omega arith)
+write_on_rows (PointWriteOn.not_good n) = at 10 (omega arith) (omega arith)
 write_on_rows (PointWriteOn.no_room g h) = at 11 (omega arith) (omega arith)
 
 checked_rows : (m : Map) (p : GivenPoint) (a : PointCheck) (room : ℕ) (why : Refused) → check_point m p ≡ a →

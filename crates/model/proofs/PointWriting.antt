@@ -22,13 +22,13 @@ use Rattle.model.proofs.Opened.{opens_once, opened}
 
 module _ {m : Map} {p : GivenPoint} {room : ℕ} where
   pub point_write_same : {o o' : PointWriteOutcome} → PointWriteOn m p room o → PointWriteOn m p room o' → o ≡ o'
-  point_write_same (PointWriteOn.not-Good n) (PointWriteOn.not-Good n') = refl
-  point_write_same (PointWriteOn.not-Good n) (PointWriteOn.no_room g h) = absurd (n g)
-  point_write_same (PointWriteOn.not-Good n) (PointWriteOn.accepted g h) = absurd (n g)
-  point_write_same (PointWriteOn.no_room g h) (PointWriteOn.not-Good n) = absurd (n g)
+  point_write_same (PointWriteOn.not_good n) (PointWriteOn.not_good n') = refl
+  point_write_same (PointWriteOn.not_good n) (PointWriteOn.no_room g h) = absurd (n g)
+  point_write_same (PointWriteOn.not_good n) (PointWriteOn.accepted g h) = absurd (n g)
+  point_write_same (PointWriteOn.no_room g h) (PointWriteOn.not_good n) = absurd (n g)
   point_write_same (PointWriteOn.no_room g h) (PointWriteOn.no_room g' h') = refl
   point_write_same (PointWriteOn.no_room g h) (PointWriteOn.accepted g' h') = absurd (omega arith)
-  point_write_same (PointWriteOn.accepted g h) (PointWriteOn.not-Good n) = absurd (n g)
+  point_write_same (PointWriteOn.accepted g h) (PointWriteOn.not_good n) = absurd (n g)
   point_write_same (PointWriteOn.accepted g h) (PointWriteOn.no_room g' h') = absurd (omega arith)
   point_write_same (PointWriteOn.accepted g h) (PointWriteOn.accepted g' h') = refl
 
@@ -96,10 +96,10 @@ taken m p e =
 module _ (m : Map) (p : GivenPoint) (room : ℕ) where
   pub differences_apart : (DifferencesFit (node_at m (from_node m (own_leg p))) (node_at m (to_node m (own_leg p))) → ⊥) →
       PointWriteOn m p room (PointWriteOutcome.refused (row 10))
-  differences_apart h = PointWriteOn.not-Good λ g. h g.fit
+  differences_apart h = PointWriteOn.not_good λ g. h g.fit
 
   pub not_only_reading : (Only m (leg_of m true (own_leg p)) (own_leg p) → ⊥) → PointWriteOn m p room (PointWriteOutcome.refused (row 10))
-  not_only_reading h = PointWriteOn.not-Good λ g. h g.only
+  not_only_reading h = PointWriteOn.not_good λ g. h g.only
 
   -- And for nothing else.
   pub not_ten : DifferencesFit (node_at m (from_node m (own_leg p))) (node_at m (to_node m (own_leg p))) → Only m (leg_of m true (own_leg p)) (own_leg p) →
@@ -107,7 +107,7 @@ module _ (m : Map) (p : GivenPoint) (room : ℕ) where
   not_ten fit only h = ten_bad refl h (record { fit = fit; only = only })
     where
       ten_bad : {o : PointWriteOutcome} → o ≡ PointWriteOutcome.refused (row 10) → PointWriteOn m p room o → Good m true (own_leg p) → ⊥
-      ten_bad e (PointWriteOn.not-Good n) g = n g
+      ten_bad e (PointWriteOn.not_good n) g = n g
       ten_bad e (PointWriteOn.no_room g' h') g = let z : ◌≡◌ {A = ℕ} 11 10 = cc in omega arith
       ten_bad e (PointWriteOn.accepted g' h') g = let z : ◌≡◌ {A = ℕ} 0 1 = cc in omega arith
 

@@ -1,6 +1,5 @@
 -- What the promises mean. In the order of paper 01, as far as one definition needs another; AsBefore is paper 02's W2, PointAlong and PointTrip are its W5,
--- LegTests and BestFound its W7, Tenfold its W8, the modules of messages its W9, Front, MessageStart, OfMessage and the
--- trips of messages its W10, and the modules of boards its W11.
+-- LegTests and BestFound its W7, Tenfold its W8, the modules of messages its W9, and Front, MessageStart, OfMessage and the trips of messages its W10.
 pub mod Number
 pub mod Field
 pub mod Sector
@@ -39,8 +38,3 @@ pub mod HostMessage
 pub mod OfMessage
 pub mod MessageTrip
 pub mod HostMessageTrip
-pub mod Board
-pub mod BoardMemory
-pub mod BoardCall
-pub mod BoardHistory
-pub mod HostBoard

@@ -1,8 +1,8 @@
 -- A refusal as the paper gives it, and which one each case of the enum `Refusal` is (paper 01, "Refused, by place"; 21 to 23: paper 02, W1; 24: W3; 25: W5;
--- 26: W7; 27 and 28: W9; 30: W10; 31 and 32: W11).
+-- 26: W7; 27 and 28: W9; 30: W10).
 use Rattle.std.specs.Prelude.{ℕ}
 use Rattle.model.specs.declared.Refusal.{Refusal}
-use Rattle.model.specs.declared.Refusal.TheVariants.{WorkAreaShort, MapNumber, MapCount, MapCoordinate, MapLine, EqualCodes, StretchLines, StretchGap, StretchOffsets, NoChoice, BytesShort, ReferenceLength, ReferenceStatus, ReferenceBits, ReferenceFlags, NoNode, NoReading, SeveralReadings, NoOffset, LinesShort, StretchBan, JoinedBan, MapBan, MapStep, PointMarks, Unfinished, MessageOrder, MessageFull, OtherMap, BoardNumber, NoSight}
+use Rattle.model.specs.declared.Refusal.TheVariants.{WorkAreaShort, MapNumber, MapCount, MapCoordinate, MapLine, EqualCodes, StretchLines, StretchGap, StretchOffsets, NoChoice, BytesShort, ReferenceLength, ReferenceStatus, ReferenceBits, ReferenceFlags, NoNode, NoReading, SeveralReadings, NoOffset, LinesShort, StretchBan, JoinedBan, MapBan, MapStep, PointMarks, Unfinished, MessageOrder, MessageFull, OtherMap}
 
 -- A number of the table. "Refusals 16, 17 and 18 also carry the first point or leg concerned, from 0."
 pub data Refused : Type 0 where
@@ -49,5 +49,3 @@ refusal_of Unfinished = row 26
 refusal_of MessageOrder = row 27
 refusal_of MessageFull = row 28
 refusal_of OtherMap = row 30
-refusal_of BoardNumber = row 31
-refusal_of NoSight = row 32

@@ -1,4 +1,5 @@
-// The answers that the reader and the writer give, messages, and the answers of the calls on a board. What they mean is defined in specs/.
+// The answers that the reader and the writer give, and messages. What they mean is defined in specs/.
+#![tactic(auto)]
 ghost use Rattle.std.specs.Prelude.{◌≡◌};
 ghost use Rattle.model.specs.Refusal.{number_of, place_of, refusal_of};
 
@@ -37,8 +38,6 @@ pub enum Refusal {
     MessageOrder,
     MessageFull,
     OtherMap,
-    BoardNumber,
-    NoSight,
 }
 
 // The least and the greatest offset, in centimetres, that an offset byte may stand for. 0 and 0 where there is no byte.
@@ -92,25 +91,12 @@ pub enum MessageAnswer {
     Refused(Refusal),
 }
 
-// What a call on a board answers that sets, clears, grants or withdraws: that it is done, or why not.
-#[derive(Drop)]
-pub enum BoardAnswer {
-    Done,
-    Refused(Refusal),
-}
-
-// What a reading of a place answers: the count of its bytes, or why not.
-#[derive(Drop)]
-pub enum BoardReadAnswer {
-    Read(usize),
-    Refused(Refusal),
-}
-
 // A refusal as the table has it: its number, and the point or leg that it carries, 0 where it carries none.
 #[derive(Drop)]
 pub struct Row(pub u32, pub u32);
 
 // The row of a refusal in the table.
+#[tactic(auto, unfolding(crate::specs::Refusal::number_of, crate::specs::Refusal::place_of, crate::specs::Refusal::refusal_of))]
 pub fn row_of(why: Refusal) -> Row
     ensures { (result.0 ≡ number_of (refusal_of why)) × (result.1 ≡ place_of (refusal_of why)) }
 {
@@ -144,8 +130,6 @@ pub fn row_of(why: Refusal) -> Row
         Refusal::MessageOrder => Row(27, 0),
         Refusal::MessageFull => Row(28, 0),
         Refusal::OtherMap => Row(30, 0),
-        Refusal::BoardNumber => Row(31, 0),
-        Refusal::NoSight => Row(32, 0),
     }
 }
 

@@ -34,28 +34,11 @@ pub const GREATEST_STRETCH: usize = 64;
 // The most lines that a C host is given (specs/Host.antt).
 pub const GREATEST_HOST_LINES: usize = 1_024;
 
-// The fewest and the most bytes of a reference (specs/Reference.antt).
-pub const SHORTEST_REFERENCE: usize = 16;
-
+// The most bytes of a reference (specs/Reference.antt).
 pub const LONGEST_REFERENCE: usize = 459;
 
 // How many bytes of a buffer a message may take (specs/Message.antt).
 pub const LONGEST_MESSAGE: usize = 16_384;
-
-// How many contractors share a board, and how many places each of them has (specs/Board.antt).
-pub const CONTRACTORS: u32 = 8;
-
-pub const PLACES_EACH: u32 = 8;
-
-// How many bytes the memory of a board has, how many a place takes in it and how many of them are room for a reference, and where the grants start
-// (specs/BoardMemory.antt).
-pub const BOARD_LENGTH: usize = 29_568;
-
-pub const PLACE_LENGTH: usize = 461;
-
-pub const PLACE_ROOM: usize = 459;
-
-pub const GRANTS_AT: usize = 29_504;
 
 // The greatest orientation and the greatest side of road (specs/PointAlong.antt).
 pub const GREATEST_MARK: u32 = 3;

@@ -18,7 +18,6 @@ use buffers::words::{WORD_BYTES, put_words, take_words};
 use model::limits::{GREATEST_HOST_LINES, GREATEST_STRETCH, WORK_LENGTH};
 use model::{ReadAnswer, Refusal, WriteAnswer, number_of, row_of};
 
-pub mod board;
 pub mod message;
 pub mod point;
 

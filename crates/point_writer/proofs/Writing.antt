@@ -137,7 +137,7 @@ module _ (m : Map) (p : GivenPoint) where
       PointWriteAnswered (PointWriteOn m p room) bytes bytes (point.Refused r)
   own_refused {r = r} room full d e =
       let k = by_refused d.outcome full (one_test d.outcome d.asked) (refused_outcome d.answers e) in
-      refused_point r (rw k.0 (PointWriteOn.not-Good k.1))
+      refused_point r (rw k.0 (PointWriteOn.not_good k.1))
 
 -- ---- the marks put on, and the bytes put
 

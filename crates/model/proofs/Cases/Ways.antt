@@ -21,8 +21,9 @@ Every P [] = Unit {0}
 Every P (x ∷ xs) = P x × Every P xs
 
 pub every : {A : Type 0} (P : A → Type 0) {x : A} {xs : List A} → Every P xs → Memᴰ x xs → P x
-every P (p, ps) (mathlib.Core.List.Memᴰ.head e) = subst P (sym e) p
-every P (p, ps) (mathlib.Core.List.Memᴰ.tail m) = every P ps m
+every {A = A} P {xs = []} p m = elim m [ ]
+every P {xs = x ∷ xs} (p, ps) (mathlib.Core.List.Memᴰ.head e) = subst P (sym e) p
+every P {xs = x ∷ xs} (p, ps) (mathlib.Core.List.Memᴰ.tail m) = every P ps m
 
 -- Each of the first `count` lines runs from a lower to a higher node number.
 unfoldable pub upward : Map → ℕ → Bool

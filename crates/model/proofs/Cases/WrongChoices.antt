@@ -169,17 +169,17 @@ module _ (tests : ℕ) (work bytes : List ℕ) (full : work_length ≤ length wo
   no_two_points_of_two : {m : Map} → decode (encoded m) ≡ whole m → check_stretch m (all_of (0 ∷ 1 ∷ [])) ≡ remains (all_of (0 ∷ 1 ∷ [])) →
       (Good m true (0 ∷ 1 ∷ []) → ⊥) → WriteCall (encoded m) (all_of (0 ∷ 1 ∷ [])) tests work bytes (Writer.Written n made excess) work' bytes' → n ≡ 16 → ⊥
   unfolding computing cutting
-  no_two_points_of_two {m} d k not-Good c e =
-      no_count {m = m} full d k c (λ h f. omega (arith, e, f), (λ h f. not-Good (passed h.usable), tt))
+  no_two_points_of_two {m} d k not_good c e =
+      no_count {m = m} full d k c (λ h f. omega (arith, e, f), (λ h f. not_good (passed h.usable), tt))
 
   no_two_points_of_three : {m : Map} → decode (encoded m) ≡ whole m → check_stretch m (all_of (0 ∷ 1 ∷ 2 ∷ [])) ≡ remains (all_of (0 ∷ 1 ∷ 2 ∷ [])) →
       (Good m true (0 ∷ 1 ∷ 2 ∷ []) → ⊥) →
       WriteCall (encoded m) (all_of (0 ∷ 1 ∷ 2 ∷ [])) tests work bytes (Writer.Written n made excess) work' bytes' → n ≡ 16 → ⊥
   unfolding computing cutting
-  no_two_points_of_three {m} d k not-Good c e =
+  no_two_points_of_three {m} d k not_good c e =
       no_count {m = m} full d k c (
         λ h f. omega (arith, e, f),
-        (λ h f. omega (arith, e, f), (λ h f. omega (arith, e, f), (λ h f. not-Good (passed h.usable), tt))),
+        (λ h f. omega (arith, e, f), (λ h f. omega (arith, e, f), (λ h f. not_good (passed h.usable), tt))),
       )
 
   -- On the bypass: a writer that takes the shortest first leg; one that gives the class of a leg's first line for the leg's (48 for 88);

@@ -1,1 +1,0 @@
--- Nothing is defined here: the definitions are in the crate model.
