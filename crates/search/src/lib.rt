@@ -2,6 +2,7 @@
 // It goes back from where the ways end, along the mirrored map, on which every line leads from its end to its start. What is said of lines that leave a
 // node, of predecessors and of lengths to a line, here and down to `search_cells`, is said of that map. The crate `ways` reads it as ways of the map itself.
 // `search_cells::adjacency::link` is called once a map, then `search` for each terminus, class and limit.
+#![tactic(auto)]
 ghost use Rattle.std.specs.Prelude.{◌≤◌};
 ghost use Rattle.model.specs.Map.{Map};
 ghost use Rattle.model.specs.Reading.{greatest_leg_length};

@@ -1,6 +1,7 @@
 // Which legs of a stretch are sole ways: no other way from their first line to where they end is as short. They are tested in order of their start, then
 // their end, row by row, by searches from the first line of a row. A search serves many legs of its row, and a leg that is a sole way tells so of those that start later and
 // end where it does.
+#![tactic(auto)]
 ghost use Rattle.std.specs.Prelude.{◌≡◌, ◌+◌, ◌*◌, ◌≤◌, ◌<◌, min, length};
 ghost use Rattle.model.specs.Map.{Map};
 ghost use Rattle.model.specs.Lines.{Connected};

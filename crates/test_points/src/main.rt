@@ -1,6 +1,7 @@
 // Reads and writes the points of cases.bin, each on its own map, and prints a row for each: the answer, a sum over the lines or bytes handed back, what the
 // call left of the work area, and whether the rest of the buffer is as it was. Where bytes were written, the row goes on with what the reader of points answers
 // to exactly those. What it prints is held to what the unrelated implementation says (oracle/pack.py).
+#![tactic(auto)]
 use answer_text::put;
 use buffers::lesser;
 use cases::{Part, word_at};
