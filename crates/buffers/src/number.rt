@@ -5,7 +5,7 @@ ghost use Rattle.model.specs.Number.{number, number_bytes};
 ghost use Rattle.buffers.specs.Taken.{taken};
 
 // A number and the position after it, or none.
-#[derive(Drop)]
+#[derive(Clone, Copy)]
 pub enum Number {
     Got(u32, usize),
     Faulty,

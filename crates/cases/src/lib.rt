@@ -16,7 +16,7 @@ pub fn megabyte() -> [u8; 1048576]
 }
 
 // Where a part starts and ends, or that there is none.
-#[derive(Drop)]
+#[derive(Clone, Copy)]
 pub enum Part {
     At(usize, usize),
     Nothing,

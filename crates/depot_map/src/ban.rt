@@ -12,14 +12,14 @@ use banned_turns::{bans_from, fits, in_chain, put_ban};
 const GREATEST_NUMBER: u32 = 4_294_967_295;
 
 // The banned turns read so far: whether all fit their lines, and if so how many stand in the work area, each once.
-#[derive(Drop)]
+#[derive(Clone, Copy)]
 pub struct Taken {
     pub count: usize,
     pub fitting: bool,
 }
 
 // A banned turn was read: the position after it, and the turns read so far with it; or why the map is refused.
-#[derive(Drop)]
+#[derive(Clone, Copy)]
 pub enum BanRead {
     Got(usize, Taken),
     Refused(Fault),

@@ -8,7 +8,7 @@ use model::Refusal;
 
 // Why a number of the map is refused: 2 to 5, or 24. It holds nothing, and so lies beside the numbers of `Got` and not under them: a loop over lines then
 // keeps its position in a register.
-#[derive(Drop)]
+#[derive(Clone, Copy)]
 pub enum Fault {
     Number,
     Count,
@@ -18,7 +18,7 @@ pub enum Fault {
 }
 
 // The last number that was read and the position after it; or why the map is refused.
-#[derive(Drop)]
+#[derive(Clone, Copy)]
 pub enum Read {
     Got(u32, usize),
     Refused(Fault),

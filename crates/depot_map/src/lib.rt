@@ -26,7 +26,7 @@ mod line;
 mod node;
 
 // A map that stands whole in the work area, with its counts of nodes and lines; or why the bytes are refused.
-#[derive(Drop)]
+#[derive(Clone, Copy)]
 pub enum MapRead {
     Whole(u32, u32),
     Refused(Refusal),

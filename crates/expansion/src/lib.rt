@@ -22,7 +22,7 @@ use search_cells::list::ReachedLines;
 use work_area::{BAN_EARLIER, BAN_SECONDS, HEADS, LAST_BARRED, NEXT, QUEUE, field};
 
 // Two lines, 1 + each; or none, where the first is 0.
-#[derive(Drop)]
+#[derive(Clone, Copy)]
 pub struct Pair {
     pub one: usize,
     pub other: usize,

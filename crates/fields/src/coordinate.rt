@@ -49,7 +49,7 @@ pub fn latitude_code(lat: u32) -> u32
 }
 
 // A difference as 16 bits, or none where it does not fit them.
-#[derive(Drop)]
+#[derive(Clone, Copy)]
 pub enum Difference16 {
     Fits(u32),
     TooFar,

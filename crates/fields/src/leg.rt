@@ -23,7 +23,7 @@ pub fn longest_leg(d: u32) -> u32
 }
 
 // What a reference says of a line at a point: FRC, FOW and its sector there.
-#[derive(Drop)]
+#[derive(Clone, Copy)]
 pub struct Attributes {
     pub frc: u32,
     pub fow: u32,
@@ -31,14 +31,14 @@ pub struct Attributes {
 }
 
 // How a leg must end: with any line, or, on the last leg, with a line of these attributes.
-#[derive(Drop)]
+#[derive(Clone, Copy)]
 pub enum Arrival {
     Any,
     Matching(Attributes),
 }
 
 // A leg between two nodes, as the bytes give it.
-#[derive(Drop)]
+#[derive(Clone, Copy)]
 pub struct Leg {
     pub from: usize,
     pub to: usize,
@@ -49,7 +49,7 @@ pub struct Leg {
 }
 
 // A reading by its first and last line, its length and its count of lines.
-#[derive(Drop)]
+#[derive(Clone, Copy)]
 pub struct Reading {
     pub first: usize,
     pub last: usize,
@@ -58,7 +58,7 @@ pub struct Reading {
 }
 
 // The readings of a leg.
-#[derive(Drop)]
+#[derive(Clone, Copy)]
 pub enum Verdict {
     Unread,
     One(Reading),

@@ -23,7 +23,7 @@ pub fn offset_byte(leg: u32, offset: u32) -> u32
 }
 
 // The offsets that give a byte: from the least to the greatest of a span, or none.
-#[derive(Drop)]
+#[derive(Clone, Copy)]
 pub enum Offsets {
     Between(Span),
     Nowhere,

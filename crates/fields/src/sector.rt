@@ -8,7 +8,7 @@ ghost use Rattle.fields.specs.Sector.{gap, later_half, Squared};
 use model::limits::STEP_ADDED;
 
 // The sizes of the parts of a direction.
-#[derive(Drop)]
+#[derive(Clone, Copy)]
 struct Parts {
     real: u64,
     imaginary: u64,

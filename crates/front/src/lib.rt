@@ -14,7 +14,7 @@ use map_sum::map_sum;
 const MOST_BYTES: usize = 10;
 
 // What stands at the start of a message: a count, a sum, and where the bytes behind them start; or it cannot be read.
-#[derive(Drop)]
+#[derive(Clone, Copy)]
 pub enum Front {
     Read(u32, u32, usize),
     Unreadable,
@@ -58,7 +58,7 @@ fn make_front(map: &[u8], made: &mut [u8]) -> usize
 }
 
 // What putting a front comes to: how many bytes it has, or that it is longer than the buffer.
-#[derive(Drop)]
+#[derive(Clone, Copy)]
 pub enum Put {
     Bytes(usize),
     NoRoom,

@@ -14,7 +14,7 @@ use model::{Message, MessageAnswer, Refusal, number_of};
 
 // What a host holds of a message; `struct openlr_message` in C. `refusal` is that of the call that returned it, and no call looks at it.
 #[repr(C)]
-#[derive(Drop)]
+#[derive(Clone, Copy)]
 pub struct Held {
     pub refusal: u32,
     pub bytes: u32,
@@ -24,7 +24,7 @@ pub struct Held {
 
 // Where a part of a message starts, and its count of bytes; `struct openlr_part` in C.
 #[repr(C)]
-#[derive(Drop)]
+#[derive(Clone, Copy)]
 pub struct Part {
     pub start: u32,
     pub bytes: u32,

@@ -8,7 +8,7 @@ use round_trip::same_bytes;
 pub mod point;
 
 // The writer's refusal; or the count of its bytes, the leg tests made, the excess, and what the reader answers to exactly those bytes.
-#[derive(Drop)]
+#[derive(Clone, Copy)]
 pub enum Trip {
     Refused(u32),
     Back(u32, u32, u32, Lines),
@@ -40,7 +40,7 @@ pub fn write_and_read(
 }
 
 // The first stretch is refused, or the second; or their bytes differ; or they are the same: their count, and what the reader answers to them.
-#[derive(Drop)]
+#[derive(Clone, Copy)]
 pub enum Pair {
     FirstRefused(u32),
     SecondRefused(u32),

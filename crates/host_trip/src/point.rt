@@ -7,7 +7,7 @@ use point_trip::Given;
 use round_trip::same_bytes;
 
 // The writer's refusal; or the count of its bytes, and what the reader answers to exactly those.
-#[derive(Drop)]
+#[derive(Clone, Copy)]
 pub enum PointTrip {
     Refused(u32),
     Back(u32, Point),
@@ -40,7 +40,7 @@ pub fn write_point_and_read(
 }
 
 // The first point is refused, or the second; or their bytes differ; or they are the same: their count, and what the reader answers to them.
-#[derive(Drop)]
+#[derive(Clone, Copy)]
 pub enum PointPair {
     FirstRefused(u32),
     SecondRefused(u32),

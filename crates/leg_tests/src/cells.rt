@@ -12,7 +12,7 @@ use stretches::lines::{lowest_class, total_length};
 use way_lengths::Terminus;
 
 // A leg's number in the table, and what the work area is searched for: 1 + the class, or 0, and the limit.
-#[derive(Drop)]
+#[derive(Clone, Copy)]
 pub struct Cell {
     pub mark: u8,
     pub searched: u32,

@@ -14,14 +14,14 @@ use model::limits::{LONGEST_MESSAGE, LONGEST_REFERENCE};
 const GROUP: usize = 128;
 
 // What stands at a byte of a message: a reference, from its first byte to the one after its last, or nothing that counts.
-#[derive(Drop)]
+#[derive(Clone, Copy)]
 enum Entry {
     Reference(usize, usize),
     Stop,
 }
 
 // A part of a message: where it starts, and where it ends.
-#[derive(Drop)]
+#[derive(Clone, Copy)]
 pub struct Part(pub usize, pub usize);
 
 // The reference of `count` bytes from byte `start` on, if that is the length of one and there are so many.

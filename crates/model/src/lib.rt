@@ -7,7 +7,7 @@ pub mod limits;
 
 // Why a call is refused: a variant for each number of the table "Refused, by place" of paper 01 and of paper 02, in the order of the numbers.
 // `refusal_of` in specs/Refusal.antt gives the number, and the point or leg for 16, 17 and 18.
-#[derive(Drop)]
+#[derive(Clone, Copy)]
 pub enum Refusal {
     WorkAreaShort,
     MapNumber,
@@ -41,42 +41,42 @@ pub enum Refusal {
 }
 
 // The least and the greatest offset, in centimetres, that an offset byte may stand for. 0 and 0 where there is no byte.
-#[derive(Drop)]
+#[derive(Clone, Copy)]
 pub struct Span {
     pub least: u32,
     pub greatest: u32,
 }
 
 // What the reader answers: the count of lines and the spans of the positive and the negative offset, or why not.
-#[derive(Drop)]
+#[derive(Clone, Copy)]
 pub enum ReadAnswer {
     Read(usize, Span, Span),
     Refused(Refusal),
 }
 
 // What the reader of points along a line answers: the count of lines, the span of the offset, the orientation and the side of road, or why not.
-#[derive(Drop)]
+#[derive(Clone, Copy)]
 pub enum PointReadAnswer {
     Read(usize, Span, u32, u32),
     Refused(Refusal),
 }
 
 // What the writer answers: the count of bytes, the leg tests made and the excess, or why not.
-#[derive(Drop)]
+#[derive(Clone, Copy)]
 pub enum WriteAnswer {
     Written(usize, u32, u32),
     Refused(Refusal),
 }
 
 // What the writer of points along a line answers: the count of bytes, or why not.
-#[derive(Drop)]
+#[derive(Clone, Copy)]
 pub enum PointWriteAnswer {
     Written(usize),
     Refused(Refusal),
 }
 
 // A message that is being written, as far as its buffer does not say it.
-#[derive(Drop)]
+#[derive(Clone, Copy)]
 pub enum Message {
     // No reference is open: the count of bytes of those that are finished.
     Closed(usize),
@@ -85,14 +85,14 @@ pub enum Message {
 }
 
 // What a call on a message answers: the message as it is now, or why not; then it is as it was.
-#[derive(Drop)]
+#[derive(Clone, Copy)]
 pub enum MessageAnswer {
     Now(Message),
     Refused(Refusal),
 }
 
 // A refusal as the table has it: its number, and the point or leg that it carries, 0 where it carries none.
-#[derive(Drop)]
+#[derive(Clone, Copy)]
 pub struct Row(pub u32, pub u32);
 
 // The row of a refusal in the table.

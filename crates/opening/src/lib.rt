@@ -9,7 +9,7 @@ use model::Refusal;
 use search_cells::adjacency::link;
 
 // A map that is ready, with its counts of nodes and lines; or why its bytes are refused.
-#[derive(Drop)]
+#[derive(Clone, Copy)]
 pub enum Opened {
     Ready(u32, usize),
     Refused(Refusal),

@@ -27,7 +27,7 @@ const STRETCH_NUMBERS: usize = GREATEST_STRETCH + 1;
 
 // What the host gets from the reader; `struct openlr_reading` in C. 0 where a number says nothing.
 #[repr(C)]
-#[derive(Drop)]
+#[derive(Clone, Copy)]
 pub struct Lines {
     pub refusal: u32,
     pub place: u32,
@@ -40,7 +40,7 @@ pub struct Lines {
 
 // What the host gets from the writer; `struct openlr_written` in C.
 #[repr(C)]
-#[derive(Drop)]
+#[derive(Clone, Copy)]
 pub struct Written {
     pub refusal: u32,
     pub bytes: u32,

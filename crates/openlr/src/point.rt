@@ -18,7 +18,7 @@ use model::{PointReadAnswer, PointWriteAnswer, Refusal, number_of, row_of};
 
 // What the host gets from the reader of points; `struct openlr_point` in C. 0 where a number says nothing.
 #[repr(C)]
-#[derive(Drop)]
+#[derive(Clone, Copy)]
 pub struct Point {
     pub refusal: u32,
     pub place: u32,
@@ -31,7 +31,7 @@ pub struct Point {
 
 // What the host gets from the writer of points; `struct openlr_point_written` in C.
 #[repr(C)]
-#[derive(Drop)]
+#[derive(Clone, Copy)]
 pub struct PointWritten {
     pub refusal: u32,
     pub bytes: u32,

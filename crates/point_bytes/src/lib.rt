@@ -10,14 +10,14 @@ use model::Refusal;
 use references::reference::{Reference, byte_at};
 
 // What some bytes are: a point along line, or why not.
-#[derive(Drop)]
+#[derive(Clone, Copy)]
 pub enum Form {
     Sound,
     Refused(Refusal),
 }
 
 // What tells a point along line from a line reference: its orientation and the side of road.
-#[derive(Drop)]
+#[derive(Clone, Copy)]
 pub struct Marks {
     pub orientation: u32,
     pub side: u32,

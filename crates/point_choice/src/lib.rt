@@ -13,14 +13,14 @@ const POSITIONS: usize = 65;
 pub const NO_ROUTE: usize = 65;
 
 // No route of good legs, or how many legs the one to take has.
-#[derive(Drop)]
+#[derive(Clone, Copy)]
 pub enum Cut {
     Nowhere,
     Legs(usize),
 }
 
 // Where the first leg of the route to take ends, and how many legs it has: `NO_ROUTE` where there is none.
-#[derive(Drop)]
+#[derive(Clone, Copy)]
 struct Next {
     to: usize,
     legs: usize,

@@ -8,7 +8,7 @@ use point_writer::write_point;
 use round_trip::same_bytes;
 
 // A point as a user gives it.
-#[derive(Drop)]
+#[derive(Clone, Copy)]
 pub struct Given {
     pub line: u32,
     pub offset: u32,
@@ -17,7 +17,7 @@ pub struct Given {
 }
 
 // The writer refuses; or the count of its bytes, and what the reader answers to exactly those.
-#[derive(Drop)]
+#[derive(Clone, Copy)]
 pub enum Trip {
     Refused(Refusal),
     Back(usize, PointReadAnswer),
@@ -54,7 +54,7 @@ pub fn write_and_read(
 }
 
 // The first point is refused, or the second; or their bytes differ; or they are the same: their count, and what the reader answers to them.
-#[derive(Drop)]
+#[derive(Clone, Copy)]
 pub enum Pair {
     FirstRefused(Refusal),
     SecondRefused(Refusal),

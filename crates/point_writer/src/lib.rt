@@ -18,7 +18,7 @@ use work_area::{LENGTH, clear, field};
 use writer::on_part;
 
 // Whether a point is refused as it is given: 7, 9 or 25.
-#[derive(Drop)]
+#[derive(Clone, Copy)]
 pub enum Checked {
     Passes,
     Refused(Refusal),

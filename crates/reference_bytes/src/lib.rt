@@ -32,7 +32,7 @@ const POSITIVE: u32 = 64;
 const NEGATIVE: u32 = 32;
 
 // The count of bytes that were put, or that there is too little room for them.
-#[derive(Drop)]
+#[derive(Clone, Copy)]
 pub enum Stored {
     Bytes(usize),
     Short,

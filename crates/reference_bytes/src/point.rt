@@ -13,7 +13,7 @@ use stretches::lines::{attributes_of, coordinate, lowest_class, node_of, total_l
 use work_area::{END, SECTOR_OUT, START};
 
 // The numbers in the bytes of a point but the last: P, Q and D, and the differences to the next point.
-#[derive(Drop)]
+#[derive(Clone, Copy)]
 pub struct Point {
     pub p: u32,
     pub q: u32,
@@ -23,7 +23,7 @@ pub struct Point {
 }
 
 // The differences from the first to the last node of a leg.
-#[derive(Drop)]
+#[derive(Clone, Copy)]
 pub struct Differences {
     pub lon: u32,
     pub lat: u32,

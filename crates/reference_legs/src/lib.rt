@@ -21,7 +21,7 @@ pub mod termini;
 
 // Of the legs that are read: how many lines they have, how long they are together, and how long the first and the last of them are; the line
 // that the last of them arrives by, and whether a banned turn stands where two of them meet.
-#[derive(Drop)]
+#[derive(Clone, Copy)]
 pub struct Sums {
     pub count: usize,
     pub length: u32,
@@ -32,7 +32,7 @@ pub struct Sums {
 }
 
 // Every leg has exactly one reading, or the first leg that has none or several.
-#[derive(Drop)]
+#[derive(Clone, Copy)]
 pub enum Legs {
     Every(Sums),
     Unread(u32),

@@ -8,14 +8,14 @@ use fields::coordinate::{latitude_code, longitude_code, moved};
 use work_area::NODE_NUMBERS;
 
 // What tells the node: its two codes, or its longitude, the latitude of another node and the difference from there.
-#[derive(Drop)]
+#[derive(Clone, Copy)]
 pub enum Sought {
     Codes(u32, u32),
     Moved(u32, u32, u32),
 }
 
 // The number of the node, or none.
-#[derive(Drop)]
+#[derive(Clone, Copy)]
 pub enum NodeFound {
     At(u32),
     Missing,

@@ -12,7 +12,7 @@ use fields::coordinate::longitude_sum;
 use work_area::NODE_NUMBERS;
 
 // Whether every point has a node, or the first that has none.
-#[derive(Drop)]
+#[derive(Clone, Copy)]
 pub enum Places {
     Found,
     NoNode(u32),

@@ -10,20 +10,20 @@ use model::Refusal;
 use model::limits::LONGEST_REFERENCE;
 
 // A reference by its count of points but the last, which is its count of legs. The rest stays in the bytes.
-#[derive(Drop)]
+#[derive(Clone, Copy)]
 pub struct Reference {
     pub points: usize,
 }
 
 // What some bytes are: a reference, or why not.
-#[derive(Drop)]
+#[derive(Clone, Copy)]
 pub enum Form {
     Sound(Reference),
     Refused(Refusal),
 }
 
 // An offset byte, only if flagged.
-#[derive(Drop)]
+#[derive(Clone, Copy)]
 pub enum Offset {
     Absent,
     Byte(u32),

@@ -16,7 +16,7 @@ use work_area::{FRC, LENGTH, LENGTHS, NEXT, field};
 
 // A line that the search goes on from: the length to it, its banned turns, and what is noted at the lines that follow it. Where that is 0 the line has
 // nothing to do.
-#[derive(Drop)]
+#[derive(Clone, Copy)]
 pub struct Going {
     pub line: usize,
     pub length: u32,

@@ -10,7 +10,7 @@ use reader::read;
 use writer::write;
 
 // The writer refuses; or the count of its bytes, the leg tests made, the excess, and what the reader answers to exactly those bytes.
-#[derive(Drop)]
+#[derive(Clone, Copy)]
 pub enum Trip {
     Refused(Refusal),
     Back(usize, u32, u32, ReadAnswer),
@@ -62,7 +62,7 @@ pub fn same_bytes(one: &[u8], other: &[u8]) -> bool
 }
 
 // The first stretch is refused, or the second; or their bytes differ; or they are the same: their count, and what the reader answers to them.
-#[derive(Drop)]
+#[derive(Clone, Copy)]
 pub enum Pair {
     FirstRefused(Refusal),
     SecondRefused(Refusal),

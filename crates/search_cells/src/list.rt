@@ -13,7 +13,7 @@ use buffers::wide;
 use work_area::{HEADS, LENGTHS, NEXT, QUEUE, field};
 
 // How many lines are on the list, and how many are in the queue, those too that the search has gone on from.
-#[derive(Drop)]
+#[derive(Clone, Copy)]
 pub struct ReachedLines {
     pub count: usize,
     pub end: usize,

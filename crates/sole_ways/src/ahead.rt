@@ -16,7 +16,7 @@ use way_lengths::Terminus;
 
 // What a search from the first line of a row's legs serves: lines up to a class, and lengths up to a limit. Up to position `to` the stretch's lines are
 // the only way of their length. `to` is 0 where nothing is searched yet.
-#[derive(Drop)]
+#[derive(Clone, Copy)]
 pub struct Along {
     pub class: u32,
     pub limit: u32,

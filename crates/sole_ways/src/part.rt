@@ -10,7 +10,7 @@ ghost use Rattle.sole_ways.specs.SoleWays.{none_from, Measures, OneMore};
 use stretches::lines::{field_of, greater};
 use work_area::{FRC, LENGTH};
 
-#[derive(Drop)]
+#[derive(Clone, Copy)]
 pub struct Part {
     pub from: usize,
     pub to: usize,

@@ -42,7 +42,7 @@ fn is_known(table: &[u8], i: usize, j: usize) -> bool
 }
 
 // What a row leaves to the next: the length that it went up to, which that one is likely to go up to as well, and a wall.
-#[derive(Drop)]
+#[derive(Clone, Copy)]
 pub struct Row {
     pub reach: u32,
     pub wall: Wall,

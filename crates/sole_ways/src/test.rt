@@ -16,7 +16,7 @@ use crate::part::Part;
 const LOWEST_CLASS: u32 = 7;
 
 // Whether a leg's lines are a sole way, and what the search for its row serves.
-#[derive(Drop)]
+#[derive(Clone, Copy)]
 pub struct SoleTest {
     pub sole: bool,
     pub along: Along,

@@ -19,7 +19,7 @@ use work_area::{FRC, field};
 
 // Another way, over lines up to a class, leaves the stretch behind the line at position `from` and is back at the node at position `to`. `to` is 0 where
 // none is known.
-#[derive(Drop)]
+#[derive(Clone, Copy)]
 pub struct Wall {
     pub from: usize,
     pub to: usize,

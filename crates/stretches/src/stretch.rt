@@ -13,7 +13,7 @@ use model::limits::GREATEST_STRETCH;
 use work_area::{END, LENGTH, START};
 
 // What remains of a stretch: its lines from `from` up to `to`, and what is left of its offsets.
-#[derive(Drop)]
+#[derive(Clone, Copy)]
 pub struct Remaining {
     pub from: usize,
     pub to: usize,
@@ -22,14 +22,14 @@ pub struct Remaining {
 }
 
 // A stretch that is not refused, or why it is.
-#[derive(Drop)]
+#[derive(Clone, Copy)]
 pub enum Checked {
     Remains(Remaining),
     Refused(Refusal),
 }
 
 // Where an offset stops dropping lines, and what is left of it.
-#[derive(Drop)]
+#[derive(Clone, Copy)]
 struct Stop {
     at: usize,
     offset: u32,

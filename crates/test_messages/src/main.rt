@@ -27,7 +27,7 @@ const BUFFER: usize = 16_400;
 const MAP: u8 = 7;
 
 // The message at hand, and how many bytes its buffer has.
-#[derive(Drop)]
+#[derive(Clone, Copy)]
 struct Written {
     message: Message,
     room: usize,

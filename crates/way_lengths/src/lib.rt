@@ -2,7 +2,7 @@
 #![tactic(auto)]
 
 // Where ways begin or end: with a line, or at a node, whatever the line.
-#[derive(Drop)]
+#[derive(Clone, Copy)]
 pub enum Terminus {
     Line(usize),
     Node(usize),

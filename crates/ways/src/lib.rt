@@ -15,7 +15,7 @@ use buffers::wide;
 use search_cells::cells::{SEVERAL, length_to, predecessor_at};
 
 // The ways of least length within the limit: none, several, with their length, or one, with its last line, its length and its count of lines.
-#[derive(Drop)]
+#[derive(Clone, Copy)]
 pub enum Ways {
     Nothing,
     Several(u32),

@@ -29,7 +29,7 @@ const CUTS: usize = 65;
 
 // What a number of leg tests found: no choice of points even when untested legs count as good; none over legs tested good; or the one to take over these, by
 // how many legs it has, how many tests were made, and by how many legs at most it exceeds the fewest.
-#[derive(Drop)]
+#[derive(Clone, Copy)]
 enum Found {
     Nowhere,
     Unfinished,

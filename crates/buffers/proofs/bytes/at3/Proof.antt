@@ -4,22 +4,22 @@ use borrow.Author.Rules.{rules}
 use Rattle.buffers.proofs.bytes.at3.Statement.{statement}
 use Rattle.buffers.proofs.bytes.at3.Tie as tie
 
-shared-slice-read-wide : tie.Need-shared-slice-read-wide
+shared-slice-read-wide : tie.Need-bounds-bytes-i
 shared-slice-read-wide c = search rules
 
 wide-requires : tie.Need-wide-requires
 wide-requires c κs = search rules
 
-mul-result : tie.Need-overflow-mul-result
+mul-result : tie.Need-overflow_mul-result
 mul-result c = search rules
 
-add-at2 : tie.Need-overflow-add-at2
+add-at2 : tie.Need-overflow_add-i
 add-at2 c = search rules
 
 at2-requires : tie.Need-at2-requires
 at2-requires c κs = search rules
 
-add-result : tie.Need-overflow-add-result
+add-result : tie.Need-overflow_add-result
 add-result c = search rules
 
 returns : tie.Need-returns

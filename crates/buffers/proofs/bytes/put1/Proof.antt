@@ -4,13 +4,13 @@ use borrow.Author.Rules.{rules}
 use Rattle.buffers.proofs.bytes.put1.Statement.{statement}
 use Rattle.buffers.proofs.bytes.put1.Tie as tie
 
-cast-bytes : tie.Need-overflow-cast-bytes
+cast-bytes : tie.Need-overflow_cast-bytes
 cast-bytes c = search rules
 
-slice-write-bytes : tie.Need-slice-write-bytes
+slice-write-bytes : tie.Need-bounds-bytes-at
 slice-write-bytes c = search rules
 
-same_length : tie.Need-same-length
+same_length : tie.Need-shape_of-bytes
 same_length c = search rules
 
 returns : tie.Need-returns

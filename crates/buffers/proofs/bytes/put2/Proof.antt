@@ -7,22 +7,22 @@ use borrow.Author.Rules.{rules}
 use Rattle.buffers.proofs.bytes.put2.Statement.{statement}
 use Rattle.buffers.proofs.bytes.put2.Tie as tie
 
-cast-bytes : tie.Need-overflow-cast-bytes
+cast-bytes : tie.Need-overflow_cast-bytes
 cast-bytes c = search rules
 
-slice-write-bytes : tie.Need-slice-write-bytes
+slice-write-bytes : tie.Need-bounds-bytes-i
 slice-write-bytes c = search rules
 
-cast-bytes-2 : tie.Need-overflow-cast-bytes-2
+cast-bytes-2 : tie.Need-overflow_cast-bytes-2
 cast-bytes-2 c = search rules
 
-add-bytes : tie.Need-overflow-add-bytes
+add-bytes : tie.Need-overflow_add-bytes
 add-bytes c = search rules
 
-slice-write-bytes-2 : tie.Need-slice-write-bytes-2
+slice-write-bytes-2 : tie.Need-bounds-bytes-i-2
 slice-write-bytes-2 c = simp length-set (omega arith)
 
-same_length : tie.Need-same-length
+same_length : tie.Need-shape_of-bytes
 same_length c = search rules
 
 returns : tie.Need-returns

@@ -7,31 +7,31 @@ use borrow.Author.Rules.{rules}
 use Rattle.buffers.proofs.bytes.put3.Statement.{statement}
 use Rattle.buffers.proofs.bytes.put3.Tie as tie
 
-cast-bytes : tie.Need-overflow-cast-bytes
+cast-bytes : tie.Need-overflow_cast-bytes
 cast-bytes c = search rules
 
-slice-write-bytes : tie.Need-slice-write-bytes
+slice-write-bytes : tie.Need-bounds-bytes-i
 slice-write-bytes c = search rules
 
-cast-bytes-2 : tie.Need-overflow-cast-bytes-2
+cast-bytes-2 : tie.Need-overflow_cast-bytes-2
 cast-bytes-2 c = search rules
 
-add-bytes : tie.Need-overflow-add-bytes
+add-bytes : tie.Need-overflow_add-bytes
 add-bytes c = search rules
 
-slice-write-bytes-2 : tie.Need-slice-write-bytes-2
+slice-write-bytes-2 : tie.Need-bounds-bytes-i-2
 slice-write-bytes-2 c = simp length-set (omega arith)
 
-cast-bytes-3 : tie.Need-overflow-cast-bytes-3
+cast-bytes-3 : tie.Need-overflow_cast-bytes-3
 cast-bytes-3 c = search rules
 
-add-bytes-2 : tie.Need-overflow-add-bytes-2
+add-bytes-2 : tie.Need-overflow_add-bytes-2
 add-bytes-2 c = search rules
 
-slice-write-bytes-3 : tie.Need-slice-write-bytes-3
+slice-write-bytes-3 : tie.Need-bounds-bytes-i-3
 slice-write-bytes-3 c = simp length-set (omega arith)
 
-same_length : tie.Need-same-length
+same_length : tie.Need-shape_of-bytes
 same_length c = search rules
 
 returns : tie.Need-returns

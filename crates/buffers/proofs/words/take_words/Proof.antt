@@ -11,50 +11,50 @@ use borrow.Author.Rules.{rules}
 use Rattle.buffers.proofs.words.take_words.Statement.{statement}
 use Rattle.buffers.proofs.words.take_words.Tie as tie
 
-abbrev invariant-loop : tie.invariant-loop
+abbrev invariant-loop : tie.invariant-loop-i
 invariant-loop bytes numbers₀ n i₀ numbers i = (i ≤ n) × (n ≡ min (length bytes / 4) (length numbers₀)) × (length numbers ≡ length numbers₀) × (numbers ≡ paste numbers₀ 0 (words bytes) i)
 
-abbrev decreases-loop : tie.decreases-loop
+abbrev decreases-loop : tie.decreases-loop-i
 decreases-loop bytes numbers₀ n i₀ numbers i = n - i
 
-lesser-requires : tie.Need-lesser-requires invariant-loop decreases-loop
+lesser-requires : tie.Need-lesser-n-requires invariant-loop decreases-loop
 lesser-requires c κs = search rules
 
-loop-holds : tie.Need-loop-init invariant-loop decreases-loop
-loop-holds c = (omega arith, c.lesser.ensures, refl, refl)
+loop-holds : tie.Need-loop-i-init invariant-loop decreases-loop
+loop-holds c = (omega arith, c.lesser-n.ensures, refl, refl)
 
-mul-word-at : tie.Need-overflow-mul-word-at invariant-loop decreases-loop
+mul-word-at : tie.Need-overflow_mul-i invariant-loop decreases-loop
 mul-word-at c = search rules
 
-word-at-requires : tie.Need-word-at-requires invariant-loop decreases-loop
+word-at-requires : tie.Need-word_at-requires invariant-loop decreases-loop
 word-at-requires c κs = search rules
 
-mul-numbers : tie.Need-overflow-mul-numbers invariant-loop decreases-loop
+mul-numbers : tie.Need-offset_bounds-numbers-i invariant-loop decreases-loop
 mul-numbers c = search rules
 
-slice-write-numbers : tie.Need-slice-write-numbers invariant-loop decreases-loop
+slice-write-numbers : tie.Need-bounds-numbers-i invariant-loop decreases-loop
 slice-write-numbers c = search rules
 
-add-i : tie.Need-overflow-add-i invariant-loop decreases-loop
+add-i : tie.Need-overflow_add-i invariant-loop decreases-loop
 add-i c = search rules
 
-loop-less : tie.Need-loop-smaller invariant-loop decreases-loop
+loop-less : tie.Need-loop-i-smaller invariant-loop decreases-loop
 loop-less c = search rules
 
-loop-again : tie.Need-loop-preserved invariant-loop decreases-loop
+loop-again : tie.Need-loop-i-preserved invariant-loop decreases-loop
 loop-again c =
-    let l = c.before.before.loop in
+    let l = c.before.before.loop-i in
     let a = c.before.before.before.before.before.before.args in
     (omega arith, l.invariant.1, simp length-set l.invariant.2, ap (λ (d : List ℕ). set d l.i c.word_at.result) l.invariant.3 ∙ taken_more a.bytes.now a.numbers.now l.i c.word_at.result (omega (arith, l.invariant.1)) (omega (arith, l.invariant.1)) c.word_at.ensures)
 
-same_length : tie.Need-same-length invariant-loop decreases-loop
+same_length : tie.Need-shape_of-numbers invariant-loop decreases-loop
 same_length c = search rules
 
 returns : tie.Need-returns invariant-loop decreases-loop
 returns c =
-    let l = c.before.loop in
+    let l = c.before.loop-i in
     let a = c.before.before.before.before.before.args in
-    let n = c.before.before.lesser.result in
+    let n = c.before.before.lesser-n.result in
     let all : l.i ≡ n = omega arith in
     (omega (arith, l.invariant.1), ap (λ (d : List ℕ). take n d) (l.invariant.3 ∙ ap (paste a.numbers.now 0 (words a.bytes.now)) all) ∙ taken_all a.bytes.now a.numbers.now n l.invariant.1)
 
