@@ -16,27 +16,11 @@ WORD = r"[\w'₀-₉-]+"
 
 
 def norm(name):
-    name = name.replace("_", "-")
+    name = re.sub(r"_lem$", "", name).replace("_", "-")
     for old, new in (("overflow-", ""), ("in-bounds-", "")):
         if name.startswith(old):
             name = new + name[len(old) :]
     return name
-
-
-def blocks(text):
-    """The declarations of a file, each with its signature, clauses and the comments before it."""
-    out, now = [], []
-    for line in text.split("\n"):
-        starts = line and not line[0].isspace() and not line.startswith(("--", "unfolding", ")"))
-        if starts:
-            head = re.match(r"(?:pub |abbrev |unfoldable )*(" + WORD + r")\b", line)
-            signature = re.match(r"(?:pub |abbrev |unfoldable )*" + WORD + r"(?: [({][^=]*)? : ", line)
-            if line.startswith(("use ", "module ")) or signature:
-                out.append(now)
-                now = []
-        now.append(line)
-    out.append(now)
-    return out
 
 
 def turn(path, r, where):
@@ -78,26 +62,120 @@ def turn(path, r, where):
         return "tie." + new
 
     text = re.sub(r"\btie\.(" + WORD + ")", place, text)
-    # Names that stand for a place: c, and what is bound to one.
-    alias = {"c"}
-    for _ in range(3):
-        for name, of in re.findall(r"\blet (" + WORD + r") = (" + WORD + r")(?:\.before)* in", text):
-            if of in alias:
-                alias.add(name)
-    alias |= set(re.findall(r"\((" + WORD + r") : tie\.[A-Z]", text))
+    parents = {n: p[1] for p, n in zip(r["places"], r["places_by_name"])}
+    counted = {p[0]: n for p, n in zip(r["places"], r["places_by_name"])}
+    parents = {n: counted.get(up) for n, up in parents.items()}
+    at_goal = {need[1]: at[1] for need, at in zip(r["needs"], r["asked_at"])}
+    # The place that each helper takes.
+    takes = {}
+    for name, of in re.findall(r"(?m)^(?:pub |abbrev )*(" + WORD + r") : (?:\(c : )?tie\.([A-Z]" + WORD + r")", text):
+        if not of.startswith("Need-"):
+            takes[name] = of
 
-    def chain(found):
-        root, befores, step = found.group(1), found.group(2), found.group(3)
-        if root not in alias:
-            return found.group(0)
-        new = steps.get(norm(step))
-        if new is None:
-            if step not in ("before", "args", "requires", "the_call", "ranges", "auto") and step not in steps.values():
-                unknown.append("step " + step)
-            return found.group(0)
-        return f"{root}{befores}.{new}"
+    callees = {p[2][1]: p[3] for p in r["places"] if p[3]}
+    # What an arm of a match knows, by the step and the path that had it: the longest path first.
+    fields = {}
+    for known in r["arms"]:
+        for field, step, of in known[2] if known else []:
+            if of and (f"{known[0]}.{field}", of) not in fields.setdefault(norm(step), []):
+                fields[norm(step)].append((f"{known[0]}.{field}", of))
+    arms = {known[0] for known in r["arms"] if known}
+    for of in fields.values():
+        of.sort(key=lambda it: -len(it[1]))
+    gives = set(re.findall(r"(?m)^(?:pub |abbrev )*(" + WORD + r") : tie\.[A-Z][^→\n]*→ tie\.[A-Z]", text))
 
-    text = re.sub(r"(?<![\w.'-])(" + WORD + r")((?:\.before)*)\.(?!before\b)(" + WORD + ")", chain, text)
+    def depth(here, there):
+        n = 0
+        while here is not None and here != there:
+            here, n = parents.get(here), n + 1
+        return n if here == there else None
+
+    def one(block):
+        head = re.search(r"(?m)^(?:pub |abbrev )*(" + WORD + r") : (?:\(c : )?tie\.(Need-)?(" + WORD + ")", block)
+        if not head or head.group(3).startswith(("invariant", "decreases")):
+            return block
+        here = at_goal.get(head.group(3)) if head.group(2) else head.group(3)
+        alias = {"c"}
+        for _ in range(3):
+            for name, of in re.findall(r"\blet (" + WORD + r") = (" + WORD + r")(?:\.before)* in", block):
+                if of in alias:
+                    alias.add(name)
+
+        def chain(found):
+            root, step = found.group(1), found.group(3)
+            if root not in alias:
+                return found.group(0)
+            new = steps.get(norm(step))
+            if new is None and (step in ("args", "requires", "ranges") or step in steps.values() or step in arms):
+                new = step
+            if new is None:
+                unknown.append(f"step {step} in {head.group(1)}")
+                return found.group(0)
+            return "c." + new
+
+        def arm(found):
+            root, step, path = found.group(1), found.group(2), found.group(3).split(".")[1:]
+            if root not in alias:
+                return found.group(0)
+            for field, of in fields.get(norm(step), []):
+                if path[: len(of)] == of:
+                    return ".".join(["c", field, *path[len(of) :]])
+            return found.group(0)
+
+        block = re.sub(r"(?<![\w.'₀-₉-])(" + WORD + r")(?:\.before)*\.(?!before\b)(" + WORD + r")((?:\.(?:given|ensures|[0-9]+))+)(?![\w'₀-₉-])", arm, block)
+        block = re.sub(r"(?<![\w.'₀-₉-])(" + WORD + r")((?:\.before)*)\.(?!before\b)(" + WORD + ")", chain, block)
+
+        def call(found):
+            name, root = found.group(1), found.group(2)
+            if name not in takes or root not in alias:
+                return found.group(0)
+            n = depth(here, takes[name])
+            if n is None:
+                unknown.append(f"place of {name} in {head.group(1)}")
+                return found.group(0)
+            return f"{name} c{'.before' * n}"
+
+        block = re.sub(r"(?<![\w.'₀-₉-])(" + WORD + r") (" + WORD + r")(?:\.before)*(?![\w.'₀-₉-])", call, block)
+        # A helper that gives a place.
+        for name in gives:
+            block = re.sub(
+                r"\(" + re.escape(name) + r" (?:" + "|".join(map(re.escape, alias)) + r")(?:\.before)*\)\.(" + WORD + ")",
+                lambda m: "c." + (steps.get(norm(m.group(1))) or m.group(1)),
+                block,
+            )
+        bound = dict(re.findall(r"\blet (" + WORD + r") = c\.(" + WORD + r") in", block))
+
+        def auto(found):
+            step = found.group(2) if found.group(1) == "c." else bound.get(found.group(2))
+            names = r["params"].get(callees.get(step), [])
+            n = found.group(4).count("1")
+            if n >= len(names):
+                unknown.append(f"auto of {step} in {head.group(1)}")
+                return found.group(0)
+            return f"{found.group(1) or ''}{found.group(2)}.{found.group(3)}.{names[n]}"
+
+        block = re.sub(r"(?<![\w.'₀-₉-])(c\.)?(" + WORD + r")\.(auto|new)((?:\.1)*\.0)(?![\w'₀-₉-])", auto, block)
+        made = re.match(r"(?:abbrev )?(" + WORD + r") : tie\.(" + WORD + r")[^→\n]*→ tie\.(" + WORD + ")", block)
+        if made and made.group(1) in gives:
+            n = depth(made.group(2), made.group(3))
+            if n is not None:
+                block = re.sub(r"(?m)^(" + re.escape(made.group(1)) + r" c = )c(?:\.before)*$", lambda m: m.group(1) + "c" + ".before" * n, block)
+        for name in [*(alias - {"c"})] * 3:
+            if len(re.findall(r"(?<![\w.'₀-₉-])" + re.escape(name) + r"(?![\w'₀-₉-])", block)) == 1:
+                block = re.sub(r"(?m)^ *let " + re.escape(name) + r" = " + WORD + r"(?:\.before)* in\n", "", block)
+                block = re.sub(r"let " + re.escape(name) + r" = " + WORD + r"(?:\.before)* in ", "", block)
+        return block
+
+    pieces = re.split(r"(?m)(?=^(?:pub |abbrev )*" + WORD + r" : )", text)
+    text = "".join(one(it) for it in pieces)
+
+    # Answers that are no longer asked for.
+    for goal_name in [it.split(" ", 1)[1] for it in unknown if it.startswith("goal ")]:
+        gone = re.search(r"(?m)^(" + WORD + r") : tie\.Need-" + re.escape(goal_name) + r"(?![\w'-])[^\n]*\n(?:unfolding[^\n]*\n)?\1\b[^\n]*\n(?:[ ]+[^\n]*\n)*\n?", text)
+        if gone:
+            text = text[: gone.start()] + text[gone.end() :]
+            unknown.remove("goal " + goal_name)
+            print(f"{where}: no longer asked for: {goal_name}")
 
     # The answers, as today's walk asks for them.
     answers = {}

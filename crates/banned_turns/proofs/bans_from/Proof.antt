@@ -5,13 +5,13 @@ use borrow.Author.Rules.{rules}
 use Rattle.banned_turns.proofs.bans_from.Statement.{statement}
 use Rattle.banned_turns.proofs.bans_from.Tie as tie
 
-add_wide : tie.Need-overflow-add-wide
+add_wide : tie.Need-overflow_add-l
 add_wide c = search rules
 
-mul_wide : tie.Need-overflow-mul-wide
+mul_wide : tie.Need-offset_bounds-work-l
 mul_wide c = search rules
 
-shared-slice-read-wide : tie.Need-shared-slice-read-wide
+shared-slice-read-wide : tie.Need-bounds-work-l
 shared-slice-read-wide c = search rules
 
 wide-requires : tie.Need-wide-requires

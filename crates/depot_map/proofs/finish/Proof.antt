@@ -11,45 +11,45 @@ use borrow.Author.Rules.{rules}
 use Rattle.depot_map.proofs.finish.Statement.{statement}
 use Rattle.depot_map.proofs.finish.Tie as tie
 
-returns : tie.Need-returns
+returns : tie.Need-returns-then-at-map
 unfolding refusal_of
-returns c = λ bans taken. stage_refused (left_over _ _ _ _ _ c.if1.true) kept_none
+returns c = λ bans taken. stage_refused (left_over _ _ _ _ _ c.if-at-map.true) kept_none
 
-equal-codes-requires : tie.Need-equal-codes-requires
+equal-codes-requires : tie.Need-equal_codes-requires
 equal-codes-requires c κs = search rules
 
-same_length : tie.Need-same-length
+same_length : tie.Need-shape_of-work-then-equal_codes
 same_length c = search rules
 
-returns-2 : tie.Need-returns-2
+returns-2 : tie.Need-returns-then-equal_codes
 unfolding refusal_of
 returns-2 c =
     λ bans taken.
-    let k = c.before.before.before.equal-codes.ensures in
-    stage_refused (none_over _ _ _ _ _ c.before.before.before.before.before.if1.false true _ (sym c.if2.true ∙ k.found) taken.tested)
+    let k = c.equal_codes.ensures in
+    stage_refused (none_over _ _ _ _ _ c.if-at-map.false true _ (sym c.if-equal_codes.true ∙ k.found) taken.tested)
     (kept_within (omega arith) (omega arith) k.kept)
 
-same-length-2 : tie.Need-same-length-2
+same-length-2 : tie.Need-shape_of-work-then-fitting
 same-length-2 c = search rules
 
-returns-3 : tie.Need-returns-3
+returns-3 : tie.Need-returns-then-fitting
 returns-3 c =
     λ bans taken.
-    let k = c.before.before.before.before.equal-codes.ensures in
-    let few = c.before.before.before.before.before.before.before.before.before.requires in
-    stage_whole _ _ _ _ few.1 few.2 c.before.before.before.before.before.before.if1.false k.kept (sym c.before.if2.false ∙ k.found)
-    (all_taken c.if3.true taken)
+    let k = c.equal_codes.ensures in
+    let few = c.requires in
+    stage_whole _ _ _ _ few.1 few.2 c.if-at-map.false k.kept (sym c.if-equal_codes.false ∙ k.found)
+    (all_taken c.if-fitting.true taken)
 
-same-length-3 : tie.Need-same-length-3
+same-length-3 : tie.Need-shape_of-work
 same-length-3 c = search rules
 
-returns-4 : tie.Need-returns-4
+returns-4 : tie.Need-returns
 unfolding refusal_of
 returns-4 c =
     λ bans taken.
-    let k = c.before.before.before.before.equal-codes.ensures in
+    let k = c.equal_codes.ensures in
     stage_refused
-    (none_over _ _ _ _ _ c.before.before.before.before.before.before.if1.false false false (sym c.before.if2.false ∙ k.found) (sym c.if3.false ∙ taken.tested))
+    (none_over _ _ _ _ _ c.if-at-map.false false false (sym c.if-equal_codes.false ∙ k.found) (sym c.if-fitting.false ∙ taken.tested))
     (kept_within (omega arith) (omega arith) k.kept)
 
 pub finish_spec : {M : Type 1} → statement M

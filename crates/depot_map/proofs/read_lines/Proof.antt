@@ -11,61 +11,56 @@ use borrow.Author.Rules.{rules}
 use Rattle.depot_map.proofs.read_lines.Statement.{statement}
 use Rattle.depot_map.proofs.read_lines.Tie as tie
 
-abbrev invariant-loop : tie.invariant-loop
+abbrev invariant-loop : tie.invariant-loop-i
 invariant-loop map from work₀ nodes count n at₀ i₀ work at i =
     LinesRead (decode_lines count (drop from map) (held_nodes work₀ nodes) []) map at nodes count i work₀ work
 
-abbrev decreases-loop : tie.decreases-loop
+abbrev decreases-loop : tie.decreases-loop-i
 decreases-loop map from work₀ nodes count n at₀ i₀ work at i = count - i
 
-loop-holds : tie.Need-loop-init invariant-loop decreases-loop
+loop-holds : tie.Need-loop-i-init invariant-loop decreases-loop
 loop-holds c = lines_none _ _ _ _ _
 
-read-line-requires : tie.Need-read-line-requires invariant-loop decreases-loop
-read-line-requires c κs = omega (arith, c.before.before.loop.invariant.kept.same)
+read-line-requires : tie.Need-read_line-requires invariant-loop decreases-loop
+read-line-requires c κs = omega (arith, c.loop-i.invariant.kept.same)
 
-enum-known-next : tie.Need-enum-known-next invariant-loop decreases-loop
+enum-known-next : tie.Need-enum_known-next invariant-loop decreases-loop
 enum-known-next c = search rules
 
-enum-known-why : tie.Need-enum-known-why invariant-loop decreases-loop
+enum-known-why : tie.Need-enum_known-why invariant-loop decreases-loop
 enum-known-why c = search rules
 
-refusal-of-requires : tie.Need-refusal-of-requires invariant-loop decreases-loop
+refusal-of-requires : tie.Need-refusal_of-requires invariant-loop decreases-loop
 refusal-of-requires c κs = search rules
 
-same_length : tie.Need-same-length invariant-loop decreases-loop
+same_length : tie.Need-shape_of-work-in-Refused invariant-loop decreases-loop
 same_length c =
-    let one = c.before.before.before.before.before.before in
-    one.read-line.auto.1.1.0 ∙ one.before.before.before.loop.invariant.kept.same
+    c.read_line.auto.work ∙ c.loop-i.invariant.kept.same
 
-returns : tie.Need-returns invariant-loop decreases-loop
+returns : tie.Need-returns-in-Refused invariant-loop decreases-loop
 returns c =
-    let one = c.before.before.before.before.before.before in
-    lines_off one.before.before.before.loop.invariant (omega arith) (omega arith) one.read-line.ensures c.refusal-of.ensures c.before.before.why.given.1
+    lines_off c.loop-i.invariant (omega arith) (omega arith) c.read_line.ensures c.refusal_of.ensures c.in-Refused.is
 
-add-i : tie.Need-overflow-add-i invariant-loop decreases-loop
+add-i : tie.Need-overflow_add-i invariant-loop decreases-loop
 add-i c = search rules
 
-loop-less : tie.Need-loop-smaller invariant-loop decreases-loop
+loop-less : tie.Need-loop-i-smaller invariant-loop decreases-loop
 loop-less c = omega arith
 
-loop-again : tie.Need-loop-preserved invariant-loop decreases-loop
+loop-again : tie.Need-loop-i-preserved invariant-loop decreases-loop
 loop-again c =
-    let one = c.before.before.before.before.before in
-    lines_on one.before.before.before.loop.invariant (omega arith) (omega arith) one.read-line.ensures c.before.next.given.1
+    lines_on c.loop-i.invariant (omega arith) (omega arith) c.read_line.ensures c.in-Got.is
 
-count-bans-requires : tie.Need-count-bans-requires invariant-loop decreases-loop
-count-bans-requires c κs = omega (arith, c.before.before.loop.invariant.kept.same)
+count-bans-requires : tie.Need-count_bans-requires invariant-loop decreases-loop
+count-bans-requires c κs = omega (arith, c.loop-i.invariant.kept.same)
 
-same-length-2 : tie.Need-same-length-2 invariant-loop decreases-loop
+same-length-2 : tie.Need-shape_of-work invariant-loop decreases-loop
 same-length-2 c =
-    let end = c.before.before in
-    end.count-bans.auto.1.1.0 ∙ end.before.before.before.loop.invariant.kept.same
+    c.count_bans.auto.work ∙ c.loop-i.invariant.kept.same
 
-returns-2 : tie.Need-returns-2 invariant-loop decreases-loop
+returns-2 : tie.Need-returns invariant-loop decreases-loop
 returns-2 c =
-    let end = c.before.before in
-    lines_end end.before.before.before.loop.invariant (omega arith) (omega arith) end.count-bans.ensures
+    lines_end c.loop-i.invariant (omega arith) (omega arith) c.count_bans.ensures
 
 pub read_lines_spec : {M : Type 1} → statement M
 read_lines_spec =

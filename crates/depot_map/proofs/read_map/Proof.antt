@@ -12,37 +12,33 @@ use Rattle.depot_map.proofs.read_map.Tie as tie
 field-requires : tie.Need-field-requires
 field-requires c κs = search rules
 
-enum-known-nodes : tie.Need-enum-known-nodes
+enum-known-nodes : tie.Need-enum_known-nodes
 enum-known-nodes c = search rules
 
-read-nodes-requires : tie.Need-read-nodes-requires
+read-nodes-requires : tie.Need-read_nodes-requires
 read-nodes-requires c κs =
-    let known = c.before.before in
-    let few = field_range known.before.before.field.ensures known.nodes.given.1 in
+    let few = field_range c.field.ensures c.in-Got.is in
     omega arith
 
-enum-known-why : tie.Need-enum-known-why
+enum-known-why : tie.Need-enum_known-why
 enum-known-why c = search rules
 
-refusal-of-requires : tie.Need-refusal-of-requires
+refusal-of-requires : tie.Need-refusal_of-requires
 refusal-of-requires c κs = search rules
 
-same_length : tie.Need-same-length
+same_length : tie.Need-shape_of-work
 same_length c = search rules
 
-returns : tie.Need-returns
+returns : tie.Need-returns-in-Got
 unfolding decode fault_of
 returns c =
-    let known = c.before.before.before.before.before in
-    let field = known.before.before in
-    map_is_read field.before.before.before.requires
-    (stage_then (field_on field.field.ensures known.nodes.given.1 _) kept_none (omega arith) c.before.before.read-nodes.ensures)
+    map_is_read c.requires
+    (stage_then (field_on c.field.ensures c.in-Got.is _) kept_none (omega arith) c.read_nodes.ensures)
 
-returns-2 : tie.Need-returns-2
+returns-2 : tie.Need-returns-in-Refused
 unfolding decode fault_of
 returns-2 c =
-    let field = c.before.before.before.before in
-    map_is_read field.before.before.before.requires (stage_faulty c.refusal-of.ensures (field_off field.field.ensures c.before.before.why.given.1 _) kept_none)
+    map_is_read c.requires (stage_faulty c.refusal_of.ensures (field_off c.field.ensures c.in-Refused.is _) kept_none)
 
 pub read_map_spec : {M : Type 1} → statement M
 read_map_spec =

@@ -10,61 +10,56 @@ use borrow.Author.Rules.{rules}
 use Rattle.depot_map.proofs.read_nodes.Statement.{statement}
 use Rattle.depot_map.proofs.read_nodes.Tie as tie
 
-abbrev invariant-loop : tie.invariant-loop
+abbrev invariant-loop : tie.invariant-loop-i
 invariant-loop map from work₀ count n at₀ i₀ work at i =
     NodesRead (decode_nodes count (drop from map) []) map at count i work₀ work
 
-abbrev decreases-loop : tie.decreases-loop
+abbrev decreases-loop : tie.decreases-loop-i
 decreases-loop map from work₀ count n at₀ i₀ work at i = count - i
 
-loop-holds : tie.Need-loop-init invariant-loop decreases-loop
+loop-holds : tie.Need-loop-i-init invariant-loop decreases-loop
 loop-holds c = nodes_none _ _ _ _
 
-read-node-requires : tie.Need-read-node-requires invariant-loop decreases-loop
-read-node-requires c κs = omega (arith, c.before.before.loop.invariant.kept.same)
+read-node-requires : tie.Need-read_node-requires invariant-loop decreases-loop
+read-node-requires c κs = omega (arith, c.loop-i.invariant.kept.same)
 
-enum-known-next : tie.Need-enum-known-next invariant-loop decreases-loop
+enum-known-next : tie.Need-enum_known-next invariant-loop decreases-loop
 enum-known-next c = search rules
 
-enum-known-why : tie.Need-enum-known-why invariant-loop decreases-loop
+enum-known-why : tie.Need-enum_known-why invariant-loop decreases-loop
 enum-known-why c = search rules
 
-refusal-of-requires : tie.Need-refusal-of-requires invariant-loop decreases-loop
+refusal-of-requires : tie.Need-refusal_of-requires invariant-loop decreases-loop
 refusal-of-requires c κs = search rules
 
-same_length : tie.Need-same-length invariant-loop decreases-loop
+same_length : tie.Need-shape_of-work-in-Refused invariant-loop decreases-loop
 same_length c =
-    let one = c.before.before.before.before.before.before in
-    one.read-node.auto.1.1.0 ∙ one.before.before.before.loop.invariant.kept.same
+    c.read_node.auto.work ∙ c.loop-i.invariant.kept.same
 
-returns : tie.Need-returns invariant-loop decreases-loop
+returns : tie.Need-returns-in-Refused invariant-loop decreases-loop
 returns c =
-    let one = c.before.before.before.before.before.before in
-    nodes_off one.before.before.before.loop.invariant (omega arith) (omega arith) one.read-node.ensures c.refusal-of.ensures c.before.before.why.given.1
+    nodes_off c.loop-i.invariant (omega arith) (omega arith) c.read_node.ensures c.refusal_of.ensures c.in-Refused.is
 
-add-i : tie.Need-overflow-add-i invariant-loop decreases-loop
+add-i : tie.Need-overflow_add-i invariant-loop decreases-loop
 add-i c = search rules
 
-loop-less : tie.Need-loop-smaller invariant-loop decreases-loop
+loop-less : tie.Need-loop-i-smaller invariant-loop decreases-loop
 loop-less c = omega arith
 
-loop-again : tie.Need-loop-preserved invariant-loop decreases-loop
+loop-again : tie.Need-loop-i-preserved invariant-loop decreases-loop
 loop-again c =
-    let one = c.before.before.before.before.before in
-    nodes_on one.before.before.before.loop.invariant (omega arith) (omega arith) one.read-node.ensures c.before.next.given.1
+    nodes_on c.loop-i.invariant (omega arith) (omega arith) c.read_node.ensures c.in-Got.is
 
-count-lines-requires : tie.Need-count-lines-requires invariant-loop decreases-loop
-count-lines-requires c κs = omega (arith, c.before.before.loop.invariant.kept.same)
+count-lines-requires : tie.Need-count_lines-requires invariant-loop decreases-loop
+count-lines-requires c κs = omega (arith, c.loop-i.invariant.kept.same)
 
-same-length-2 : tie.Need-same-length-2 invariant-loop decreases-loop
+same-length-2 : tie.Need-shape_of-work invariant-loop decreases-loop
 same-length-2 c =
-    let end = c.before.before in
-    end.count-lines.auto.1.1.0 ∙ end.before.before.before.loop.invariant.kept.same
+    c.count_lines.auto.work ∙ c.loop-i.invariant.kept.same
 
-returns-2 : tie.Need-returns-2 invariant-loop decreases-loop
+returns-2 : tie.Need-returns invariant-loop decreases-loop
 returns-2 c =
-    let end = c.before.before in
-    nodes_end end.before.before.before.loop.invariant (omega arith) end.count-lines.ensures
+    nodes_end c.loop-i.invariant (omega arith) c.count_lines.ensures
 
 pub read_nodes_spec : {M : Type 1} → statement M
 read_nodes_spec =

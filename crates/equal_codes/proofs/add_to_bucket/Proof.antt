@@ -6,53 +6,52 @@ use borrow.Author.Rules.{rules}
 use Rattle.equal_codes.proofs.add_to_bucket.Statement.{statement}
 use Rattle.equal_codes.proofs.add_to_bucket.Tie as tie
 
-bucket-requires : tie.Need-bucket-requires
+bucket-requires : tie.Need-bucket-h-requires
 bucket-requires c κs = search rules
 
-add-work : tie.Need-overflow-add-work
+add-work : tie.Need-overflow_add-work
 add-work c = search rules
 
-mul-work : tie.Need-overflow-mul-work
+mul-work : tie.Need-offset_bounds-work-h
 mul-work c = search rules
 
-slice-read-work : tie.Need-slice-read-work
+slice-read-work : tie.Need-bounds-work-h
 slice-read-work c = search rules
 
-add-work-2 : tie.Need-overflow-add-work-2
+add-work-2 : tie.Need-overflow_add-work-2
 add-work-2 c = search rules
 
-mul-work-2 : tie.Need-overflow-mul-work-2
+mul-work-2 : tie.Need-offset_bounds-work-j
 mul-work-2 c = search rules
 
-slice-write-work : tie.Need-slice-write-work
+slice-write-work : tie.Need-bounds-work-j
 slice-write-work c = search rules
 
-add-work-3 : tie.Need-overflow-add-work-3
+add-work-3 : tie.Need-overflow_add-work-3
 add-work-3 c = search rules
 
-cast-work : tie.Need-overflow-cast-work
+cast-work : tie.Need-overflow_cast-work
 cast-work c = search rules
 
-add-work-4 : tie.Need-overflow-add-work-4
+add-work-4 : tie.Need-overflow_add-work-4
 add-work-4 c = search rules
 
-mul-work-3 : tie.Need-overflow-mul-work-3
+mul-work-3 : tie.Need-offset_bounds-work-h-2
 mul-work-3 c = search rules
 
-slice-write-work-2 : tie.Need-slice-write-work-2
+slice-write-work-2 : tie.Need-bounds-work-h-2
 slice-write-work-2 c = simp length-set (omega arith)
 
-same_length : tie.Need-same-length
+same_length : tie.Need-shape_of-work
 same_length c = search rules
 
 returns : tie.Need-returns
 returns c =
-    let s = c.before.before.before.before in
-    let w = s.args.work.now in
-    let j = s.args.j in
-    let h = c.before.bucket.result in
+    let w = c.args.work.now in
+    let j = c.args.j in
+    let h = c.bucket-h.result in
     record {
-      chains = chains_more w j h (omega arith) (omega arith) (omega arith) c.before.bucket.ensures.0 s.requires.2;
+      chains = chains_more w j h (omega arith) (omega arith) (omega arith) c.bucket-h.ensures.0 c.requires.2;
       kept = linked_kept w j h (omega arith) (omega arith) (omega arith);
     }
 

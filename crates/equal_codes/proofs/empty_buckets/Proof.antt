@@ -9,12 +9,12 @@ use Rattle.equal_codes.proofs.empty_buckets.Tie as tie
 fill-requires : tie.Need-fill-requires
 fill-requires c κs = search rules
 
-same_length : tie.Need-same-length
+same_length : tie.Need-shape_of-work
 same_length c = search rules
 
 returns : tie.Need-returns
 returns c =
-    let f = c.before.before.fill.ensures in
+    let f = c.fill.ensures in
     record { chains = chains_none _ f.filled; kept = kept_within (omega arith) (omega arith) f.kept }
 
 pub empty_buckets_spec : {M : Type 1} → statement M

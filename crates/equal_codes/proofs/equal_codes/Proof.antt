@@ -5,33 +5,28 @@ use borrow.Author.Rules.{rules}
 use Rattle.equal_codes.proofs.equal_codes.Statement.{statement}
 use Rattle.equal_codes.proofs.equal_codes.Tie as tie
 
-put-codes-requires : tie.Need-put-codes-requires
+put-codes-requires : tie.Need-put_codes-requires
 put-codes-requires c κs = search rules
 
-empty-buckets-requires : tie.Need-empty-buckets-requires
+empty-buckets-requires : tie.Need-empty_buckets-requires
 empty-buckets-requires c κs = search rules
 
-some-met-requires : tie.Need-some-met-requires
+some-met-requires : tie.Need-some_met-requires
 some-met-requires c κs =
-    let empty = c.before.before.before in
-    let put = empty.before.before.before.before in
-    let e = empty.empty-buckets in
-    let p = put.put_codes in (
-      omega (arith, put.before.before.before.requires, p.auto.0, e.auto.0),
+    let e = c.empty_buckets in
+    let p = c.put_codes in (
+      omega (arith, c.requires, p.auto.work, e.auto.work),
       omega arith,
       coded_same e.ensures.kept (omega arith) p.ensures.coded,
       e.ensures.chains,
     )
 
-same_length : tie.Need-same-length
+same_length : tie.Need-shape_of-work
 same_length c = search rules
 
 returns : tie.Need-returns
 returns c =
-    let met = c.before.before in
-    let empty = met.before.before.before.before in
-    let put = empty.before.before.before.before in
-    found_after (omega arith) put.put_codes.ensures empty.empty-buckets.ensures met.some-met.ensures
+    found_after (omega arith) c.put_codes.ensures c.empty_buckets.ensures c.some_met.ensures
 
 pub equal_codes_spec : {M : Type 1} → statement M
 equal_codes_spec =

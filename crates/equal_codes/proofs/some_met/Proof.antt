@@ -15,58 +15,57 @@ use borrow.Author.Rules.{rules}
 use Rattle.equal_codes.proofs.some_met.Statement.{statement}
 use Rattle.equal_codes.proofs.some_met.Tie as tie
 
-abbrev invariant-loop : tie.invariant-loop
+abbrev invariant-loop : tie.invariant-loop-j
 invariant-loop work₀ n j₀ work j = (j ≤ n) × Kept chains_from codes_to work₀ work × Chains work j
     × ((k : ℕ) → k < j → among (held_node work₀ k) (held_nodes work₀ k) ≡ false)
 
-abbrev decreases-loop : tie.decreases-loop
+abbrev decreases-loop : tie.decreases-loop-j
 decreases-loop work₀ n j₀ work j = n - j
 
-loop-holds : tie.Need-loop-init invariant-loop decreases-loop
-loop-holds c = (omega arith, kept_none, c.before.requires.3, below_none _)
+loop-holds : tie.Need-loop-j-init invariant-loop decreases-loop
+loop-holds c = (omega arith, kept_none, c.requires.3, below_none _)
 
-met-before-requires : tie.Need-met-before-requires invariant-loop decreases-loop
+met-before-requires : tie.Need-met_before-requires invariant-loop decreases-loop
 met-before-requires c κs =
-    let v = c.before.before.loop.invariant in
-    let coded = coded_same v.1 (omega arith) c.before.before.before.before.requires.2 in
+    let v = c.loop-j.invariant in
+    let coded = coded_same v.1 (omega arith) c.requires.2 in
     (omega (arith, v.1.same), omega arith, λ i l. coded i (omega arith), v.2)
 
-same_length : tie.Need-same-length invariant-loop decreases-loop
-same_length c = c.before.before.before.before.loop.invariant.1.same
+same_length : tie.Need-shape_of-work-then-met_before invariant-loop decreases-loop
+same_length c = c.loop-j.invariant.1.same
 
-returns : tie.Need-returns invariant-loop decreases-loop
+returns : tie.Need-returns-then-met_before invariant-loop decreases-loop
 returns c =
-    let l = c.before.before.before.before.loop in
-    let met = sym c.before.met-before.ensures ∙ c.if1.true in
+    let l = c.loop-j in
+    let met = sym c.met_before.ensures ∙ c.if-met_before.true in
     record { found = sym (clash_true _ _ l.j (omega arith) (sym (among_same l.invariant.1 _ (omega arith)) ∙ met)); kept = l.invariant.1 }
 
-add-to-bucket-requires : tie.Need-add-to-bucket-requires invariant-loop decreases-loop
-add-to-bucket-requires c κs = let v = c.before.before.before.before.before.loop.invariant in (omega (arith, v.1.same), omega arith, v.2)
+add-to-bucket-requires : tie.Need-add_to_bucket-requires invariant-loop decreases-loop
+add-to-bucket-requires c κs = let v = c.loop-j.invariant in (omega (arith, v.1.same), omega arith, v.2)
 
-add-j : tie.Need-overflow-add-j invariant-loop decreases-loop
+add-j : tie.Need-overflow_add-j invariant-loop decreases-loop
 add-j c = search rules
 
-loop-less : tie.Need-loop-smaller invariant-loop decreases-loop
+loop-less : tie.Need-loop-j-smaller invariant-loop decreases-loop
 loop-less c = omega arith
 
-loop-again : tie.Need-loop-preserved invariant-loop decreases-loop
+loop-again : tie.Need-loop-j-preserved invariant-loop decreases-loop
 loop-again c =
-    let test = c.before.before.before.before in
-    let v = test.before.before.before.before.loop.invariant in
-    let k = c.before.before.add-to-bucket.ensures in
-    let not-met = sym test.before.met-before.ensures ∙ test.if1.false in (
+    let v = c.loop-j.invariant in
+    let k = c.add_to_bucket.ensures in
+    let not-met = sym c.met_before.ensures ∙ c.if-met_before.false in (
       omega arith,
       kept_then v.1 k.kept,
       k.chains,
       below_more _ _ v.3 (sym (among_same v.1 _ (omega arith)) ∙ not-met),
     )
 
-same-length-2 : tie.Need-same-length-2 invariant-loop decreases-loop
-same-length-2 c = c.before.loop.invariant.1.same
+same-length-2 : tie.Need-shape_of-work invariant-loop decreases-loop
+same-length-2 c = c.loop-j.invariant.1.same
 
-returns-2 : tie.Need-returns-2 invariant-loop decreases-loop
+returns-2 : tie.Need-returns invariant-loop decreases-loop
 returns-2 c =
-    let v = c.before.loop.invariant in
+    let v = c.loop-j.invariant in
     record { found = sym (clash_false _ _ (λ k l. v.3 k (omega arith))); kept = v.1 }
 
 pub some_met_spec : {M : Type 1} → statement M

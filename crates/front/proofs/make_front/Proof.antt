@@ -9,44 +9,44 @@ use Rattle.front.proofs.make_front.Lts as lts
 use Rattle.buffers.proofs.number.put_number.Reads as put-number-reads
 use Rattle.map_sum.proofs.map_sum.Reads as map-sum-reads
 
-map-sum-requires : tie.Need-map-sum-requires
+map-sum-requires : tie.Need-map_sum-sum-requires
 map-sum-requires c κs = search rules
 
-cast-put-number : tie.Need-overflow-cast-put-number
+cast-put-number : tie.Need-overflow_cast-map
 cast-put-number c = search rules
 
-put-number-requires : tie.Need-put-number-requires
+put-number-requires : tie.Need-put_number-count-requires
 put-number-requires c κs = search rules
 
-sub-put-number : tie.Need-overflow-sub-put-number
+sub-put-number : tie.Need-slice_bounds-put_number-count
 sub-put-number c = search rules
 
-part-put-number-start : tie.Need-slice-bounds-put-number-start
-part-put-number-start c = search rules
-
-part-put-number-end : tie.Need-slice-bounds-put-number-end
-part-put-number-end c = search rules
-
-put-number-requires-2 : tie.Need-put-number-requires-2
+put-number-requires-2 : tie.Need-put_number-requires
 put-number-requires-2 c κs = search rules
 
-add-result : tie.Need-overflow-add-result
+add-result : tie.Need-overflow_add-result
 add-result c = search rules
 
-same_length : tie.Need-same-length
+same_length : tie.Need-shape_of-made
 same_length c = search rules
 
 returns : tie.Need-returns
 returns c =
-    let a = c.before.before.before.before.before.before.before.before.before.before.before.args in
-    let n = c.before.before.before.before.before.before.put-number in
-    let k = c.before.before.put-number2 in
-    let s = c.before.before.before.before.before.before.before.before.map-sum in (
-      front_length a.map.now a.made.now n.new.0 k.new.0 n.result s.result s.ensures n.ensures.0 k.result k.ensures.0,
+    let a = c.args in
+    let n = c.put_number-count in
+    let k = c.put_number in
+    let s = c.map_sum-sum in (
+      front_length a.map.now a.made.now n.new.bytes k.new.bytes n.result s.result s.ensures n.ensures.0 k.result k.ensures.0,
       omega (arith, n.ensures.1, k.ensures.1),
-      front_made a.map.now a.made.now n.new.0 k.new.0 n.result s.result s.ensures n.ensures.0 n.ensures.2
+      front_made a.map.now a.made.now n.new.bytes k.new.bytes n.result s.result s.ensures n.ensures.0 n.ensures.2
           k.ensures.2,
     )
+
+slice_bounds-put_number-start : tie.Need-slice_bounds-put_number-start
+slice_bounds-put_number-start c = search rules
+
+slice_bounds-put_number-end : tie.Need-slice_bounds-put_number-end
+slice_bounds-put_number-end c = search rules
 
 pub make_front_spec : {M : Type 1} → statement M
 make_front_spec =
@@ -56,8 +56,8 @@ make_front_spec =
     cast-put-number
     put-number-requires
     sub-put-number
-    part-put-number-start
-    part-put-number-end
+    slice_bounds-put_number-start
+    slice_bounds-put_number-end
     put-number-requires-2
     add-result
     same_length

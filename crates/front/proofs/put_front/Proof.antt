@@ -11,34 +11,34 @@ use Rattle.front.proofs.put_front.Lts as lts
 use Rattle.buffers.proofs.bytes.copy.Reads as copy-reads
 use Rattle.front.proofs.make_front.Reads as make-front-reads
 
-slice-aggregate-make-front : tie.Need-slice-aggregate-make-front
+slice-aggregate-make-front : tie.Need-slice_bounds-make_front-end
 slice-aggregate-make-front c = search rules
 
-make-front-requires : tie.Need-make-front-requires
+make-front-requires : tie.Need-make_front-count-requires
 make-front-requires c κs = search rules
 
-returns : tie.Need-returns
+returns : tie.Need-returns-then-buffer-count
 returns c = search rules
 
-array-share-prefix-made : tie.Need-array-share-prefix-made
+array-share-prefix-made : tie.Need-slice_bounds-made-end
 array-share-prefix-made c = search rules
 
-slice-aggregate-copy : tie.Need-slice-aggregate-copy
-slice-aggregate-copy c = let m = c.before.before.before.make-front in sym (length-take-le m.result m.new.1.0 (omega (arith, m.ensures.1, m.auto.1.0)))
+slice-aggregate-copy : tie.Need-slice_bounds-copy-end
+slice-aggregate-copy c = let m = c.make_front-count in sym (length-take-le m.result m.new.made (omega (arith, m.ensures.1, m.auto.made)))
 
 copy-requires : tie.Need-copy-requires
-copy-requires c κs = let m = c.before.before.before.before.make-front in omega (arith, length-take-le m.result m.new.1.0 (omega (arith, m.ensures.1, m.auto.1.0)))
+copy-requires c κs = let m = c.make_front-count in omega (arith, length-take-le m.result m.new.made (omega (arith, m.ensures.1, m.auto.made)))
 
-same_length : tie.Need-same-length
+same_length : tie.Need-shape_of-buffer
 same_length c = search rules
 
-returns-2 : tie.Need-returns-2
+returns-2 : tie.Need-returns
 returns-2 c =
-    let a = c.before.before.before.before.before.before.before.before.before.before.before.args in
-    let m = c.before.before.before.before.before.before.before.make-front in (
+    let a = c.args in
+    let m = c.make_front-count in (
       m.ensures.0,
-      omega (arith, m.ensures.0, c.before.before.before.before.before.if1.false),
-      front_copied a.map.now _ m.new.1.0 a.buffer.now _ m.result m.ensures.0 m.ensures.2 c.before.before.copy.ensures,
+      omega (arith, m.ensures.0, c.if-buffer-count.false),
+      front_copied a.map.now _ m.new.made a.buffer.now _ m.result m.ensures.0 m.ensures.2 c.copy.ensures,
     )
 
 pub put_front_spec : {M : Type 1} → statement M

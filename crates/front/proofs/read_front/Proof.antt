@@ -17,12 +17,12 @@ use Rattle.buffers.proofs.number.number_at.Reads as number-at-reads
 
 -- ---- what was read
 
-first : (h : tie.After-count) →
+first : (h : tie.In-Got-2) →
     let message = h.before.before.before.before.args.message.now in
     number message ≡ got h.count.given.0.0 (drop h.count.given.0.1.0 message)
 first h = sym h.before.before.number_at.ensures ∙ ap (taken _) h.count.given.1
 
-second : (s : tie.After-sum) →
+second : (s : tie.In-Got-number_at-2) →
     let h = s.before.before.before.before in
     let message = h.before.before.before.before.args.message.now in
     number (drop h.count.given.0.1.0 message) ≡ got s.sum.given.0.0 (drop s.sum.given.0.1.0 message)
@@ -30,43 +30,43 @@ second s = sym s.before.before.number-at2.ensures ∙ ap (taken _) s.sum.given.1
 
 -- ---- the needs
 
-number-at-requires : tie.Need-number-at-requires
+number-at-requires : tie.Need-number_at-requires
 number-at-requires c κs = search rules
 
-enum-known-count : tie.Need-enum-known-count
+enum-known-count : tie.Need-enum_known-count
 enum-known-count c = search rules
 
-enum_told : tie.Need-enum-told
+enum_told : tie.Need-enum_told-1
 enum_told c = search rules
 
-returns : tie.Need-returns
-returns c = no_count _ (sym c.before.before.number_at.ensures ∙ ap (taken _) c.enum_told.given.1)
+returns : tie.Need-returns-in_default
+returns c = no_count _ (sym c.number_at.ensures ∙ ap (taken _) c.in_default.is)
 
-number-at-requires-2 : tie.Need-number-at-requires-2
+number-at-requires-2 : tie.Need-number_at-requires-2
 number-at-requires-2 c κs = search rules
 
-enum-known-sum : tie.Need-enum-known-sum
+enum-known-sum : tie.Need-enum_known-sum
 enum-known-sum c = search rules
 
-enum-told-2 : tie.Need-enum-told-2
+enum-told-2 : tie.Need-enum_told-in_default-number_at
 enum-told-2 c = search rules
 
-returns-2 : tie.Need-returns-2
+returns-2 : tie.Need-returns-in_default-number_at
 returns-2 c =
-    no_sum _ _ _ (first c.before.before.before.before) (sym c.before.before.number-at2.ensures ∙ ap (taken _) c.enum-told2.given.1)
+    no_sum _ _ _ (first c.before.before.before.before) (sym c.number_at-2.ensures ∙ ap (taken _) c.in_default-number_at.is)
 
 lesser-requires : tie.Need-lesser-requires
 lesser-requires c κs = search rules
 
-returns-3 : tie.Need-returns-3
+returns-3 : tie.Need-returns
 returns-3 c =
     let s = c.before.before in
     let h = s.before.before.before.before in
-    let message = h.before.before.before.before.args.message.now in
-    let behind = s.sum.given.0.1.0 in
+    let message = c.args.message.now in
+    let behind = c.in-Got-number_at.behind in
     let end = c.lesser.ensures in (
       both_read message _ _ _ _ (first h) (second s)
-          ∙ ap (front h.count.given.0.0 s.sum.given.0.0) (sym (ap (λ n. drop n message) end ∙ drop_lesser behind message)),
+          ∙ ap (front c.in-Got.count c.in-Got-number_at.sum) (sym (ap (λ n. drop n message) end ∙ drop_lesser behind message)),
       omega arith,
     )
 

@@ -14,40 +14,40 @@ use Rattle.front.proofs.read_front.Reads as read-front-reads
 use Rattle.map_sum.proofs.map_sum.Reads as map-sum-reads
 
 -- What was read.
-read_so : (h : tie.After-count) →
+read_so : (h : tie.In-Read-2) →
     let message = h.before.before.before.before.before.args.message.now in
     front_of message ≡ front h.count.given.0.0 h.count.given.0.1.0 (drop h.count.given.0.1.1.0 message)
 read_so h = (subst (FrontIs _) h.count.given.1 h.before.before.read-front.ensures).0
 
-read-front-requires : tie.Need-read-front-requires
+read-front-requires : tie.Need-read_front-requires
 read-front-requires c κs = search rules
 
-enum-known-count : tie.Need-enum-known-count
+enum-known-count : tie.Need-enum_known-count
 enum-known-count c = search rules
 
-enum_told : tie.Need-enum-told
+enum_told : tie.Need-enum_told-1
 enum_told c = search rules
 
-returns : tie.Need-returns
-returns c = sym (unread _ _ (subst (FrontIs _) c.enum_told.given.1 c.before.before.read-front.ensures))
+returns : tie.Need-returns-in_default
+returns c = sym (unread _ _ (subst (FrontIs _) c.in_default.is c.read_front.ensures))
 
-cast-if1 : tie.Need-overflow-cast-if1
+cast-if1 : tie.Need-overflow_cast-count
 cast-if1 c = search rules
 
-returns-2 : tie.Need-returns-2
+returns-2 : tie.Need-returns-then-count-map
 returns-2 c =
     let h = c.before.before in
-    let a = h.before.before.before.before.before.args in
-    sym (tested _ _ _ _ _ (read_so h) ∙ rw (ne_eqb h.count.given.0.0 (length a.map.now) c.if1.true))
+    let a = c.args in
+    sym (tested _ _ _ _ _ (read_so h) ∙ rw (ne_eqb c.in-Read.count (length a.map.now) c.if-count-map.true))
 
-map-sum-requires : tie.Need-map-sum-requires
+map-sum-requires : tie.Need-map_sum-expected-requires
 map-sum-requires c κs = search rules
 
-returns-3 : tie.Need-returns-3
+returns-3 : tie.Need-returns
 returns-3 c =
     let h = c.before.before.before in
-    let a = h.before.before.before.before.before.args in
-    sym (tested _ _ _ _ _ (read_so h) ∙ rw (eq-eqb h.count.given.0.0 (length a.map.now) c.before.if1.false, sym c.map-sum.ensures))
+    let a = c.args in
+    sym (tested _ _ _ _ _ (read_so h) ∙ rw (eq-eqb c.in-Read.count (length a.map.now) c.if-count-map.false, sym c.map_sum-expected.ensures))
 
 pub same_map_spec : {M : Type 1} → statement M
 same_map_spec =

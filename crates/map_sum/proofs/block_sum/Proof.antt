@@ -15,78 +15,77 @@ use Rattle.map_sum.proofs.block_sum.Tie as tie
 whole : (bs : List ℕ) (ws vs : List ℤ) (i : ℕ) (z : ℤ) → ws ≡ vs → i ≡ 64 → Partial bs ws i z → Partial bs vs 64 z
 whole bs ws vs i z e h p = subst (λ (us : List ℤ). Partial bs us 64 z) e (subst (λ (n : ℕ). Partial bs ws n z) h p)
 
-abbrev invariant-loop : tie.invariant-loop
+abbrev invariant-loop : tie.invariant-loop-i
 invariant-loop map at low high low-sum₀ high-sum₀ i₀ low_sum high_sum i =
     (i ≤ 64) × Partial (drop at map) low i (to_z w32 low_sum) × Partial (drop at map) high i (to_z w32 high_sum)
 
-abbrev decreases-loop : tie.decreases-loop
+abbrev decreases-loop : tie.decreases-loop-i
 decreases-loop map at low high low-sum₀ high-sum₀ i₀ low_sum high_sum i = 64 - i
 
-loop-holds : tie.Need-loop-init invariant-loop decreases-loop
+loop-holds : tie.Need-loop-i-init invariant-loop decreases-loop
 loop-holds c = (omega arith, partial_none _ _, partial_none _ _)
 
-add-weighed : tie.Need-overflow-add-weighed invariant-loop decreases-loop
+add-weighed : tie.Need-overflow_add-at invariant-loop decreases-loop
 add-weighed c = search rules
 
-shared-slice-read-weighed : tie.Need-shared-slice-read-weighed invariant-loop decreases-loop
+shared-slice-read-weighed : tie.Need-bounds-map-at invariant-loop decreases-loop
 shared-slice-read-weighed c = search rules
 
-mul-weighed : tie.Need-overflow-mul-weighed invariant-loop decreases-loop
+mul-weighed : tie.Need-offset_bounds-low-i invariant-loop decreases-loop
 mul-weighed c = search rules
 
-element-copy-out-weighed : tie.Need-element-copy-out-weighed invariant-loop decreases-loop
+element-copy-out-weighed : tie.Need-bounds-low-i invariant-loop decreases-loop
 element-copy-out-weighed c = search rules
 
-weighed-requires : tie.Need-weighed-requires invariant-loop decreases-loop
-weighed-requires c κs = let l = c.before.before.before.loop in omega (arith, l.invariant.1.small, c.before.before.loop-test.true)
+weighed-requires : tie.Need-weighed-low_sum-requires invariant-loop decreases-loop
+weighed-requires c κs = let l = c.loop-i in omega (arith, l.invariant.1.small, c.loop-i-test.true)
 
-add-weighed-2 : tie.Need-overflow-add-weighed-2 invariant-loop decreases-loop
+add-weighed-2 : tie.Need-overflow_add-at-in-loop-i invariant-loop decreases-loop
 add-weighed-2 c = search rules
 
-shared-slice-read-weighed-2 : tie.Need-shared-slice-read-weighed-2 invariant-loop decreases-loop
+shared-slice-read-weighed-2 : tie.Need-bounds-map-at-in-loop-i invariant-loop decreases-loop
 shared-slice-read-weighed-2 c = search rules
 
-mul-weighed-2 : tie.Need-overflow-mul-weighed-2 invariant-loop decreases-loop
+mul-weighed-2 : tie.Need-offset_bounds-high-i invariant-loop decreases-loop
 mul-weighed-2 c = search rules
 
-element-copy-out-weighed-2 : tie.Need-element-copy-out-weighed-2 invariant-loop decreases-loop
+element-copy-out-weighed-2 : tie.Need-bounds-high-i invariant-loop decreases-loop
 element-copy-out-weighed-2 c = search rules
 
-weighed-requires-2 : tie.Need-weighed-requires-2 invariant-loop decreases-loop
+weighed-requires-2 : tie.Need-weighed-high_sum-requires invariant-loop decreases-loop
 weighed-requires-2 c κs =
-    let l = c.before.before.before.before.before.before.loop in
-    omega (arith, l.invariant.2.small, c.before.before.before.before.before.loop-test.true)
+    let l = c.loop-i in
+    omega (arith, l.invariant.2.small, c.loop-i-test.true)
 
-add-i : tie.Need-overflow-add-i invariant-loop decreases-loop
+add-i : tie.Need-overflow_add-i invariant-loop decreases-loop
 add-i c = search rules
 
-loop-less : tie.Need-loop-smaller invariant-loop decreases-loop
+loop-less : tie.Need-loop-i-smaller invariant-loop decreases-loop
 loop-less c = search rules
 
-loop-again : tie.Need-loop-preserved invariant-loop decreases-loop
+loop-again : tie.Need-loop-i-preserved invariant-loop decreases-loop
 loop-again c =
-    let start = c.before.before.before.before.before.before.before.before.before in
-    let l = c.before.before.before.before.before.before.before.loop in
-    let first = c.before.before.before.weighed in
-    let inside : start.args.at + l.i < length start.args.map.now = omega (arith, start.requires.0, l.invariant.0) in (
+    let l = c.loop-i in
+    let first = c.weighed-low_sum in
+    let inside : c.args.at + l.i < length c.args.map.now = omega (arith, c.requires.0, l.invariant.0) in (
       omega arith,
-      partial_again start.args.map.now start.args.low.now start.args.at l.i inside (to_z w32 l.low_sum) first.result l.invariant.1
-          (omega arith) (record { sfits = c.before.before.before.before.weighed-arg.given }) first.ensures.0 first.ensures.1,
-      partial_again start.args.map.now start.args.high.now start.args.at l.i inside (to_z w32 l.high_sum) c.weighed2.result l.invariant.2
-          (omega arith) (record { sfits = c.before.weighed-arg2.given }) c.weighed2.ensures.0 c.weighed2.ensures.1,
+      partial_again c.args.map.now c.args.low.now c.args.at l.i inside (to_z w32 l.low_sum-bits) first.result l.invariant.1
+          (omega arith) (record { sfits = c.weighed-arg-1.given }) first.ensures.0 first.ensures.1,
+      partial_again c.args.map.now c.args.high.now c.args.at l.i inside (to_z w32 l.high_sum-bits) c.weighed-high_sum.result l.invariant.2
+          (omega arith) (record { sfits = c.weighed-arg-in-loop-i-1.given }) c.weighed-high_sum.ensures.0 c.weighed-high_sum.ensures.1,
     )
 
 joined-requires : tie.Need-joined-requires invariant-loop decreases-loop
-joined-requires c κs = let l = c.before.loop in (omega (arith, l.invariant.2.small, l.invariant.0), omega (arith, l.invariant.1.small, l.invariant.0))
+joined-requires c κs = let l = c.loop-i in (omega (arith, l.invariant.2.small, l.invariant.0), omega (arith, l.invariant.1.small, l.invariant.0))
 
 returns : tie.Need-returns invariant-loop decreases-loop
 returns c =
-    let l = c.before.before.loop in
+    let l = c.loop-i in
     let done : l.i ≡ 64 = omega arith in (
-      partial_all (drop c.before.before.before.before.args.at c.before.before.before.before.args.map.now)
-          (to_z w32 l.high_sum) (to_z w32 l.low_sum) c.joined.result
-          (whole _ _ _ _ _ c.before.before.before.before.requires.2 done l.invariant.2)
-          (whole _ _ _ _ _ c.before.before.before.before.requires.1 done l.invariant.1)
+      partial_all (drop c.args.at c.args.map.now)
+          (to_z w32 l.high_sum-bits) (to_z w32 l.low_sum-bits) c.joined.result
+          (whole _ _ _ _ _ c.requires.2 done l.invariant.2)
+          (whole _ _ _ _ _ c.requires.1 done l.invariant.1)
           c.joined.ensures.0,
       c.joined.ensures.1,
     )

@@ -11,47 +11,47 @@ use Rattle.map_sum.proofs.Sums.{sum_block}
 use Rattle.map_sum.proofs.map_sum.Statement.{statement}
 use Rattle.map_sum.proofs.map_sum.Tie as tie
 
-abbrev invariant-loop : tie.invariant-loop
+abbrev invariant-loop : tie.invariant-loop-at
 invariant-loop map low high sum₀ at₀ sum at = (at ≤ length map) × (sum < sum_modulus) × (summed sum (drop at map) ≡ map_sum map)
 
-abbrev decreases-loop : tie.decreases-loop
+abbrev decreases-loop : tie.decreases-loop-at
 decreases-loop map low high sum₀ at₀ sum at = length map - at
 
-loop-holds : tie.Need-loop-init invariant-loop decreases-loop
+loop-holds : tie.Need-loop-at-init invariant-loop decreases-loop
 unfolding map_sum
 loop-holds c = (omega arith, omega arith, refl)
 
-sub-loop : tie.Need-overflow-sub-loop invariant-loop decreases-loop
+sub-loop : tie.Need-overflow_sub-map invariant-loop decreases-loop
 sub-loop c = search rules
 
-mul-sum : tie.Need-overflow-mul-sum invariant-loop decreases-loop
+mul-sum : tie.Need-overflow_mul-sum invariant-loop decreases-loop
 mul-sum c = search rules
 
-block-sum-requires : tie.Need-block-sum-requires invariant-loop decreases-loop
+block-sum-requires : tie.Need-block_sum-requires invariant-loop decreases-loop
 unfolding low_weights high_weights
 block-sum-requires c κs = (omega arith, refl, refl)
 
-add-sum : tie.Need-overflow-add-sum invariant-loop decreases-loop
+add-sum : tie.Need-overflow_add-sum invariant-loop decreases-loop
 add-sum c = search rules
 
-add_at : tie.Need-overflow-add-at invariant-loop decreases-loop
+add_at : tie.Need-overflow_add-at invariant-loop decreases-loop
 add_at c = search rules
 
-loop-less : tie.Need-loop-smaller invariant-loop decreases-loop
+loop-less : tie.Need-loop-at-smaller invariant-loop decreases-loop
 loop-less c = search rules
 
-loop-again : tie.Need-loop-preserved invariant-loop decreases-loop
+loop-again : tie.Need-loop-at-preserved invariant-loop decreases-loop
 loop-again c =
-    let l = c.before.before.before.before.loop in
-    let map = c.before.before.before.before.before.before.args.map.now in
+    let l = c.loop-at in
+    let map = c.args.map.now in
     let inside : l.at + 64 ≤ length map = omega arith in
-    (inside, sum_low _, sym (sum_block l.sum map l.at c.block-sum.result l.invariant.1 inside c.block-sum.ensures.0) ∙ l.invariant.2)
+    (inside, sum_low _, sym (sum_block l.sum map l.at c.block_sum.result l.invariant.1 inside c.block_sum.ensures.0) ∙ l.invariant.2)
 
-rest-sum-requires : tie.Need-rest-sum-requires invariant-loop decreases-loop
+rest-sum-requires : tie.Need-rest_sum-requires invariant-loop decreases-loop
 rest-sum-requires c κs = search rules
 
 returns : tie.Need-returns invariant-loop decreases-loop
-returns c = c.rest_sum.ensures ∙ c.before.before.loop.invariant.2
+returns c = c.rest_sum.ensures ∙ c.loop-at.invariant.2
 
 pub map_sum_spec : {M : Type 1} → statement M
 map_sum_spec =

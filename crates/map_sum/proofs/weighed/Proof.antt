@@ -5,16 +5,16 @@ use Rattle.map_sum.proofs.Weighing.{widens, weighs}
 use Rattle.map_sum.proofs.weighed.Statement.{statement}
 use Rattle.map_sum.proofs.weighed.Tie as tie
 
-cast-result : tie.Need-overflow-cast-result
+cast-result : tie.Need-overflow_cast-result
 cast-result c = search rules
 
-cast-result-2 : tie.Need-overflow-cast-result-2
+cast-result-2 : tie.Need-overflow_cast-result-2
 cast-result-2 c = widens w32 tt c.ranges.weight
 
-mul-result : tie.Need-overflow-mul-result
+mul-result : tie.Need-overflow_mul-result
 mul-result c = (weighs c.args.sum c.args.byte c.args.weight c.ranges.sum (search rules) c.ranges.weight c.requires).product_fits
 
-add-result : tie.Need-overflow-add-result
+add-result : tie.Need-overflow_add-result
 add-result c = (weighs c.args.sum c.args.byte c.args.weight c.ranges.sum (search rules) c.ranges.weight c.requires).more_fits
 
 returns : tie.Need-returns

@@ -8,40 +8,39 @@ use borrow.Author.Rules.{rules}
 use Rattle.relaxation.proofs.record_tie.Statement.{statement}
 use Rattle.relaxation.proofs.record_tie.Tie as tie
 
-add-x : tie.Need-overflow-add-x
+add-x : tie.Need-overflow_add-x
 add-x c = search rules
 
-mul-x : tie.Need-overflow-mul-x
+mul-x : tie.Need-offset_bounds-work-j
 mul-x c = search rules
 
-slice-read-x : tie.Need-slice-read-x
+slice-read-x : tie.Need-bounds-work-j
 slice-read-x c = search rules
 
-noted-requires : tie.Need-noted-requires
+noted-requires : tie.Need-noted-now-requires
 noted-requires c κs = search rules
 
-mul-work : tie.Need-overflow-mul-work
-mul-work c = omega (arith, c.before.slice-known2.given (lengths_from + c.before.before.before.args.j))
+mul-work : tie.Need-overflow_mul-work
+mul-work c = omega (arith, c.slice_known-2-1.given (lengths_from + c.args.j))
 
-add-work : tie.Need-overflow-add-work
+add-work : tie.Need-overflow_add-work
 add-work c =
-    let start = c.before.before.before in
-    omega (arith, c.before.slice-known2.given (lengths_from + start.args.j), noted_small c.noted.ensures start.requires.1)
+    omega (arith, c.slice_known-2-1.given (lengths_from + c.args.j), noted_small c.noted-now.ensures c.requires.1)
 
-add-work-2 : tie.Need-overflow-add-work-2
+add-work-2 : tie.Need-overflow_add-work-2
 add-work-2 c = search rules
 
-mul-work-2 : tie.Need-overflow-mul-work-2
+mul-work-2 : tie.Need-offset_bounds-work-j-2
 mul-work-2 c = search rules
 
-slice-write-work : tie.Need-slice-write-work
+slice-write-work : tie.Need-bounds-work-j-2
 slice-write-work c = search rules
 
-same_length : tie.Need-same-length
+same_length : tie.Need-shape_of-work
 same_length c = search rules
 
 returns : tie.Need-returns
-returns c = let p = c.before.before.before.requires in tie_noted p.0 p.2 p.1 refl c.noted.ensures
+returns c = let p = c.requires in tie_noted p.0 p.2 p.1 refl c.noted-now.ensures
 
 pub record_tie_spec : {M : Type 1} → statement M
 record_tie_spec =

@@ -11,33 +11,32 @@ use borrow.Author.Rules.{rules}
 use Rattle.depot_map.proofs.ban.put_fitting.Statement.{statement}
 use Rattle.depot_map.proofs.ban.put_fitting.Tie as tie
 
-returns : tie.Need-returns
-returns c = sort_off (not-true _ c.if1.true)
+returns : tie.Need-returns-then-not-taken
+returns c = sort_off (not-true _ c.if-not-taken.true)
 
 fits-requires : tie.Need-fits-requires
 fits-requires c κs = search rules
 
-put-once-requires : tie.Need-put-once-requires
+put-once-requires : tie.Need-put_once-requires
 put-once-requires c κs =
-    let start = c.before.before.before.before.before.before.before in
-    let pre = start.requires.0 in
-    let so_far = start.requires.1 in
-    let fit = sym c.before.before.fits2.ensures ∙ c.before.if2.true in
-    let all = listed_length (held_line start.args.work.now) start.args.lines in
-    ((pre.0, pre.1, pre.2, omega (arith, fits_first _ _ fit, all), omega (arith, fits_second _ _ fit, all)), (mirror_turns so_far.0, so_far.1.taken.held (not-false _ c.before.before.before.before.if1.false)))
+    let pre = c.requires.0 in
+    let so_far = c.requires.1 in
+    let fit = sym c.before.before.fits2.ensures ∙ c.if-fits.true in
+    let all = listed_length (held_line c.args.work.now) c.args.lines in
+    ((pre.0, pre.1, pre.2, omega (arith, fits_first _ _ fit, all), omega (arith, fits_second _ _ fit, all)), (mirror_turns so_far.0, so_far.1.taken.held (not-false _ c.if-not-taken.false)))
 
-same_length : tie.Need-same-length
+same_length : tie.Need-shape_of-work-then-fits
 same_length c = search rules
 
-returns-2 : tie.Need-returns-2
+returns-2 : tie.Need-returns-then-fits
 returns-2 c =
-    sort_fit (not-false _ c.before.before.before.before.before.before.before.if1.false) c.before.before.before.before.before.fits2.ensures c.before.before.before.before.if2.true c.before.before.before.before.before.before.before.before.before.before.requires.0.2 c.before.before.put-once.ensures
+    sort_fit (not-false _ c.if-not-taken.false) c.before.before.before.before.before.fits2.ensures c.if-fits.true c.requires.0.2 c.put_once.ensures
 
-same-length-2 : tie.Need-same-length-2
+same-length-2 : tie.Need-shape_of-work
 same-length-2 c = search rules
 
-returns-3 : tie.Need-returns-3
-returns-3 c = sort_unfit (not-false _ c.before.before.before.if1.false) c.before.fits2.ensures c.if2.false
+returns-3 : tie.Need-returns
+returns-3 c = sort_unfit (not-false _ c.if-not-taken.false) c.before.fits2.ensures c.if-fits.false
 
 pub put_fitting_spec : {M : Type 1} → statement M
 put_fitting_spec =

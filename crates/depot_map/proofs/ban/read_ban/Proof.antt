@@ -11,30 +11,27 @@ use Rattle.depot_map.proofs.ban.read_ban.Tie as tie
 field-requires : tie.Need-field-requires
 field-requires c κs = search rules
 
-enum-known-first : tie.Need-enum-known-first
+enum-known-first : tie.Need-enum_known-first
 enum-known-first c = search rules
 
-read-second-requires : tie.Need-read-second-requires
+read-second-requires : tie.Need-read_second-requires
 read-second-requires c κs = search rules
 
-enum-known-why : tie.Need-enum-known-why
+enum-known-why : tie.Need-enum_known-why
 enum-known-why c = search rules
 
-same_length : tie.Need-same-length
+same_length : tie.Need-shape_of-work
 same_length c = search rules
 
-returns : tie.Need-returns
+returns : tie.Need-returns-in-Got
 unfolding read_ban read_second fault_of
 returns c =
-    let known = c.before.before.before.before.before in
-    let field = known.before.before in
-    read_then _ _ _ _ _ _ _ _ (λ rest. field_on field.field.ensures known.first.given.1 _) c.before.before.read-second.ensures
+    read_then _ _ _ _ _ _ _ _ (λ rest. field_on c.field.ensures c.in-Got.is _) c.read_second.ensures
 
-returns-2 : tie.Need-returns-2
+returns-2 : tie.Need-returns-in-Refused
 unfolding read_ban fault_of
 returns-2 c =
-    let field = c.before.before.before in
-    refused_read _ _ _ _ _ _ (λ rest. field_off field.field.ensures c.before.why.given.1 _)
+    refused_read _ _ _ _ _ _ (λ rest. field_off c.field.ensures c.in-Refused.is _)
 
 pub read_ban_spec : {M : Type 1} → statement M
 read_ban_spec =

@@ -10,30 +10,27 @@ use Rattle.depot_map.proofs.ban.read_second.Tie as tie
 field-requires : tie.Need-field-requires
 field-requires c κs = search rules
 
-enum-known-second : tie.Need-enum-known-second
+enum-known-second : tie.Need-enum_known-second
 enum-known-second c = search rules
 
-put-fitting-requires : tie.Need-put-fitting-requires
+put-fitting-requires : tie.Need-put_fitting-requires
 put-fitting-requires c κs = search rules
 
-enum-known-why : tie.Need-enum-known-why
+enum-known-why : tie.Need-enum_known-why
 enum-known-why c = search rules
 
-same_length : tie.Need-same-length
+same_length : tie.Need-shape_of-work
 same_length c = search rules
 
-returns : tie.Need-returns
+returns : tie.Need-returns-in-Got
 unfolding read_second fault_of
 returns c =
-    let known = c.before.before.before.before.before in
-    let field = known.before.before in
-    got_read _ _ _ _ _ _ (λ rest. field_on field.field.ensures known.second.given.1 _) c.before.before.put_fitting.ensures
+    got_read _ _ _ _ _ _ (λ rest. field_on c.field.ensures c.in-Got.is _) c.put_fitting.ensures
 
-returns-2 : tie.Need-returns-2
+returns-2 : tie.Need-returns-in-Refused
 unfolding read_second fault_of
 returns-2 c =
-    let field = c.before.before.before in
-    refused_read _ _ _ _ _ _ (λ rest. field_off field.field.ensures c.before.why.given.1 _)
+    refused_read _ _ _ _ _ _ (λ rest. field_off c.field.ensures c.in-Refused.is _)
 
 pub read_second_spec : {M : Type 1} → statement M
 read_second_spec =

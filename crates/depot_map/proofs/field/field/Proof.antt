@@ -12,44 +12,44 @@ use borrow.Author.Rules.{rules}
 use Rattle.depot_map.proofs.field.field.Statement.{statement}
 use Rattle.depot_map.proofs.field.field.Tie as tie
 
-abbrev bytes : tie.After-known-told → List ℕ
-bytes c = c.before.before.before.before.before.args.map.now
+abbrev bytes : tie.In-Got → List ℕ
+bytes c = c.args.map.now
 
-answer : (c : tie.After-known-told) →
-    number (drop c.before.before.before.before.before.args.from (bytes c)) ≡ got c.before.x.given.0.0 (drop c.before.x.given.0.1.0 (bytes c))
-answer c = sym c.before.before.before.number_at.ensures ∙ ap (taken (bytes c)) c.before.x.given.1
+answer : (c : tie.In-Got) →
+    number (drop c.args.from (bytes c)) ≡ got c.in-Got.x (drop c.in-Got.next (bytes c))
+answer c = sym c.number_at.ensures ∙ ap (taken (bytes c)) c.in-Got.is
 
-number-at-requires : tie.Need-number-at-requires
+number-at-requires : tie.Need-number_at-requires
 number-at-requires c κs = search rules
 
-enum-known-x : tie.Need-enum-known-x
+enum-known-x : tie.Need-enum_known-x
 enum-known-x c = search rules
 
-enum_told : tie.Need-enum-told
+enum_told : tie.Need-enum_told-1
 enum_told c = search rules
 
-returns : tie.Need-returns
+returns : tie.Need-returns-in_default
 unfolding go_on fault_of
 returns c =
-    let bytes = c.before.before.before.before.args.map.now in
+    let bytes = c.args.map.now in
     record {
-      goes = λ rest. field_faulty _ _ _ _ rest (sym c.before.before.number_at.ensures ∙ ap (taken bytes) c.enum_told.given.1);
+      goes = λ rest. field_faulty _ _ _ _ rest (sym c.number_at.ensures ∙ ap (taken bytes) c.in_default.is);
       within = tt;
     }
 
-returns-2 : tie.Need-returns-2
+returns-2 : tie.Need-returns-then-x-low
 unfolding go_on
-returns-2 c = record { goes = λ rest. field_low _ _ _ _ rest _ _ (answer c.before) c.if1.true; within = tt }
+returns-2 c = record { goes = λ rest. field_low _ _ _ _ rest _ _ (answer c.before) c.if-x-low.true; within = tt }
 
-returns-3 : tie.Need-returns-3
+returns-3 : tie.Need-returns-then-high-x
 unfolding go_on
-returns-3 c = record { goes = λ rest. field_high _ _ _ _ rest _ _ (answer c.before.before) c.before.if1.false c.if2.true; within = tt }
+returns-3 c = record { goes = λ rest. field_high _ _ _ _ rest _ _ (answer c.before.before) c.if-x-low.false c.if-high-x.true; within = tt }
 
-returns-4 : tie.Need-returns-4
+returns-4 : tie.Need-returns
 unfolding go_on
 returns-4 c = record {
-  goes = λ rest. field_in _ _ _ _ rest _ _ (answer c.before.before) c.before.if1.false c.if2.false;
-  within = (c.before.if1.false, c.if2.false);
+  goes = λ rest. field_in _ _ _ _ rest _ _ (answer c.before.before) c.if-x-low.false c.if-high-x.false;
+  within = (c.if-x-low.false, c.if-high-x.false);
 }
 
 pub field_spec : {M : Type 1} → statement M

@@ -6,11 +6,11 @@ use borrow.Author.Tests.{eq-eqb, ne_eqb}
 use Rattle.depot_map.proofs.line.both_zero.Statement.{statement}
 use Rattle.depot_map.proofs.line.both_zero.Tie as tie
 
-returns : tie.Need-returns
-returns c = sym (ap (λ t. t && eqb c.before.args.north 250) (eq-eqb _ _ c.if1.true))
+returns : tie.Need-returns-then-east-eq-STEP_ADDED
+returns c = sym (ap (λ t. t && eqb c.args.north 250) (eq-eqb _ _ c.if-east-eq-STEP_ADDED.true))
 
-returns-2 : tie.Need-returns-2
-returns-2 c = ne_eqb _ _ c.if1.false ∙ sym (ap (λ t. t && eqb c.before.args.north 250) (ne_eqb _ _ c.if1.false))
+returns-2 : tie.Need-returns-else-east-eq-STEP_ADDED
+returns-2 c = ne_eqb _ _ c.if-east-eq-STEP_ADDED.false ∙ sym (ap (λ t. t && eqb c.args.north 250) (ne_eqb _ _ c.if-east-eq-STEP_ADDED.false))
 
 pub both_zero_spec : {M : Type 1} → statement M
 both_zero_spec = tie.close (tie.spec returns returns-2)

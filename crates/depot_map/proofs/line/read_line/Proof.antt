@@ -11,86 +11,80 @@ use borrow.Author.Rules.{rules}
 use Rattle.depot_map.proofs.line.read_line.Statement.{statement}
 use Rattle.depot_map.proofs.line.read_line.Tie as tie
 
-sub-field : tie.Need-overflow-sub-field
+sub-field : tie.Need-overflow_sub-nodes
 sub-field c = search rules
 
-field-requires : tie.Need-field-requires
+field-requires : tie.Need-field-start-requires
 field-requires c κs = search rules
 
-enum-known-start : tie.Need-enum-known-start
+enum-known-start : tie.Need-enum_known-start
 enum-known-start c = search rules
 
-enum_told : tie.Need-enum-told
+enum_told : tie.Need-enum_told-1
 enum_told c = search rules
 
-returns : tie.Need-returns
+returns : tie.Need-returns-in_default
 unfolding read_line fault_of
 returns c =
-    let why = c.enum_told.given.1 in
-    part_refused _ why (λ rest. field_off c.before.before.field.ensures why _)
+    let why = c.in_default.is in
+    part_refused _ why (λ rest. field_off c.field-start.ensures why _)
 
-sub-field-2 : tie.Need-overflow-sub-field-2
+sub-field-2 : tie.Need-overflow_sub-nodes-2
 sub-field-2 c = search rules
 
-field-requires-2 : tie.Need-field-requires-2
+field-requires-2 : tie.Need-field-end-requires
 field-requires-2 c κs = search rules
 
-enum-known-end : tie.Need-enum-known-end
+enum-known-end : tie.Need-enum_known-end
 enum-known-end c = search rules
 
-enum-told-2 : tie.Need-enum-told-2
+enum-told-2 : tie.Need-enum_told-in_default-end
 enum-told-2 c = search rules
 
-returns-2 : tie.Need-returns-2
+returns-2 : tie.Need-returns-in_default-end
 unfolding read_line fault_of
 returns-2 c =
-    let start = c.before.before.before in
-    let why = c.enum-told2.given.1 in
+    let why = c.in_default-end.is in
     part_refused _ why (λ rest.
-    field_on start.before.before.before.field.ensures start.before.start.given.1 _
-    ∙ field_off c.before.before.field2.ensures why _)
+    field_on c.field-start.ensures c.in-Got.is _
+    ∙ field_off c.field-end.ensures why _)
 
-returns-3 : tie.Need-returns-3
+returns-3 : tie.Need-returns-then-start_node-end_node
 returns-3 c =
-    let end = c.before in
-    let start = end.before.before.before.before in
-    line_equal _ start.before.before.before.field.ensures start.before.start.given.1 end.before.before.before.field2.ensures
-    end.before.end.given.1 c.if1.true
+    line_equal _ c.field-start.ensures c.in-Got.is c.field-end.ensures
+    c.in-Got-end.is c.if-start_node-end_node.true
 
-mul_at : tie.Need-overflow-mul-at
+mul_at : tie.Need-overflow_mul-at
 mul_at c = search rules
 
-add_at : tie.Need-overflow-add-at
+add_at : tie.Need-overflow_add-at
 add_at c = search rules
 
-mul-work : tie.Need-overflow-mul-work
+mul-work : tie.Need-offset_bounds-work-at
 mul-work c = search rules
 
-slice-write-work : tie.Need-slice-write-work
+slice-write-work : tie.Need-bounds-work-at
 slice-write-work c = search rules
 
-add-work : tie.Need-overflow-add-work
+add-work : tie.Need-overflow_add-work
 add-work c = search rules
 
-mul-work-2 : tie.Need-overflow-mul-work-2
+mul-work-2 : tie.Need-offset_bounds-work-at-2
 mul-work-2 c = search rules
 
-slice-write-work-2 : tie.Need-slice-write-work-2
+slice-write-work-2 : tie.Need-bounds-work-at-2
 slice-write-work-2 c = simp length-set (omega arith)
 
-read-attributes-requires : tie.Need-read-attributes-requires
+read-attributes-requires : tie.Need-read_attributes-requires
 read-attributes-requires c κs = simp length-set (omega arith)
 
-same_length : tie.Need-same-length
-same_length c = c.before.before.read-attributes.auto.1.1.0 ∙ simp length-set
+same_length : tie.Need-shape_of-work
+same_length c = c.read_attributes.auto.work ∙ simp length-set
 
-returns-4 : tie.Need-returns-4
+returns-4 : tie.Need-returns
 returns-4 c =
-    let differ = c.before.before.before.before in
-    let end = differ.before in
-    let start = end.before.before.before.before in
-    line_read _ start.before.before.before.field.ensures start.before.start.given.1 end.before.before.before.field2.ensures
-    end.before.end.given.1 differ.if1.false (omega arith) c.before.before.read-attributes.ensures
+    line_read _ c.field-start.ensures c.in-Got.is c.field-end.ensures
+    c.in-Got-end.is c.if-start_node-end_node.false (omega arith) c.read_attributes.ensures
     (simp towards_suc)
 
 pub read_line_spec : {M : Type 1} → statement M

@@ -11,77 +11,71 @@ use borrow.Author.Rules.{rules}
 use Rattle.depot_map.proofs.line.read_steps.Statement.{statement}
 use Rattle.depot_map.proofs.line.read_steps.Tie as tie
 
-field-requires : tie.Need-field-requires
+field-requires : tie.Need-field-east-requires
 field-requires c κs = search rules
 
-enum-known-east : tie.Need-enum-known-east
+enum-known-east : tie.Need-enum_known-east
 enum-known-east c = search rules
 
-enum_told : tie.Need-enum-told
+enum_told : tie.Need-enum_told-1
 enum_told c = search rules
 
-returns : tie.Need-returns
+returns : tie.Need-returns-in_default
 unfolding read_steps fault_of
 returns c =
-    let why = c.enum_told.given.1 in
-    record { goes = λ rest. field_off c.before.before.field.ensures why _ ∙ sym (off _ why rest) }
+    let why = c.in_default.is in
+    record { goes = λ rest. field_off c.field-east.ensures why _ ∙ sym (off _ why rest) }
 
-field-requires-2 : tie.Need-field-requires-2
+field-requires-2 : tie.Need-field-north-requires
 field-requires-2 c κs = search rules
 
-enum-known-north : tie.Need-enum-known-north
+enum-known-north : tie.Need-enum_known-north
 enum-known-north c = search rules
 
-enum-told-2 : tie.Need-enum-told-2
+enum-told-2 : tie.Need-enum_told-in_default-north
 enum-told-2 c = search rules
 
-returns-2 : tie.Need-returns-2
+returns-2 : tie.Need-returns-in_default-north
 unfolding read_steps fault_of
 returns-2 c =
-    let east = c.before.before.before in
-    let why = c.enum-told2.given.1 in
+    let why = c.in_default-north.is in
     record {
       goes = λ rest.
-          field_on east.before.before.before.field.ensures east.before.east.given.1 _
-          ∙ field_off c.before.before.field2.ensures why _ ∙ sym (off _ why rest);
+          field_on c.field-east.ensures c.in-Got.is _
+          ∙ field_off c.field-north.ensures why _ ∙ sym (off _ why rest);
     }
 
-both-zero-requires : tie.Need-both-zero-requires
+both-zero-requires : tie.Need-both_zero-requires
 both-zero-requires c κs = search rules
 
-returns-3 : tie.Need-returns-3
+returns-3 : tie.Need-returns-then-both_zero
 unfolding read_steps fault_of go_on
 returns-3 c =
-    let north = c.before.before in
-    let east = north.before.before.before.before in
     record {
       goes = λ rest.
-          field_on east.before.before.before.field.ensures east.before.east.given.1 _
-          ∙ field_on north.before.before.before.field2.ensures north.before.north.given.1 _
-          ∙ stops _ 24 _ (sym c.before.both_zero.ensures ∙ c.if1.true);
+          field_on c.field-east.ensures c.in-Got.is _
+          ∙ field_on c.field-north.ensures c.in-Got-north.is _
+          ∙ stops _ 24 _ (sym c.both_zero.ensures ∙ c.if-both_zero.true);
     }
 
 sector-requires : tie.Need-sector-requires
 sector-requires c κs =
-    let north = c.before.before in
-    let east = north.before.before.before.before in (
-      (field_range east.before.before.before.field.ensures east.before.east.given.1).1,
-      (field_range north.before.before.before.field2.ensures north.before.north.given.1).1,
-      not_both _ _ (sym c.before.both_zero.ensures ∙ c.if1.false),
+    (
+      (field_range c.field-east.ensures c.in-Got.is).1,
+      (field_range c.field-north.ensures c.in-Got-north.is).1,
+      not_both _ _ (sym c.both_zero.ensures ∙ c.if-both_zero.false),
     )
 
-returns-4 : tie.Need-returns-4
+returns-4 : tie.Need-returns
 unfolding read_steps fault_of go_on
 returns-4 c =
-    let north = c.before.before.before in
-    let east = north.before.before.before.before in
-    let bytes = east.before.before.before.before.before.args.map.now in
+    let bytes = c.args.map.now in
     record {
       goes = λ rest.
-          field_on east.before.before.before.field.ensures east.before.east.given.1 _
-          ∙ field_on north.before.before.before.field2.ensures north.before.north.given.1 _
-          ∙ passes _ 24 _ (sym c.before.before.both_zero.ensures ∙ c.before.if1.false)
-          ∙ ap (λ (s : ℕ). rest s (drop north.before.north.given.0.1.0 bytes)) (sym c.sector.ensures);
+          field_on c.field-east.ensures c.in-Got.is _
+          ∙ field_on c.field-north.ensures c.in-Got-north.is _
+          ∙ passes _ 24 _ (sym c.both_zero.ensures ∙ c.if-both_zero.false)
+          ∙ ap (λ (s : ℕ). rest s (drop c.in-Got-north.after_north bytes)) (sym c.sector.ensures);
     }
 
 pub read_steps_spec : {M : Type 1} → statement M

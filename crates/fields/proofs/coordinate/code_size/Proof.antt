@@ -5,10 +5,10 @@ use borrow.Author.Rules.{rules}
 use Rattle.fields.proofs.coordinate.code_size.Statement.{statement}
 use Rattle.fields.proofs.coordinate.code_size.Tie as tie
 
-mul-result : tie.Need-overflow-mul-result
+mul-result : tie.Need-overflow_mul-result
 mul-result c = search rules
 
-add-result : tie.Need-overflow-add-result
+add-result : tie.Need-overflow_add-result
 add-result c = search rules
 
 returns : tie.Need-returns

@@ -6,28 +6,28 @@ use borrow.Author.Rules.{rules}
 use Rattle.fields.proofs.coordinate.difference.Statement.{statement}
 use Rattle.fields.proofs.coordinate.difference.Tie as tie
 
-add-if1 : tie.Need-overflow-add-if1
+add-if1 : tie.Need-overflow_add-b
 add-if1 c = search rules
 
-returns : tie.Need-returns
+returns : tie.Need-returns-then-b-a
 returns c = search rules
 
-add-if2 : tie.Need-overflow-add-if2
+add-if2 : tie.Need-overflow_add-a
 add-if2 c = search rules
 
-returns-2 : tie.Need-returns-2
+returns-2 : tie.Need-returns-then-a-b
 returns-2 c = search rules
 
-add-t5 : tie.Need-overflow-add-t5
+add-t5 : tie.Need-overflow_add-result
 add-t5 c = search rules
 
-sub-t7 : tie.Need-overflow-sub-t7
+sub-t7 : tie.Need-overflow_sub-result
 sub-t7 c = search rules
 
-cast-t9 : tie.Need-overflow-cast-t9
+cast-t9 : tie.Need-overflow_cast-result
 cast-t9 c = search rules
 
-returns-3 : tie.Need-returns-3
+returns-3 : tie.Need-returns
 unfolding difference
 returns-3 c = (record { back = omega arith; on = omega arith }, refl)
 

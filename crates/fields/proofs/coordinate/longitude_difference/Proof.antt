@@ -5,13 +5,13 @@ use borrow.Author.Rules.{rules}
 use Rattle.fields.proofs.coordinate.longitude_difference.Statement.{statement}
 use Rattle.fields.proofs.coordinate.longitude_difference.Tie as tie
 
-add-result : tie.Need-overflow-add-result
+add-result : tie.Need-overflow_add-result
 add-result c = search rules
 
-add-result-2 : tie.Need-overflow-add-result-2
+add-result-2 : tie.Need-overflow_add-result-2
 add-result-2 c = search rules
 
-sub-result : tie.Need-overflow-sub-result
+sub-result : tie.Need-overflow_sub-result
 sub-result c = search rules
 
 returns : tie.Need-returns

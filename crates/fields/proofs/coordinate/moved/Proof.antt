@@ -6,19 +6,19 @@ use borrow.Author.Rules.{rules}
 use Rattle.fields.proofs.coordinate.moved.Statement.{statement}
 use Rattle.fields.proofs.coordinate.moved.Tie as tie
 
-add-sum : tie.Need-overflow-add-sum
+add-sum : tie.Need-overflow_add-sum
 add-sum c = search rules
 
-returns : tie.Need-returns
+returns : tie.Need-returns-then-by-lt32768
 unfolding moved
-returns c = simp (lt-ltb _ _ c.if1.true, add-zero)
+returns c = simp (lt-ltb _ _ c.if-by-lt32768.true, add-zero)
 
-add-result : tie.Need-overflow-add-result
+add-result : tie.Need-overflow_add-result
 add-result c = search rules
 
-returns-2 : tie.Need-returns-2
+returns-2 : tie.Need-returns
 unfolding moved
-returns-2 c = simp (le-ltb _ _ c.if1.false)
+returns-2 c = simp (le-ltb _ _ c.if-by-lt32768.false)
 
 pub moved_spec : {M : Type 1} → statement M
 moved_spec = tie.close (tie.spec add-sum returns add-result returns-2)

@@ -5,20 +5,20 @@ use borrow.Author.Rules.{rules}
 use Rattle.fields.proofs.leg.longest_leg.Statement.{statement}
 use Rattle.fields.proofs.leg.longest_leg.Tie as tie
 
-mul-result : tie.Need-overflow-mul-result
+mul-result : tie.Need-overflow_mul-result
 mul-result c = search rules
 
-sub-result : tie.Need-overflow-sub-result
+sub-result : tie.Need-overflow_sub-result
 sub-result c = search rules
 
-add-result : tie.Need-overflow-add-result
+add-result : tie.Need-overflow_add-result
 add-result c = search rules
 
-returns : tie.Need-returns
+returns : tie.Need-returns-then-d
 unfolding distance
 returns c = record { within = search rules; gives = λ l h. omega arith; holds = λ l h k. omega arith }
 
-returns-2 : tie.Need-returns-2
+returns-2 : tie.Need-returns
 unfolding distance
 returns-2 c = record { within = search rules; gives = λ l h. omega arith; holds = λ l h k. omega arith }
 

@@ -5,31 +5,31 @@ use borrow.Author.Rules.{rules}
 use Rattle.fields.proofs.offset.offset_byte.Statement.{statement}
 use Rattle.fields.proofs.offset.offset_byte.Tie as tie
 
-mul-nearest : tie.Need-overflow-mul-nearest
+mul-nearest : tie.Need-overflow_mul-nearest
 mul-nearest c = search rules
 
-add-nearest : tie.Need-overflow-add-nearest
+add-nearest : tie.Need-overflow_add-nearest
 add-nearest c = search rules
 
-mul-nearest-2 : tie.Need-overflow-mul-nearest-2
+mul-nearest-2 : tie.Need-overflow_mul-nearest-2
 mul-nearest-2 c = search rules
 
-div-nearest : tie.Need-nonzero-div-nearest
-div-nearest c = search rules
-
-cast-if1 : tie.Need-overflow-cast-if1
+cast-if1 : tie.Need-overflow_cast-t-4
 cast-if1 c = search rules
 
-returns : tie.Need-returns
+returns : tie.Need-returns-then-nearest
 unfolding nearest_step offset_byte
 returns c = (omega arith, omega arith)
 
-cast-result : tie.Need-overflow-cast-result
+cast-result : tie.Need-overflow_cast-result
 cast-result c = search rules
 
-returns-2 : tie.Need-returns-2
+returns-2 : tie.Need-returns
 unfolding nearest_step offset_byte
 returns-2 c = (omega arith, omega arith)
+
+nonzero_div-nearest : tie.Need-nonzero_div-nearest
+nonzero_div-nearest c = search rules
 
 pub offset_byte_spec : {M : Type 1} → statement M
 offset_byte_spec =
@@ -38,7 +38,7 @@ offset_byte_spec =
     mul-nearest
     add-nearest
     mul-nearest-2
-    div-nearest
+    nonzero_div-nearest
     cast-if1
     returns
     cast-result

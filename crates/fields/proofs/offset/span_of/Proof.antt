@@ -6,34 +6,34 @@ use borrow.Author.Rules.{rules}
 use Rattle.fields.proofs.offset.span_of.Statement.{statement}
 use Rattle.fields.proofs.offset.span_of.Tie as tie
 
-returns : tie.Need-returns
-returns c = past_255_nowhere _ _ c.if1.true
+returns : tie.Need-returns-then-byte-gt-GREATEST_OFFSET_BYTE
+returns c = past_255_nowhere _ _ c.if-byte-gt-GREATEST_OFFSET_BYTE.true
 
-mul-own : tie.Need-overflow-mul-own
+mul-own : tie.Need-overflow_mul-own
 mul-own c = search rules
 
-cast-own : tie.Need-overflow-cast-own
+cast-own : tie.Need-overflow_cast-own
 cast-own c = search rules
 
-mul-own-2 : tie.Need-overflow-mul-own-2
+mul-own-2 : tie.Need-overflow_mul-own-2
 mul-own-2 c = omega (arith, own_within c.before.args.leg c.before.args.byte (omega arith))
 
-first-offset-requires : tie.Need-first-offset-requires
+first-offset-requires : tie.Need-first_offset-first-requires
 first-offset-requires c κs = search rules
 
-first-past-requires : tie.Need-first-past-requires
+first-past-requires : tie.Need-first_past-next-requires
 first-past-requires c κs = search rules
 
-returns-2 : tie.Need-returns-2
+returns-2 : tie.Need-returns-then-next-first
 returns-2 c =
-    nowhere _ _ _ _ c.before.before.first-offset.ensures c.before.first_past.ensures.0 c.before.first_past.ensures.1 c.if2.true
+    nowhere _ _ _ _ c.before.before.first_offset-first.ensures c.before.first_past-next.ensures.0 c.before.first_past-next.ensures.1 c.if-next-first.true
 
-sub-t7 : tie.Need-overflow-sub-t7
+sub-t7 : tie.Need-overflow_sub-result
 sub-t7 c = search rules
 
-returns-3 : tie.Need-returns-3
+returns-3 : tie.Need-returns
 returns-3 c =
-    span _ _ _ _ c.before.before.first-offset.ensures c.before.first_past.ensures.0 c.before.first_past.ensures.1 c.if2.false
+    span _ _ _ _ c.before.before.first_offset-first.ensures c.before.first_past-next.ensures.0 c.before.first_past-next.ensures.1 c.if-next-first.false
 
 pub span_of_spec : {M : Type 1} → statement M
 span_of_spec =

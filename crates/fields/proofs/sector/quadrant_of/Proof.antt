@@ -13,23 +13,23 @@ byte_small : (t : Bool) → bool_byte t ≤ 1
 byte_small true = omega arith
 byte_small false = omega arith
 
-cast-south : tie.Need-overflow-cast-south
+cast-south : tie.Need-overflow_cast-south
 cast-south c = search rules
 
-add-if1 : tie.Need-overflow-add-if1
+add-if1 : tie.Need-overflow_add-south
 add-if1 c = omega (arith, byte_small (ltb c.args.north 250))
 
-sub-result : tie.Need-overflow-sub-result
+sub-result : tie.Need-overflow_sub-result
 sub-result c = omega (arith, byte_small (ltb c.before.args.north 250))
 
-returns : tie.Need-returns
-returns c = west_quadrant _ _ c.if1.true
+returns : tie.Need-returns-then-east-south
+returns c = west_quadrant _ _ c.if-east-south.true
 
-cast-result : tie.Need-overflow-cast-result
+cast-result : tie.Need-overflow_cast-result
 cast-result c = search rules
 
-returns-2 : tie.Need-returns-2
-returns-2 c = east_quadrant _ _ c.if1.false c.before.requires.2
+returns-2 : tie.Need-returns
+returns-2 c = east_quadrant _ _ c.if-east-south.false c.before.requires.2
 
 pub quadrant_of_spec : {M : Type 1} → statement M
 quadrant_of_spec = tie.close (tie.spec cast-south add-if1 sub-result returns cast-result returns-2)

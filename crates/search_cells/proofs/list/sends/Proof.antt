@@ -12,80 +12,79 @@ use Rattle.search_cells.proofs.list.sends.Statement.{statement}
 use Rattle.search_cells.proofs.list.sends.Tie as tie
 
 -- The node is one, and what its cell is to have is small.
-there : (c : tie.After-wide) → c.wide.result < greatest_node_count
+there : (c : tie.After-wide-v) → c.wide-v.result < greatest_node_count
 there c =
-    let p = c.before.before.before.before.before.before.before.requires in
+    let p = c.requires in
     let h = p.2.1 in
     let f = h.formed in
-    omega (arith, end_in h p.0 (c.wide.ensures.0 ∙ c.before.field.ensures))
+    omega (arith, end_in h p.0 (c.wide-v.ensures.0 ∙ c.field.ensures))
 
-small : (c : tie.After-nearer) → c.nearer.result < 2_097_152
+small : (c : tie.After-nearer-x) → c.nearer-x.result < 2_097_152
 small c =
-    let p = c.before.before.before.before.before.before.before.before.before.before.requires in
+    let p = c.requires in
     let n≤ = few p.2.1 in
-    nearer_small c.nearer.ensures (omega arith)
-    (omega (arith, c.before.before.slice-known2.given (heads_from + c.before.before.before.wide.result)))
+    nearer_small c.nearer-x.ensures (omega arith)
+    (omega (arith, c.slice_known-2-1.given (heads_from + c.wide-v.result)))
 
-bans-from-requires : tie.Need-bans-from-requires
+bans-from-requires : tie.Need-bans_from-requires
 bans-from-requires c κs = search rules
 
-same_length : tie.Need-same-length
+same_length : tie.Need-shape_of-work-then-bans_from-ne0
 same_length c = search rules
 
-returns : tie.Need-returns
+returns : tie.Need-returns-then-bans_from-ne0
 returns c =
     λ m h.
-    sent_barred (λ e. c.if1.true (c.before.bans-from.ensures m.bans h.bans_held ∙ e))
+    sent_barred (λ e. c.if-bans_from-ne0.true (c.bans_from.ensures m.bans h.bans_held ∙ e))
 
 field-requires : tie.Need-field-requires
 field-requires c κs = search rules
 
-wide-requires : tie.Need-wide-requires
+wide-requires : tie.Need-wide-v-requires
 wide-requires c κs = search rules
 
-add-cell : tie.Need-overflow-add-cell
+add-cell : tie.Need-overflow_add-cell
 add-cell c = search rules
 
-mul-cell : tie.Need-overflow-mul-cell
+mul-cell : tie.Need-offset_bounds-work-v
 mul-cell c = search rules
 
-slice-read-cell : tie.Need-slice-read-cell
+slice-read-cell : tie.Need-bounds-work-v
 slice-read-cell c = let t = there c.before in omega arith
 
-nearer-requires : tie.Need-nearer-requires
+nearer-requires : tie.Need-nearer-x-requires
 nearer-requires c κs = search rules
 
-mul-work : tie.Need-overflow-mul-work
+mul-work : tie.Need-overflow_mul-work
 mul-work c = let s = small c in omega arith
 
-add-work : tie.Need-overflow-add-work
+add-work : tie.Need-overflow_add-work
 add-work c = let s = small c in omega arith
 
-add-work-2 : tie.Need-overflow-add-work-2
+add-work-2 : tie.Need-overflow_add-work-2
 add-work-2 c = search rules
 
-mul-work-2 : tie.Need-overflow-mul-work-2
+mul-work-2 : tie.Need-offset_bounds-work-v-2
 mul-work-2 c = search rules
 
-slice-write-work : tie.Need-slice-write-work
-slice-write-work c = let t = there c.before.before.before in omega arith
+slice-write-work : tie.Need-bounds-work-v-2
+slice-write-work c = let t = there c.before.before in omega arith
 
-add-result : tie.Need-overflow-add-result
+add-result : tie.Need-overflow_add-result
 add-result c = search rules
 
-cast-result : tie.Need-overflow-cast-result
+cast-result : tie.Need-overflow_cast-result
 cast-result c = search rules
 
-same-length-2 : tie.Need-same-length-2
+same-length-2 : tie.Need-shape_of-work
 same-length-2 c = search rules
 
-returns-2 : tie.Need-returns-2
+returns-2 : tie.Need-returns
 returns-2 c =
     λ m h.
-    let back = c.before.before.before.before.before.before in
-    let at = c.before.before.before.wide.ensures.0 ∙ c.before.before.before.before.field.ensures in
-    let free = sym (back.before.bans-from.ensures m.bans h.bans_held) ∙ back.if1.false in
-    sent_free h back.before.before.before.before.requires.0 at free c.nearer.ensures
+    let at = c.wide-v.ensures.0 ∙ c.field.ensures in
+    let free = sym (c.bans_from.ensures m.bans h.bans_held) ∙ c.if-bans_from-ne0.false in
+    sent_free h c.requires.0 at free c.nearer-x.ensures
 
 pub sends_spec : {M : Type 1} → statement M
 sends_spec =

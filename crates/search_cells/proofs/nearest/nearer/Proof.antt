@@ -8,69 +8,69 @@ use Rattle.search_cells.proofs.nearest.nearer.Statement.{statement}
 use Rattle.search_cells.proofs.nearest.nearer.Tie as tie
 
 -- The length to the line that the cell names.
-best : (c : tie.After-length-to) →
-    let a = c.before.before.before.before.before.args in
-    c.length_to.result ≡ length_to a.work.now (named a.x)
-best c = c.length_to.ensures ∙ ap (length_to c.before.before.before.before.before.args.work.now) c.before.wide.ensures.0
+best : (c : tie.After-length_to-best) →
+    let a = c.args in
+    c.length_to-best.result ≡ length_to a.work.now (named a.x)
+best c = c.length_to-best.ensures ∙ ap (length_to c.args.work.now) c.wide.ensures.0
 
-returns : tie.Need-returns
-returns c = let e = c.before.before.requires.2 in let t = c.if1.true in farther refl (inl (omega arith))
+returns : tie.Need-returns-then-limit-to
+returns c = let e = c.requires.2 in let t = c.if-limit-to.true in farther refl (inl (omega arith))
 
-add-result : tie.Need-overflow-add-result
+add-result : tie.Need-overflow_add-result
 add-result c = search rules
 
-cast-result : tie.Need-overflow-cast-result
+cast-result : tie.Need-overflow_cast-result
 cast-result c = search rules
 
-returns-2 : tie.Need-returns-2
+returns-2 : tie.Need-returns-then-x-eq0
 returns-2 c =
-    let e = c.before.before.before.requires.2 in
-    let t = c.before.if1.false in
-    let z = c.if2.true in
+    let e = c.requires.2 in
+    let t = c.if-limit-to.false in
+    let z = c.if-x-eq0.true in
     nearest refl (omega arith) (λ p. absurd (omega arith))
 
-sub-other : tie.Need-overflow-sub-other
+sub-other : tie.Need-overflow_sub-other
 sub-other c = search rules
 
 wide-requires : tie.Need-wide-requires
 wide-requires c κs = search rules
 
-length-to-requires : tie.Need-length-to-requires
+length-to-requires : tie.Need-length_to-best-requires
 length-to-requires c κs = search rules
 
-returns-3 : tie.Need-returns-3
+returns-3 : tie.Need-returns-then-best-to
 returns-3 c =
-    let e = c.before.before.before.before.before.before.requires.2 in
+    let e = c.requires.2 in
     let b = best c.before in
-    let z = c.before.before.before.if2.false in
-    let t = c.if3.true in
+    let z = c.if-x-eq0.false in
+    let t = c.if-best-to.true in
     farther refl (inr (omega arith, omega arith))
 
-add-result-2 : tie.Need-overflow-add-result-2
+add-result-2 : tie.Need-overflow_add-result-then-to-best
 add-result-2 c = search rules
 
-cast-result-2 : tie.Need-overflow-cast-result-2
+cast-result-2 : tie.Need-overflow_cast-result-then-to-best
 cast-result-2 c = search rules
 
-returns-4 : tie.Need-returns-4
+returns-4 : tie.Need-returns-then-to-best
 returns-4 c =
-    let e = c.before.before.before.before.before.before.before.requires.2 in
+    let e = c.requires.2 in
     let b = best c.before.before in
-    let n = c.before.before.before.before.before.if1.false in
-    let t = c.if4.true in
+    let n = c.if-limit-to.false in
+    let t = c.if-to-best.true in
     nearest refl (omega arith) (λ p. omega arith)
 
-add-result-3 : tie.Need-overflow-add-result-3
+add-result-3 : tie.Need-overflow_add-result-2
 add-result-3 c = search rules
 
-returns-5 : tie.Need-returns-5
+returns-5 : tie.Need-returns
 returns-5 c =
-    let e = c.before.before.before.before.before.before.before.requires.2 in
+    let e = c.requires.2 in
     let b = best c.before.before in
-    let n = c.before.before.before.before.before.if1.false in
-    let z = c.before.before.before.before.if2.false in
-    let s = c.before.if3.false in
-    let t = c.if4.false in
+    let n = c.if-limit-to.false in
+    let z = c.if-x-eq0.false in
+    let s = c.if-best-to.false in
+    let t = c.if-to-best.false in
     alike refl (omega arith) (omega arith) (omega arith)
 
 pub nearer_spec : {M : Type 1} → statement M

@@ -8,38 +8,38 @@ use borrow.Author.Rules.{rules}
 use Rattle.turning.proofs.bans.ban_count.Statement.{statement}
 use Rattle.turning.proofs.bans.ban_count.Tie as tie
 
-abbrev invariant-loop : tie.invariant-loop
+abbrev invariant-loop : tie.invariant-loop-l
 invariant-loop work lines greatest₀ l₀ greatest l = (l ≤ lines) × Greatest work lines l greatest
 
-abbrev decreases-loop : tie.decreases-loop
+abbrev decreases-loop : tie.decreases-loop-l
 decreases-loop work lines greatest₀ l₀ greatest l = lines - l
 
-loop-holds : tie.Need-loop-init invariant-loop decreases-loop
+loop-holds : tie.Need-loop-l-init invariant-loop decreases-loop
 loop-holds c = (search rules, greatest_none)
 
-add-head : tie.Need-overflow-add-head invariant-loop decreases-loop
+add-head : tie.Need-overflow_add-head invariant-loop decreases-loop
 add-head c = search rules
 
-mul-head : tie.Need-overflow-mul-head invariant-loop decreases-loop
+mul-head : tie.Need-offset_bounds-work-l invariant-loop decreases-loop
 mul-head c = search rules
 
-shared-slice-read-head : tie.Need-shared-slice-read-head invariant-loop decreases-loop
+shared-slice-read-head : tie.Need-bounds-work-l invariant-loop decreases-loop
 shared-slice-read-head c = search rules
 
-add-l : tie.Need-overflow-add-l invariant-loop decreases-loop
+add-l : tie.Need-overflow_add-l invariant-loop decreases-loop
 add-l c = search rules
 
-loop-less : tie.Need-loop-smaller invariant-loop decreases-loop
+loop-less : tie.Need-loop-l-smaller invariant-loop decreases-loop
 loop-less c = search rules
 
-loop-again : tie.Need-loop-preserved invariant-loop decreases-loop
+loop-again : tie.Need-loop-l-preserved invariant-loop decreases-loop
 loop-again c =
-    let k = c.before.before.before.loop.invariant.1 in (
+    let k = c.loop-l.invariant.1 in (
       search rules,
       ⊎_elim
-          (λ a. rw a.1 (greatest_greater k c.before.before.loop-test.true a.0.taken))
+          (λ a. rw a.1 (greatest_greater k c.loop-l-test.true a.0.taken))
           (λ a. rw a.1 (greatest_same k a.0.left))
-          c.if1.branch,
+          c.if-greatest-head.branch,
     )
 
 wide-requires : tie.Need-wide-requires invariant-loop decreases-loop
@@ -47,8 +47,8 @@ wide-requires c κs = search rules
 
 returns : tie.Need-returns invariant-loop decreases-loop
 returns c =
-    let e : ◌≡◌ {A = ℕ} c.before.before.loop.l c.before.before.before.before.args.lines = omega arith in
-    λ bans held known. c.wide.ensures.0 ∙ greatest_all (rw e at c.before.before.loop.invariant.1) held known
+    let e : ◌≡◌ {A = ℕ} c.loop-l.l c.args.lines = omega arith in
+    λ bans held known. c.wide.ensures.0 ∙ greatest_all (rw e at c.loop-l.invariant.1) held known
 
 pub ban_count_spec : {M : Type 1} → statement M
 ban_count_spec =
