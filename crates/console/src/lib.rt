@@ -1,5 +1,6 @@
 // What the programs share: the bytes of a file, and text handed to the system.
 #![tactic(auto)]
+
 ghost use Rattle.std.specs.Prelude.{◌≡◌, min, length};
 ghost use Rattle.io.specs.Counts.{IsPrefixLen};
 ghost use Rattle.model.specs.Text.{numbered};

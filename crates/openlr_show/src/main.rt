@@ -1,5 +1,6 @@
 // Reads map.bin and ref.bin in the folder it is run in, and prints what the reader answers (paper 01, "The tie at the ridge").
 #![tactic(auto)]
+
 ghost use Rattle.std.specs.Prelude.{◌≤◌, length};
 ghost use Rattle.openlr_show.specs.Made.{Made, Shown, greatest_text};
 

@@ -1,6 +1,7 @@
 // Rows of readings, as the test programs print them: the answer, a sum over the lines handed back, what the call left of the work area, and whether the rest of
 // the line buffer is as it was.
 #![tactic(auto)]
+
 ghost use Rattle.io.specs.Counts.{IsPrefixLen};
 
 use answer_text::{put, put_head, put_number};

@@ -1,6 +1,7 @@
 // Judges the legs of cases.bin, each on its own map, and prints a row for each: none, several, or one with its first and last line, its length, its
 // count of lines and the lines themselves. What it prints is held to what the unrelated implementation says (oracle/pack.py).
 #![tactic(auto)]
+
 ghost use Rattle.std.specs.Prelude.{◌≡◌, ℕ, ◌<◌, ◌≤◌, length};
 ghost use Rattle.model.specs.Map.{Map, greatest_line_count};
 ghost use Rattle.fields.specs.Leg.{leg_in};

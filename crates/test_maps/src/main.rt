@@ -1,6 +1,7 @@
 // Reads the maps of cases.bin and prints a row for each: the counts of its nodes, lines and different banned turns and a sum over the numbers that the
 // work area holds, or the refusal. What it prints is held to what the unrelated implementation says (oracle/pack.py).
 #![tactic(auto)]
+
 ghost use Rattle.model.specs.Map.{greatest_line_count};
 ghost use Rattle.model.specs.Work.{work_length};
 ghost use Rattle.std.specs.Prelude.{◌≤◌, ◌<◌, length};

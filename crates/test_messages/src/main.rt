@@ -2,6 +2,7 @@
 // for, its count of bytes and a sum over them, and of a received message where it stands; of a start what it left of the work area, and of a reading out of a
 // message what test_reads and test_points print. What it prints is held to what the unrelated implementation says (oracle/pack.py).
 #![tactic(auto)]
+
 ghost use Rattle.io.specs.Counts.{IsPrefixLen};
 
 use answer_text::{put, put_number};

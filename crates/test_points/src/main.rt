@@ -2,6 +2,7 @@
 // call left of the work area, and whether the rest of the buffer is as it was. Where bytes were written, the row goes on with what the reader of points answers
 // to exactly those. What it prints is held to what the unrelated implementation says (oracle/pack.py).
 #![tactic(auto)]
+
 use answer_text::put;
 use buffers::lesser;
 use cases::{Part, word_at};

@@ -1,6 +1,7 @@
 // Reads the references of cases.bin, each on its own map, and prints a row for each: the answer, a sum over the lines handed back, what the call left of
 // the work area, and whether the rest of the line buffer is as it was. What it prints is held to what the unrelated implementation says (oracle/pack.py).
 #![tactic(auto)]
+
 use buffers::lesser;
 use cases::{Part, word_at};
 use marks::fill;

@@ -1,6 +1,7 @@
 // The binary line example of the white paper (13.1.3), field by field. From the bytes of its Tables 75 to 90 it prints what the reader takes from them, as
 // Tables 72, 92 and 93 put it; then the fields that the values of Tables 72 to 74 give. The file stdout has what the tables print.
 #![tactic(auto)]
+
 ghost use Rattle.std.specs.Prelude.{◌<◌};
 ghost use Rattle.references.specs.Form.{SoundBytes};
 

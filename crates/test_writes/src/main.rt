@@ -2,6 +2,7 @@
 // the work area, and whether the rest of the byte buffer is as it was. Where bytes were written, the row goes on with what the reader answers to exactly
 // those. What it prints is held to what the unrelated implementation says (oracle/pack.py).
 #![tactic(auto)]
+
 ghost use Rattle.io.specs.Counts.{IsPrefixLen};
 
 use answer_text::{put, put_head, put_number};
