@@ -1,5 +1,6 @@
 // An answer as the bytes that the program prints, put into a lent buffer. What does not fit is left out.
 #![tactic(auto)]
+
 ghost use Rattle.std.specs.Prelude.{◌≡◌, ◌≤◌, length, drop};
 ghost use Rattle.model.specs.Refusal.{refusal_of};
 ghost use Rattle.model.specs.Text.{decimal, most_digits, numbered, each, acceptance, refusal, text, told};

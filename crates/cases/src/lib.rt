@@ -1,6 +1,7 @@
 // Test cases in a file: parts one after another, each behind its length in two bytes, low byte first.
 // What a part means is for the program that reads it.
 #![tactic(auto)]
+
 ghost use Rattle.std.specs.Prelude.{◌≡◌, ◌+◌, ◌*◌, ◌-◌, ◌≤◌, ◌<◌, length};
 ghost use Rattle.cases.specs.Part.{PartIs, word_at};
 ghost use Rattle.cases.specs.Sum.{modulus, added_to, sum_from};

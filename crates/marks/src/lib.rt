@@ -1,5 +1,6 @@
 // Marks that a test program puts into the buffers that it lends, what a call left of them, and what a writer's call handed back.
 #![tactic(auto)]
+
 ghost use Rattle.std.specs.Prelude.{◌≡◌, length};
 ghost use Rattle.buffers.specs.Decides.{Decides};
 ghost use Rattle.answer_text.specs.Put.{Put};
