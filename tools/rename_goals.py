@@ -65,10 +65,27 @@ def turn(path, r, where):
     parents = {n: p[1] for p, n in zip(r["places"], r["places_by_name"])}
     counted = {p[0]: n for p, n in zip(r["places"], r["places_by_name"])}
     parents = {n: counted.get(up) for n, up in parents.items()}
+    # A whole arm of a match is one step; a place within it is taken for the whole.
+    longest = {}
+    for known in r["arms"]:
+        if known:
+            longest[known[0]] = max(known[1], longest.get(known[0], 0))
+    whole = {}
+    for n, known in zip(r["places_by_name"], r["arms"]):
+        if known and known[1] == longest[known[0]]:
+            whole[known[0]] = n
+    within = {n: whole[known[0]] for n, known in zip(r["places_by_name"], r["arms"]) if known}
+    up = dict(parents)
+    for n, known in zip(r["places_by_name"], r["arms"]):
+        if known and within[n] == n:
+            parents[n] = n
+            for _ in range(known[1]):
+                parents[n] = up[parents[n]]
+    text = re.sub(r"\btie\.(In[-_]" + WORD + ")", lambda m: "tie." + within.get(m.group(1), m.group(1)), text)
     at_goal = {need[1]: at[1] for need, at in zip(r["needs"], r["asked_at"])}
     # The place that each helper takes.
     takes = {}
-    for name, of in re.findall(r"(?m)^(?:pub |abbrev )*(" + WORD + r") : (?:\(c : )?tie\.([A-Z]" + WORD + r")", text):
+    for name, of in re.findall(r"(?m)^(?:pub |abbrev )*(" + WORD + r") : (?:\([\w']+ : )?tie\.([A-Z]" + WORD + r")", text):
         if not of.startswith("Need-"):
             takes[name] = of
 
@@ -91,11 +108,20 @@ def turn(path, r, where):
         return n if here == there else None
 
     def one(block):
-        head = re.search(r"(?m)^(?:pub |abbrev )*(" + WORD + r") : (?:\(c : )?tie\.(Need-)?(" + WORD + ")", block)
+        head = re.search(r"(?m)^(?:pub |abbrev )*(" + WORD + r") : (?:\([\w']+ : )?tie\.(Need-)?(" + WORD + ")", block)
         if not head or head.group(3).startswith(("invariant", "decreases")):
             return block
         here = at_goal.get(head.group(3)) if head.group(2) else head.group(3)
-        alias = {"c"}
+        param = re.match(r"(?:pub |abbrev )*" + WORD + r" : \((" + WORD + r") : tie\.", block)
+        me = param.group(1) if param else "c"
+        made = re.match(r"(?:abbrev )?(" + WORD + r") : (?:\(\w+ : )?tie\.(" + WORD + r")[^→\n]*→ tie\.(" + WORD + r")[^\n]*\n", block)
+        if made and made.group(1) in gives:
+            n = depth(made.group(2), made.group(3))
+            if n is not None:
+                body = block[made.end() :]
+                me = re.match(re.escape(made.group(1)) + " (" + WORD + ") =", body).group(1)
+                return made.group(0) + f"{made.group(1)} {me} = {me}{'.before' * n}\n\n" + "".join(re.findall(r"(?m)^--[^\n]*\n", body))
+        alias = {me}
         for _ in range(3):
             for name, of in re.findall(r"\blet (" + WORD + r") = (" + WORD + r")(?:\.before)* in", block):
                 if of in alias:
@@ -105,13 +131,13 @@ def turn(path, r, where):
             root, step = found.group(1), found.group(3)
             if root not in alias:
                 return found.group(0)
-            new = steps.get(norm(step))
+            new = steps.get(norm(step)) or steps.get(norm(re.sub(r"[0-9]+$", "", step)))
             if new is None and (step in ("args", "requires", "ranges") or step in steps.values() or step in arms):
                 new = step
             if new is None:
                 unknown.append(f"step {step} in {head.group(1)}")
                 return found.group(0)
-            return "c." + new
+            return f"{me}.{new}"
 
         def arm(found):
             root, step, path = found.group(1), found.group(2), found.group(3).split(".")[1:]
@@ -119,7 +145,7 @@ def turn(path, r, where):
                 return found.group(0)
             for field, of in fields.get(norm(step), []):
                 if path[: len(of)] == of:
-                    return ".".join(["c", field, *path[len(of) :]])
+                    return ".".join([me, field, *path[len(of) :]])
             return found.group(0)
 
         block = re.sub(r"(?<![\w.'₀-₉-])(" + WORD + r")(?:\.before)*\.(?!before\b)(" + WORD + r")((?:\.(?:given|ensures|[0-9]+))+)(?![\w'₀-₉-])", arm, block)
@@ -133,20 +159,20 @@ def turn(path, r, where):
             if n is None:
                 unknown.append(f"place of {name} in {head.group(1)}")
                 return found.group(0)
-            return f"{name} c{'.before' * n}"
+            return f"{name} {me}{'.before' * n}"
 
         block = re.sub(r"(?<![\w.'₀-₉-])(" + WORD + r") (" + WORD + r")(?:\.before)*(?![\w.'₀-₉-])", call, block)
         # A helper that gives a place.
         for name in gives:
             block = re.sub(
                 r"\(" + re.escape(name) + r" (?:" + "|".join(map(re.escape, alias)) + r")(?:\.before)*\)\.(" + WORD + ")",
-                lambda m: "c." + (steps.get(norm(m.group(1))) or m.group(1)),
+                lambda m: f"{me}." + (steps.get(norm(m.group(1))) or m.group(1)),
                 block,
             )
-        bound = dict(re.findall(r"\blet (" + WORD + r") = c\.(" + WORD + r") in", block))
+        bound = dict(re.findall(r"\blet (" + WORD + r") = " + re.escape(me) + r"\.(" + WORD + r") in", block))
 
         def auto(found):
-            step = found.group(2) if found.group(1) == "c." else bound.get(found.group(2))
+            step = found.group(2) if found.group(1) == me + "." else bound.get(found.group(2))
             names = r["params"].get(callees.get(step), [])
             n = found.group(4).count("1")
             if n >= len(names):
@@ -154,13 +180,10 @@ def turn(path, r, where):
                 return found.group(0)
             return f"{found.group(1) or ''}{found.group(2)}.{found.group(3)}.{names[n]}"
 
-        block = re.sub(r"(?<![\w.'₀-₉-])(c\.)?(" + WORD + r")\.(auto|new)((?:\.1)*\.0)(?![\w'₀-₉-])", auto, block)
-        made = re.match(r"(?:abbrev )?(" + WORD + r") : tie\.(" + WORD + r")[^→\n]*→ tie\.(" + WORD + ")", block)
-        if made and made.group(1) in gives:
-            n = depth(made.group(2), made.group(3))
-            if n is not None:
-                block = re.sub(r"(?m)^(" + re.escape(made.group(1)) + r" c = )c(?:\.before)*$", lambda m: m.group(1) + "c" + ".before" * n, block)
-        for name in [*(alias - {"c"})] * 3:
+        block = re.sub(r"(?<![\w.'₀-₉-])(" + re.escape(me) + r"\.)?(" + WORD + r")\.(auto|new)((?:\.1)*\.0)(?![\w'₀-₉-])", auto, block)
+        # A test that is a negation is told without it now.
+        block = re.sub(r"not-(?:true|false) (?:" + WORD + r"(?:\.[\w'-]+)*\.result) ("+ re.escape(me) + r"\.if-not-" + WORD + r"\.(?:true|false))", r"\1", block)
+        for name in [*(alias - {me})] * 3:
             if len(re.findall(r"(?<![\w.'₀-₉-])" + re.escape(name) + r"(?![\w'₀-₉-])", block)) == 1:
                 block = re.sub(r"(?m)^ *let " + re.escape(name) + r" = " + WORD + r"(?:\.before)* in\n", "", block)
                 block = re.sub(r"let " + re.escape(name) + r" = " + WORD + r"(?:\.before)* in ", "", block)

@@ -14,76 +14,75 @@ use Rattle.expansion.proofs.keep_last.Reads as keep-last-reads
 use Rattle.expansion.proofs.mark_bans.Reads as mark-bans-reads
 use Rattle.expansion.proofs.pair_before.Reads as pair-before-reads
 
-returns : tie.Need-returns
+returns : tie.Need-returns-then-going-eq0
 returns c =
     λ q class limit count end g inside o. record {
       pair = record { one = λ z. absurd (omega arith); other = λ z. absurd (omega arith); differ = λ z. absurd (omega arith) };
       barred = λ z. absurd (omega arith);
       some = λ z. absurd (omega arith);
-      told = λ z y. absurd (omega (arith, c.if1.true));
+      told = λ z y. absurd (omega (arith, c.if-going-eq0.true));
       aside = aside_none;
     }
 
-returns-2 : tie.Need-returns-2
+returns-2 : tie.Need-returns-then-going-eq0-2
 returns-2 c =
     λ q class limit count end g inside o. record {
       pair = record { one = λ z. absurd (omega arith); other = λ z. absurd (omega arith); differ = λ z. absurd (omega arith) };
       barred = λ z. absurd (omega arith);
       some = λ z. absurd (omega arith);
-      told = λ z. absurd (omega (arith, c.if2.true));
+      told = λ z. absurd (omega (arith, c.if-going-eq0-2.true));
       aside = aside_none;
     }
 
-add-pair-before : tie.Need-overflow-add-pair-before
+add-pair-before : tie.Need-overflow_add-place
 add-pair-before c =
-    let p = c.before.before.before.before.before.before.requires in
+    let p = c.requires in
     let g = p.5 in
     let full = g.held.full in
     omega (arith, p.6, g.room, count_le g.listing, few g.held)
 
-mul-pair-before : tie.Need-overflow-mul-pair-before
+mul-pair-before : tie.Need-offset_bounds-work-place
 mul-pair-before c =
-    let p = c.before.before.before.before.before.before.requires in
+    let p = c.requires in
     let g = p.5 in
     let full = g.held.full in
     omega (arith, p.6, g.room, count_le g.listing, few g.held)
 
-slice-reshared-read-pair-before : tie.Need-slice-reshared-read-pair-before
+slice-reshared-read-pair-before : tie.Need-slice_reshared_read-pair_before
 slice-reshared-read-pair-before c =
-    let p = c.before.before.before.before.before.before.requires in
+    let p = c.requires in
     let g = p.5 in
     let full = g.held.full in
     omega (arith, p.6, g.room, count_le g.listing, few g.held)
 
-pair-before-requires : tie.Need-pair-before-requires
+pair-before-requires : tie.Need-pair_before-pair-requires
 pair-before-requires c κs =
-    let p = c.before.before.before.before.before.before.requires in
+    let p = c.requires in
     ((waiting p.5 (_, omega arith, p.6, p.7.at)).0, (_, p.5.held))
 
-keep-last-requires : tie.Need-keep-last-requires
+keep-last-requires : tie.Need-keep_last-requires
 keep-last-requires c κs =
-    let p = c.before.before.before.before.before.before.before.before.requires in
+    let p = c.requires in
     ((waiting p.5 (_, omega arith, p.6, p.7.at)).0, (_, p.5.held))
 
-mark-bans-requires : tie.Need-mark-bans-requires
+mark-bans-requires : tie.Need-mark_bans-requires
 mark-bans-requires c κs =
-    let p = c.before.before.before.before.before.before.before.before.before.before.before.before.requires in
-    let kept = c.before.before.before.keep-last.ensures in
+    let p = c.requires in
+    let kept = c.keep_last.ensures in
     ((waiting p.5 (_, omega arith, p.6, p.7.at)).0, (_, held_kept (omega arith) kept p.5.held, p.7.chain))
 
-same_length : tie.Need-same-length
+same_length : tie.Need-shape_of-work
 same_length c = search rules
 
-returns-3 : tie.Need-returns-3
+returns-3 : tie.Need-returns
 returns-3 c =
     λ q class limit count end g inside o.
-    let back = c.before.before.before.before.before.before in
-    let y = back.before.before.before.before.before.before.if1.false in
-    let z = back.before.before.before.before.if2.false in
-    let kept = back.keep-last.ensures in
-    let marks = c.before.before.mark-bans.ensures _ (held_kept (omega arith) kept g.held) o.chain in
+    let y = c.if-going-eq0.false in
+    let z = c.if-going-eq0-2.false in
+    let kept = c.keep_last.ensures in
+    let marks = c.mark_bans.ensures _ (held_kept (omega arith) kept g.held) o.chain in
     record {
-      pair = back.before.before.pair-before.ensures _ g.held;
+      pair = c.pair_before-pair.ensures _ g.held;
       barred = λ p free. y (o.chain ∙ free);
       some = λ p. omega (arith, z);
       told = λ p some. marks.told;

@@ -18,44 +18,44 @@ field-requires c κs = search rules
 wide-requires : tie.Need-wide-requires
 wide-requires c κs = search rules
 
-add-cell : tie.Need-overflow-add-cell
+add-cell : tie.Need-overflow_add-cell
 add-cell c = search rules
 
-mul-cell : tie.Need-overflow-mul-cell
+mul-cell : tie.Need-offset_bounds-work-wide
 mul-cell c = search rules
 
-shared-slice-read-cell : tie.Need-shared-slice-read-cell
+shared-slice-read-cell : tie.Need-bounds-work-wide
 shared-slice-read-cell c =
-    let p = c.before.before.before.before.requires in let h = p.1.1 in let f = h.full in omega (arith, end_small h p.0 (c.before.wide.ensures.0 ∙ c.before.before.field.ensures))
+    let p = c.requires in let h = p.1.1 in let f = h.full in omega (arith, end_small h p.0 (c.wide.ensures.0 ∙ c.field.ensures))
 
-wide-requires-2 : tie.Need-wide-requires-2
+wide-requires-2 : tie.Need-wide-one-requires
 wide-requires-2 c κs = search rules
 
-wide-requires-3 : tie.Need-wide-requires-3
+wide-requires-3 : tie.Need-wide-other-requires
 wide-requires-3 c κs = search rules
 
-returns : tie.Need-returns
+returns : tie.Need-returns-then-one-other
 returns c = search rules
 
-has-gone-requires : tie.Need-has-gone-requires
+has-gone-requires : tie.Need-has_gone-requires
 has-gone-requires c κs = search rules
 
-returns-2 : tie.Need-returns-2
+returns-2 : tie.Need-returns-then-not-has_gone
 returns-2 c = search rules
 
-has-gone-requires-2 : tie.Need-has-gone-requires-2
+has-gone-requires-2 : tie.Need-has_gone-requires-2
 has-gone-requires-2 c κs = search rules
 
-returns-3 : tie.Need-returns-3
+returns-3 : tie.Need-returns-then-not-has_gone-2
 returns-3 c = search rules
 
-returns-4 : tie.Need-returns-4
+returns-4 : tie.Need-returns
 returns-4 c =
     λ m h.
     record {
-      one = λ p. rw (not-false c.before.before.before.has-gone.result c.before.before.if2.false) at (c.before.before.before.has-gone.ensures m h);
-      other = λ p. rw (not-false c.before.has-gone2.result c.if3.false) at (c.before.has-gone2.ensures m h);
-      differ = λ p. c.before.before.before.before.if1.false;
+      one = λ p. rw (c.if-not-has_gone.false) at (c.has_gone.ensures m h);
+      other = λ p. rw (c.if-not-has_gone-2.false) at (c.has_gone-2.ensures m h);
+      differ = λ p. c.if-one-other.false;
     }
 
 pub pair_before_spec : {M : Type 1} → statement M

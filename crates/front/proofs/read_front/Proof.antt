@@ -17,16 +17,15 @@ use Rattle.buffers.proofs.number.number_at.Reads as number-at-reads
 
 -- ---- what was read
 
-first : (h : tie.In-Got-2) →
-    let message = h.before.before.before.before.args.message.now in
-    number message ≡ got h.count.given.0.0 (drop h.count.given.0.1.0 message)
-first h = sym h.before.before.number_at.ensures ∙ ap (taken _) h.count.given.1
+first : (h : tie.In-Got) →
+    let message = h.args.message.now in
+    number message ≡ got h.in-Got.count (drop h.in-Got.after message)
+first h = sym h.number_at.ensures ∙ ap (taken _) h.in-Got.is
 
-second : (s : tie.In-Got-number_at-2) →
-    let h = s.before.before.before.before in
-    let message = h.before.before.before.before.args.message.now in
-    number (drop h.count.given.0.1.0 message) ≡ got s.sum.given.0.0 (drop s.sum.given.0.1.0 message)
-second s = sym s.before.before.number-at2.ensures ∙ ap (taken _) s.sum.given.1
+second : (s : tie.In-Got-number_at) →
+    let message = s.args.message.now in
+    number (drop s.in-Got.after message) ≡ got s.in-Got-number_at.sum (drop s.in-Got-number_at.behind message)
+second s = sym s.number_at-2.ensures ∙ ap (taken _) s.in-Got-number_at.is
 
 -- ---- the needs
 
@@ -53,19 +52,17 @@ enum-told-2 c = search rules
 
 returns-2 : tie.Need-returns-in_default-number_at
 returns-2 c =
-    no_sum _ _ _ (first c.before.before.before.before) (sym c.number_at-2.ensures ∙ ap (taken _) c.in_default-number_at.is)
+    no_sum _ _ _ (first c.before.before) (sym c.number_at-2.ensures ∙ ap (taken _) c.in_default-number_at.is)
 
 lesser-requires : tie.Need-lesser-requires
 lesser-requires c κs = search rules
 
 returns-3 : tie.Need-returns
 returns-3 c =
-    let s = c.before.before in
-    let h = s.before.before.before.before in
     let message = c.args.message.now in
     let behind = c.in-Got-number_at.behind in
     let end = c.lesser.ensures in (
-      both_read message _ _ _ _ (first h) (second s)
+      both_read message _ _ _ _ (first c.before.before.before) (second c.before)
           ∙ ap (front c.in-Got.count c.in-Got-number_at.sum) (sym (ap (λ n. drop n message) end ∙ drop_lesser behind message)),
       omega arith,
     )

@@ -14,10 +14,10 @@ use Rattle.front.proofs.read_front.Reads as read-front-reads
 use Rattle.map_sum.proofs.map_sum.Reads as map-sum-reads
 
 -- What was read.
-read_so : (h : tie.In-Read-2) →
-    let message = h.before.before.before.before.before.args.message.now in
-    front_of message ≡ front h.count.given.0.0 h.count.given.0.1.0 (drop h.count.given.0.1.1.0 message)
-read_so h = (subst (FrontIs _) h.count.given.1 h.before.before.read-front.ensures).0
+read_so : (h : tie.In-Read) →
+    let message = h.args.message.now in
+    front_of message ≡ front h.in-Read.count h.in-Read.sum (drop h.in-Read.field-2 message)
+read_so h = (subst (FrontIs _) h.in-Read.is h.read_front.ensures).0
 
 read-front-requires : tie.Need-read_front-requires
 read-front-requires c κs = search rules
@@ -36,18 +36,16 @@ cast-if1 c = search rules
 
 returns-2 : tie.Need-returns-then-count-map
 returns-2 c =
-    let h = c.before.before in
     let a = c.args in
-    sym (tested _ _ _ _ _ (read_so h) ∙ rw (ne_eqb c.in-Read.count (length a.map.now) c.if-count-map.true))
+    sym (tested _ _ _ _ _ (read_so c.before) ∙ rw (ne_eqb c.in-Read.count (length a.map.now) c.if-count-map.true))
 
 map-sum-requires : tie.Need-map_sum-expected-requires
 map-sum-requires c κs = search rules
 
 returns-3 : tie.Need-returns
 returns-3 c =
-    let h = c.before.before.before in
     let a = c.args in
-    sym (tested _ _ _ _ _ (read_so h) ∙ rw (eq-eqb c.in-Read.count (length a.map.now) c.if-count-map.false, sym c.map_sum-expected.ensures))
+    sym (tested _ _ _ _ _ (read_so c.before.before) ∙ rw (eq-eqb c.in-Read.count (length a.map.now) c.if-count-map.false, sym c.map_sum-expected.ensures))
 
 pub same_map_spec : {M : Type 1} → statement M
 same_map_spec =

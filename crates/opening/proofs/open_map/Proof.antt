@@ -8,38 +8,38 @@ use Rattle.opening.proofs.Told.{opened}
 use Rattle.opening.proofs.open_map.Statement.{statement}
 use Rattle.opening.proofs.open_map.Tie as tie
 
-read-map-requires : tie.Need-read-map-requires
+read-map-requires : tie.Need-read_map-requires
 read-map-requires c κs = search rules
 
-enum-known-nodes : tie.Need-enum-known-nodes
+enum-known-nodes : tie.Need-enum_known-nodes
 enum-known-nodes c = search rules
 
-cast-lines : tie.Need-overflow-cast-lines
+cast-lines : tie.Need-overflow_cast-lines
 cast-lines c = search rules
 
 link-requires : tie.Need-link-requires
 link-requires c κs =
-    let w = read_whole c.before.before.before.before.before.before.read-map.ensures c.before.before.nodes.given.1 in
+    let w = read_whole c.read_map.ensures c.in-Whole.is in
     (mirror w.map, mirrored (held w.held))
 
-enum-known-why : tie.Need-enum-known-why
+enum-known-why : tie.Need-enum_known-why
 enum-known-why c = search rules
 
-same_length : tie.Need-same-length
+same_length : tie.Need-shape_of-work-in-Whole
 same_length c = search rules
 
-returns : tie.Need-returns
+returns : tie.Need-returns-in-Whole
 returns c =
-    let m = c.before.before.before.before.before.before.before.before.before.read-map.ensures in
-    opened (read_whole m c.before.before.before.before.before.nodes.given.1) m.kept c.before.before.link.ensures
+    let m = c.read_map.ensures in
+    opened (read_whole m c.in-Whole.is) m.kept c.link.ensures
 
-same-length-2 : tie.Need-same-length-2
+same-length-2 : tie.Need-shape_of-work-in-Refused
 same-length-2 c = search rules
 
-returns-2 : tie.Need-returns-2
+returns-2 : tie.Need-returns-in-Refused
 returns-2 c =
-    let m = c.before.before.before.before.before.read-map.ensures in
-    record { answers = read_refused m c.before.why.given.1; kept = m.kept }
+    let m = c.read_map.ensures in
+    record { answers = read_refused m c.in-Refused.is; kept = m.kept }
 
 pub open_map_spec : {M : Type 1} → statement M
 open_map_spec =

@@ -40,7 +40,7 @@ returns c =
       put = put;
       nears = c.sends.ensures m (held_kept (omega arith) put.kept h);
       counted = refl;
-      queue = inr (λ e. let r = not-true c.sends.result c.if-not-sends.true in let z : ◌≡◌ {A = ℕ} 0 1 = cc in omega arith, refl, refl);
+      queue = inr (λ e. let r = c.if-not-sends.true in let z : ◌≡◌ {A = ℕ} 0 1 = cc in omega arith, refl, refl);
     }
 
 key-of-requires : tie.Need-key_of-requires
@@ -81,7 +81,7 @@ returns-2 c =
       put = put;
       nears = s;
       counted = refl;
-      queue = inl (not-false c.sends.result c.if-not-sends.false, refl, rw y at (c.insert.ensures place p< (omega arith)));
+      queue = inl (c.if-not-sends.false, refl, rw y at (c.insert.ensures place p< (omega arith)));
     }
 
 pub reach_spec : {M : Type 1} → statement M

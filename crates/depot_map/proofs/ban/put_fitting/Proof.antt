@@ -21,7 +21,7 @@ put-once-requires : tie.Need-put_once-requires
 put-once-requires c κs =
     let pre = c.requires.0 in
     let so_far = c.requires.1 in
-    let fit = sym c.before.before.fits2.ensures ∙ c.if-fits.true in
+    let fit = sym c.fits.ensures ∙ c.if-fits.true in
     let all = listed_length (held_line c.args.work.now) c.args.lines in
     ((pre.0, pre.1, pre.2, omega (arith, fits_first _ _ fit, all), omega (arith, fits_second _ _ fit, all)), (mirror_turns so_far.0, so_far.1.taken.held (not-false _ c.if-not-taken.false)))
 
@@ -30,13 +30,13 @@ same_length c = search rules
 
 returns-2 : tie.Need-returns-then-fits
 returns-2 c =
-    sort_fit (not-false _ c.if-not-taken.false) c.before.before.before.before.before.fits2.ensures c.if-fits.true c.requires.0.2 c.put_once.ensures
+    sort_fit (not-false _ c.if-not-taken.false) c.fits.ensures c.if-fits.true c.requires.0.2 c.put_once.ensures
 
 same-length-2 : tie.Need-shape_of-work
 same-length-2 c = search rules
 
 returns-3 : tie.Need-returns
-returns-3 c = sort_unfit (not-false _ c.if-not-taken.false) c.before.fits2.ensures c.if-fits.false
+returns-3 c = sort_unfit (not-false _ c.if-not-taken.false) c.fits.ensures c.if-fits.false
 
 pub put_fitting_spec : {M : Type 1} → statement M
 put_fitting_spec =

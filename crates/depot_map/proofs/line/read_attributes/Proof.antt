@@ -12,9 +12,7 @@ use Rattle.depot_map.proofs.line.read_attributes.Tie as tie
 
 -- From where the five numbers are known back to the start.
 abbrev at_start : tie.In-Got-back → tie.Start
-at_start c =
-    let half = c.before.before.before.before.before.before.before.before.before.before.before in
-    half.before.before.before.before.before.before.before.before.before.before.before
+at_start c = c.before.before.before.before.before.before.before.before.before.before.before.before
 
 field-requires : tie.Need-field-len-requires
 field-requires c κs = search rules

@@ -12,38 +12,38 @@ use Rattle.search.proofs.seeds.insert_seed.Reads as reads
 use Rattle.search.proofs.seeds.insert_seed.Lts as lts
 use Rattle.search_cells.proofs.list.insert.Reads as insert-reads
 
-slice-write-work : tie.Need-slice-write-work
+slice-write-work : tie.Need-bounds-work-9216
 slice-write-work c = search rules
 
-same_length : tie.Need-same-length
+same_length : tie.Need-shape_of-work-then-end-eq0
 same_length c = search rules
 
-returns : tie.Need-returns
-returns c = let e : c.before.before.args.end ≡ 0 = c.if1.true in let p = c.before.before.requires in rw e (seed_first (omega arith))
+returns : tie.Need-returns-then-end-eq0
+returns c = let e : c.args.end ≡ 0 = c.if-end-eq0.true in let p = c.requires in rw e (seed_first (omega arith))
 
-slice-read-head : tie.Need-slice-read-head
+slice-read-head : tie.Need-bounds-work-9216-2
 slice-read-head c = search rules
 
 insert-requires : tie.Need-insert-requires
-insert-requires c κs = let p = c.before.before.before.before.before.requires in let o = c.before.before.before.if1.false in (p.0, p.1, (0, omega arith, c.before.if2.true))
+insert-requires c κs = let p = c.requires in let o = c.if-end-eq0.false in (p.0, p.1, (0, omega arith, c.if-head-key.true))
 
-same-length-2 : tie.Need-same-length-2
+same-length-2 : tie.Need-shape_of-work-then-head-key
 same-length-2 c = search rules
 
-returns-2 : tie.Need-returns-2
-returns-2 c = let o = c.before.before.before.before.before.before.if1.false in seed_behind (c.before.before.insert.ensures 0 (omega arith) c.before.before.before.before.if2.true)
+returns-2 : tie.Need-returns-then-head-key
+returns-2 c = let o = c.if-end-eq0.false in seed_behind (c.insert.ensures 0 (omega arith) c.if-head-key.true)
 
-slice-write-work-2 : tie.Need-slice-write-work-2
+slice-write-work-2 : tie.Need-bounds-work-9216-3
 slice-write-work-2 c = search rules
 
 insert-requires-2 : tie.Need-insert-requires-2
-insert-requires-2 c κs = let p = c.before.before.before.before.before.requires in let o = c.before.before.before.if1.false in let t = c.before.if2.false in (p.0, simp length-set p.1, (0, omega arith, omega (arith, get_or-set_same c.before.before.before.before.before.args.work.now queue_from c.before.before.before.before.before.args.key 0 (omega arith))))
+insert-requires-2 c κs = let p = c.requires in let o = c.if-end-eq0.false in let t = c.if-head-key.false in (p.0, simp length-set p.1, (0, omega arith, omega (arith, get_or-set_same c.args.work.now queue_from c.args.key 0 (omega arith))))
 
-same-length-3 : tie.Need-same-length-3
-same-length-3 c = c.before.before.insert2.auto.0 ∙ length-set c.before.before.before.before.before.before.before.before.args.work.now queue_from c.before.before.before.before.before.before.before.before.args.key
+same-length-3 : tie.Need-shape_of-work
+same-length-3 c = c.insert-2.auto.work ∙ length-set c.args.work.now queue_from c.args.key
 
-returns-3 : tie.Need-returns-3
-returns-3 c = let p = c.before.before.before.before.before.before.before.before.requires in let o = c.before.before.before.before.before.before.if1.false in let t = c.before.before.before.before.if2.false in let w = c.before.before.before.before.before.before.before.before.args.work.now in seed_before w (omega arith) (omega arith) (omega arith) (c.before.before.insert2.ensures 0 (omega arith) (omega (arith, get_or-set_same w queue_from c.before.before.before.before.before.before.before.before.args.key 0 (omega arith))))
+returns-3 : tie.Need-returns
+returns-3 c = let p = c.requires in let o = c.if-end-eq0.false in let t = c.if-head-key.false in let w = c.args.work.now in seed_before w (omega arith) (omega arith) (omega arith) (c.insert-2.ensures 0 (omega arith) (omega (arith, get_or-set_same w queue_from c.args.key 0 (omega arith))))
 
 pub insert_seed_spec : {M : Type 1} → statement M
 insert_seed_spec =

@@ -37,9 +37,9 @@ loop-again c =
     let k = c.loop-l.invariant.1 in (
       search rules,
       ⊎_elim
-          (λ a. rw a.1 (greatest_greater k c.loop-l-test.true a.0.taken))
-          (λ a. rw a.1 (greatest_same k a.0.left))
-          c.if-greatest-head.branch,
+          (λ a. rw a.greatest-is (greatest_greater k c.loop-l-test.true a.if-greatest-head.true))
+          (λ a. rw a.greatest-is (greatest_same k a.if-greatest-head.false))
+          c.if-greatest-head.branch-raw,
     )
 
 wide-requires : tie.Need-wide-requires invariant-loop decreases-loop
