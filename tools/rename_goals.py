@@ -16,7 +16,7 @@ WORD = r"[\w'₀-₉-]+"
 
 
 def norm(name):
-    name = re.sub(r"_lem$", "", name).replace("_", "-")
+    name = re.sub(r"_lem$", "", name).replace("_", "-").lower()
     for old, new in (("overflow-", ""), ("in-bounds-", "")):
         if name.startswith(old):
             name = new + name[len(old) :]
@@ -41,7 +41,7 @@ def turn(path, r, where):
 
     def goal(found):
         name = found.group(1)
-        new = needs.get(norm(name)) or by_name.get(name)
+        new = needs.get(norm(name)) or by_name.get(name) or {it.replace("_", "-"): it for it in by_name}.get(name.replace("_", "-"))
         if new is None:
             unknown.append("goal " + name)
             return found.group(0)
@@ -83,12 +83,20 @@ def turn(path, r, where):
                 parents[n] = up[parents[n]]
     text = re.sub(r"\btie\.(In[-_]" + WORD + ")", lambda m: "tie." + within.get(m.group(1), m.group(1)), text)
     at_goal = {need[1]: at[1] for need, at in zip(r["needs"], r["asked_at"])}
-    # The place that each helper takes.
-    takes = {}
-    for name, of in re.findall(r"(?m)^(?:pub |abbrev )*(" + WORD + r") : (?:\([\w']+ : )?tie\.([A-Z]" + WORD + r")", text):
+    # The place that each helper takes, and how many arguments stand before it.
+    takes, skips = {}, {}
+    flat = re.sub(r" :\n +", " : ", text)
+    for name, of in re.findall(r"(?m)^(?:pub |abbrev )*(" + WORD + r") : (?:\([\w']+ : )?tie\.([A-Z]" + WORD + r")", flat):
         if not of.startswith("Need-"):
             takes[name] = of
+    for given, members in re.findall(r"(?m)^module _ ((?:[({](?![^()]*: tie\.)[^()]*[)}] ?)+)where\n((?:[ ]+[^\n]*\n|\n)*)", flat):
+        for name, of in re.findall(r"(?m)^ {2,4}(?:pub |abbrev )*(" + WORD + r") : \(" + WORD + r" : tie\.(" + WORD + ")", members):
+            takes[name] = of
+            skips[name] = sum(len(it.split()) for it in re.findall(r"\(([^:()]*) :", given))
 
+    for of, members in re.findall(r"(?m)^module _ \(" + WORD + r" : tie\.(" + WORD + r")[^\n]*\n((?:[ ]+[^\n]*\n|\n)*)", flat):
+        for name in re.findall(r"(?m)^ {2,4}(?:pub |abbrev )*(" + WORD + r") : ", members):
+            takes[name] = of
     callees = {p[2][1]: p[3] for p in r["places"] if p[3]}
     # What an arm of a match knows, by the step and the path that had it: the longest path first.
     fields = {}
@@ -108,12 +116,14 @@ def turn(path, r, where):
         return n if here == there else None
 
     def one(block):
-        head = re.search(r"(?m)^(?:pub |abbrev )*(" + WORD + r") : (?:\([\w']+ : )?tie\.(Need-)?(" + WORD + ")", block)
-        if not head or head.group(3).startswith(("invariant", "decreases")):
+        member = re.match(r"  (?:pub |abbrev )*" + WORD + r" :\s+\((" + WORD + r") : tie\.(" + WORD + ")", block)
+        inner = member or re.match(r"module _ \((" + WORD + r") : tie\.(" + WORD + ")", block)
+        head = inner or re.search(r"(?m)^(?:pub |abbrev )*(" + WORD + r") : (?:\([\w']+ : )?tie\.(Need-)?(" + WORD + ")", block)
+        if not head or not inner and head.group(3).startswith(("invariant", "decreases")):
             return block
-        here = at_goal.get(head.group(3)) if head.group(2) else head.group(3)
+        here = head.group(2) if inner else at_goal.get(head.group(3)) if head.group(2) else head.group(3)
         param = re.match(r"(?:pub |abbrev )*" + WORD + r" : \((" + WORD + r") : tie\.", block)
-        me = param.group(1) if param else "c"
+        me = inner.group(1) if inner else param.group(1) if param else "c"
         made = re.match(r"(?:abbrev )?(" + WORD + r") : (?:\(\w+ : )?tie\.(" + WORD + r")[^→\n]*→ tie\.(" + WORD + r")[^\n]*\n", block)
         if made and made.group(1) in gives:
             n = depth(made.group(2), made.group(3))
@@ -135,7 +145,7 @@ def turn(path, r, where):
             if new is None and (step in ("args", "requires", "ranges") or step in steps.values() or step in arms):
                 new = step
             if new is None:
-                unknown.append(f"step {step} in {head.group(1)}")
+                unknown.append(f"step {step}")
                 return found.group(0)
             return f"{me}.{new}"
 
@@ -148,27 +158,66 @@ def turn(path, r, where):
                     return ".".join([me, field, *path[len(of) :]])
             return found.group(0)
 
+        # What a let takes of an arm is named where it is used.
+        for name, root, step, rest in re.findall(r"\blet (" + WORD + r") = (" + WORD + r")(?:\.before)*\.(?!before\b)(" + WORD + r")((?:\.(?:given|[0-9]+))*) in", block):
+            if root in alias and norm(step) in fields and rest:
+                used = re.sub(r"(?<![\w.'₀-₉-])" + re.escape(name) + r"((?:\.[0-9]+)+)(?![\w'₀-₉-])", lambda m: arm(re.match(r"(.*?)\.(.*?)((?:\..*)?)$", f"{root}.{step}{rest}{m.group(1)}")), block)
+                left = re.sub(r"\blet " + re.escape(name) + " = ", "", used)
+                if not re.search(r"(?<![\w.'₀-₉-])" + re.escape(name) + r"(?![\w'₀-₉-])", left):
+                    block = re.sub(r"(?m)^ *let " + re.escape(name) + r" = [^\n]* in\n", "", used, count=1)
+
+        def own(found):
+            if found.group(1) not in alias:
+                return found.group(0)
+            place = here
+            while place:
+                for known in [a for n, a in zip(r["places_by_name"], r["arms"]) if n == place and a]:
+                    for field, step, of in known[2]:
+                        if not of and norm(step) == norm(found.group(2)):
+                            return f"{me}.{known[0]}.{field}.{found.group(3)}"
+                place = up.get(place)
+            return found.group(0)
+
+        block = re.sub(r"(?<![\w.'₀-₉-])(" + WORD + r")(?:\.before)*\.(match[0-9]*)\.(keys[0-9]+)", own, block)
         block = re.sub(r"(?<![\w.'₀-₉-])(" + WORD + r")(?:\.before)*\.(?!before\b)(" + WORD + r")((?:\.(?:given|ensures|[0-9]+))+)(?![\w'₀-₉-])", arm, block)
         block = re.sub(r"(?<![\w.'₀-₉-])(" + WORD + r")((?:\.before)*)\.(?!before\b)(" + WORD + ")", chain, block)
 
         def call(found):
-            name, root = found.group(1), found.group(2)
-            if name not in takes or root not in alias:
+            name, root = found.group(1), found.group(3)
+            if name not in takes or root not in alias or len((found.group(2) or "").split()) != skips.get(name, 0):
                 return found.group(0)
             n = depth(here, takes[name])
             if n is None:
-                unknown.append(f"place of {name} in {head.group(1)}")
+                unknown.append(f"place of {name} at {here}")
                 return found.group(0)
-            return f"{name} {me}{'.before' * n}"
+            return f"{name} {found.group(2) or ''}{me}{'.before' * n}"
 
-        block = re.sub(r"(?<![\w.'₀-₉-])(" + WORD + r") (" + WORD + r")(?:\.before)*(?![\w.'₀-₉-])", call, block)
+        block = re.sub(r"(?<![\w.'₀-₉-])(" + WORD + r") ()(" + WORD + r")(?:\.before)*(?![\w.'₀-₉-])", call, block)
+        for name, k in skips.items():
+            if k:
+                block = re.sub(r"(?<![\w.'₀-₉-])(" + re.escape(name) + r") ((?:[\w.'₀-₉-]+ ){" + str(k) + "})(" + WORD + r")(?:\.before)*(?![\w.'₀-₉-])", call, block)
+        # A member that is a place further out.
+        for name, to in re.findall(r"(?m)^  (?:abbrev )?(" + WORD + r") : tie\.(" + WORD + r")[^\n→]*\n  \1 = " + re.escape(me) + r"(?:\.before)*\n", block) if inner else []:
+            n = depth(here, to)
+            if n is not None:
+                block = re.sub(r"(?m)^(  " + re.escape(name) + " = " + re.escape(me) + r")(?:\.before)*$", lambda m: m.group(1) + ".before" * n, block)
         # A helper that gives a place.
         for name in gives:
-            block = re.sub(
-                r"\(" + re.escape(name) + r" (?:" + "|".join(map(re.escape, alias)) + r")(?:\.before)*\)\.(" + WORD + ")",
-                lambda m: f"{me}." + (steps.get(norm(m.group(1))) or m.group(1)),
-                block,
-            )
+            to = re.search(r"(?m)^(?:pub |abbrev )*" + re.escape(name) + r" : tie\.[A-Z][^→\n]*→ tie\.(" + WORD + ")", text).group(1)
+
+            def given(m):
+                if m.group(2):
+                    return f"{me}." + (steps.get(norm(m.group(2))) or m.group(2))
+                there = to
+                for _ in range(m.group(1).count("before")):
+                    there = parents.get(there)
+                n = depth(here, there)
+                if n is None:
+                    unknown.append(f"place of {name} at {here}")
+                    return m.group(0)
+                return me + ".before" * n
+
+            block = re.sub(r"\(" + re.escape(name) + r" (?:" + "|".join(map(re.escape, alias)) + r")(?:\.before)*\)((?:\.before)+(?![\w'₀-₉-])|)(?:\.(?!before\b)(" + WORD + "))?", lambda m: given(m) if m.group(1) or m.group(2) else m.group(0), block)
         bound = dict(re.findall(r"\blet (" + WORD + r") = " + re.escape(me) + r"\.(" + WORD + r") in", block))
 
         def auto(found):
@@ -176,11 +225,15 @@ def turn(path, r, where):
             names = r["params"].get(callees.get(step), [])
             n = found.group(4).count("1")
             if n >= len(names):
-                unknown.append(f"auto of {step} in {head.group(1)}")
+                unknown.append(f"auto of {step} at {here}")
                 return found.group(0)
             return f"{found.group(1) or ''}{found.group(2)}.{found.group(3)}.{names[n]}"
 
         block = re.sub(r"(?<![\w.'₀-₉-])(" + re.escape(me) + r"\.)?(" + WORD + r")\.(auto|new)((?:\.1)*\.0)(?![\w'₀-₉-])", auto, block)
+        # What a call leaves, by its parameters.
+        for name, step in re.findall(r"\blet (" + WORD + r") = " + re.escape(me) + r"\.(" + WORD + r")\.(?:new|auto) in", block):
+            names = r["params"].get(callees.get(step), [])
+            block = re.sub(r"(?<![\w.'₀-₉-])" + re.escape(name) + r"((?:\.1)*\.0)(?![\w'₀-₉-])", lambda m: f"{name}.{names[m.group(1).count('1')]}" if m.group(1).count("1") < len(names) else m.group(0), block)
         # A test that is a negation is told without it now.
         block = re.sub(r"not-(?:true|false) (?:" + WORD + r"(?:\.[\w'-]+)*\.result) ("+ re.escape(me) + r"\.if-not-" + WORD + r"\.(?:true|false))", r"\1", block)
         for name in [*(alias - {me})] * 3:
@@ -189,7 +242,7 @@ def turn(path, r, where):
                 block = re.sub(r"let " + re.escape(name) + r" = " + WORD + r"(?:\.before)* in ", "", block)
         return block
 
-    pieces = re.split(r"(?m)(?=^(?:pub |abbrev )*" + WORD + r" : )", text)
+    pieces = re.split(r"(?m)(?=^(?:pub |abbrev )*" + WORD + r" : |^module _ \(" + WORD + r" : tie|^  (?:pub |abbrev )*" + WORD + r" :\s+\(" + WORD + r" : tie)", text)
     text = "".join(one(it) for it in pieces)
 
     # Answers that are no longer asked for.

@@ -12,15 +12,15 @@ head_le same = omega arith
 head_le (more l) = omega arith
 head_le (later h) = omega arith
 
-behind : {a : ℕ} {xs ys : List ℕ} → FurtherFirst (a ∷ xs) (a ∷ ys) → FurtherFirst xs ys
-behind same = same
-behind (more l) = absurd (omega arith)
-behind (later h) = h
+behind : {a b : ℕ} {xs ys : List ℕ} → a ≡ b → FurtherFirst (a ∷ xs) (b ∷ ys) → FurtherFirst xs ys
+behind e same = same
+behind e (more l) = absurd (omega arith)
+behind e (later h) = h
 
 both : {xs ys : List ℕ} → FurtherFirst xs ys → FurtherFirst ys xs → xs ≡ ys
 both same h = refl
 both (more l) h = absurd (omega (arith, head_le h))
-both (later {a} g) h = ap (λ (xs : List ℕ). a ∷ xs) (both g (behind h))
+both (later {a} g) h = ap (λ (xs : List ℕ). a ∷ xs) (both g (behind refl h))
 
 module _ {good : ℕ → ℕ → Type 0} {n : ℕ} where
   -- Each leg has a line at least.
@@ -56,7 +56,7 @@ module _ {good : ℕ → ℕ → Type 0} {n : ℕ} where
       record {
         route = f.2;
         fewest = λ os r. omega (arith, b.fewest (j ∷ os) (leg f.0 f.1 r));
-        furthest = λ os r e. behind (b.furthest (j ∷ os) (leg f.0 f.1 r) (ap suc e));
+        furthest = λ os r e. behind refl (b.furthest (j ∷ os) (leg f.0 f.1 r) (ap suc e));
       }
 
   pub told_le : {i b : ℕ} {cs : List ℕ} → Fewest good n i b → Route good n i cs → b ≤ length cs

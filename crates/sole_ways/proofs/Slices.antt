@@ -122,6 +122,7 @@ connected_other (x ∷ x' ∷ xs) ls os some more k e (linked h f c) = linked h 
 
 joined : {m : Map} (xs ys : List ℕ) → Connected m xs → 0 < length ys → Connected m ys → Follows m (last_of xs) (first_of ys) → Connected m (xs ++ ys)
 unfolding last_of first_of
+joined {m = m} [] ys c some k f = elim c [ ]
 joined (x ∷ []) [] (single h) some k f = absurd (omega arith)
 joined (x ∷ []) (y ∷ ys) (single h) some k f = linked h f k
 joined (x ∷ x' ∷ xs) ys (linked h g c) some k f = linked h g (joined (x' ∷ xs) ys c some k f)

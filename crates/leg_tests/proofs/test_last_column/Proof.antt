@@ -22,231 +22,206 @@ use borrow.Author.Rules.{rules}
 use Rattle.leg_tests.proofs.test_last_column.Statement.{statement}
 use Rattle.leg_tests.proofs.test_last_column.Tie as tie
 
-abbrev invariant-loop : tie.invariant-loop
+abbrev invariant-loop : tie.invariant-loop-at
 invariant-loop work₀ lines stretch table₀ j arrives v at₀ work table at =
     (length work ≡ length work₀) × (length table ≡ length table₀) ×
     ((m : Map) → Connected m stretch → ColumnSifted m lines stretch (length stretch) (line (get_or stretch (length stretch - 1) 0)) true table₀ table₀ work₀ work₀ →
     Noted m lines stretch table₀ → SoleColumn m stretch (length stretch) table₀ → Testing m lines stretch table₀ table work₀ work at)
 
-abbrev decreases-loop : tie.decreases-loop
+abbrev decreases-loop : tie.decreases-loop-at
 decreases-loop work₀ lines stretch table₀ j arrives v at₀ work table at = at
 
 -- The own last line is the legs' own terminus, and they are tested by it.
-own : (c : tie.After-wide invariant-loop decreases-loop) → let a = c.before.before.before.before.before.args in let s = a.stretch.now in
+own : (c : tie.After-wide invariant-loop decreases-loop) → let a = c.args in let s = a.stretch.now in
     (m : Map) → Set m a.lines a.work.now → Connected m s → Own m a.lines s (length s) (line c.wide.result)
 own c m set joint =
-    let start = c.before.before.before.before.before in
-    rw c.wide.ensures.0 (own_line set.held start.args.stretch.now (all_known set joint) start.requires.0.0)
+    rw c.wide.ensures.0 (own_line set.held c.args.stretch.now (all_known set joint) c.requires.0.0)
 
-owned : (c : tie.After-test-column invariant-loop decreases-loop) →
-    let a = c.before.before.before.before.before.before.before.before.args in
+owned : (c : tie.After-test_column invariant-loop decreases-loop) →
+    let a = c.args in
     let s = a.stretch.now in
-    let o = c.test-column in
+    let o = c.test_column in
     (m : Map) → Set m a.lines a.work.now → Connected m s → Noted m a.lines s a.table.now → SoleColumn m s (length s) a.table.now →
-    ColumnSifted m a.lines s (length s) (line (get_or s (length s - 1) 0)) true a.table.now o.new.1.1.1.1.1.1.0 a.work.now o.new.0
+    ColumnSifted m a.lines s (length s) (line (get_or s (length s - 1) 0)) true a.table.now o.new.table a.work.now o.new.work
 owned c m set joint noted sole =
-    let at_wide = c.before.before.before in
-    rw at_wide.wide.ensures.0 at (c.test-column.ensures m set joint (own at_wide m set joint) noted sole)
+    rw c.wide.ensures.0 at (c.test_column.ensures m set joint (own c.before.before.before m set joint) noted sole)
 
-same-attributes : (c : tie.After-attributes-of invariant-loop decreases-loop) →
-    let a = c.before.before.before.before.before.before.before.before.before.before.before.before.before.before.args in
+same-attributes : (c : tie.After-attributes_of-arrives invariant-loop decreases-loop) →
+    let a = c.args in
     let s = a.stretch.now in
-    (m : Map) → Set m a.lines c.before.before.before.before.before.before.test-column.new.0 → attributes_in c.attributes-of.result ≡ arriving m (get_or s (length s - 1) 0)
+    (m : Map) → Set m a.lines c.test_column.new.work → attributes_in c.attributes_of-arrives.result ≡ arriving m (get_or s (length s - 1) 0)
 unfolding attributes_by arriving
-same-attributes c m set = c.attributes-of.ensures m set.held
+same-attributes c m set = c.attributes_of-arrives.ensures m set.held
 
 -- What is known at the loop.
-module _ (c : tie.After-first-leaving invariant-loop decreases-loop) where
-  again : let a = c.before.before.before.before.before.before.before.before.before.before.before.before.before.before.before.before.before.before.args in let s = a.stretch.now in let o = c.before.before.before.before.before.before.before.before.before.before.test-column in
+module _ (c : tie.After-first_leaving-at invariant-loop decreases-loop) where
+  again : let a = c.args in let s = a.stretch.now in let o = c.test_column in
       (m : Map) → Set m a.lines a.work.now → Connected m s → Noted m a.lines s a.table.now → SoleColumn m s (length s) a.table.now →
-      ColumnSifted m a.lines s (length s) (line (get_or s (length s - 1) 0)) true o.new.1.1.1.1.1.1.0 o.new.1.1.1.1.1.1.0 o.new.0 o.new.0
-  again m set joint noted sole = column_again (owned c.before.before.before.before.before.before.before.before.before.before m set joint noted sole)
+      ColumnSifted m a.lines s (length s) (line (get_or s (length s - 1) 0)) true o.new.table o.new.table o.new.work o.new.work
+  again m set joint noted sole = column_again (owned c.before.before.before.before.before.before.before m set joint noted sole)
 
-  noted_now : let a = c.before.before.before.before.before.before.before.before.before.before.before.before.before.before.before.before.before.before.args in let s = a.stretch.now in let o = c.before.before.before.before.before.before.before.before.before.before.test-column in
+  noted_now : let a = c.args in let s = a.stretch.now in let o = c.test_column in
       (m : Map) → Set m a.lines a.work.now → Connected m s → Noted m a.lines s a.table.now → SoleColumn m s (length s) a.table.now →
-      Noted m a.lines s o.new.1.1.1.1.1.1.0
+      Noted m a.lines s o.new.table
   noted_now m set joint noted sole =
-      let start = c.before.before.before.before.before.before.before.before.before.before.before.before.before.before.before.before.before.before in
-      noted_kept m start.args.lines start.args.stretch.now start.requires.0.0 (owned c.before.before.before.before.before.before.before.before.before.before m set joint noted sole).kept noted
+      noted_kept m c.args.lines c.args.stretch.now c.requires.0.0 (owned c.before.before.before.before.before.before.before m set joint noted sole).kept noted
 
-  sole_now : let a = c.before.before.before.before.before.before.before.before.before.before.before.before.before.before.before.before.before.before.args in let s = a.stretch.now in let o = c.before.before.before.before.before.before.before.before.before.before.test-column in
+  sole_now : let a = c.args in let s = a.stretch.now in let o = c.test_column in
       (m : Map) → Set m a.lines a.work.now → Connected m s → Noted m a.lines s a.table.now → SoleColumn m s (length s) a.table.now →
-      SoleColumn m s (length s) o.new.1.1.1.1.1.1.0
-  sole_now m set joint noted sole i h one = sole i h (((owned c.before.before.before.before.before.before.before.before.before.before m set joint noted sole).sifted i h).still one)
+      SoleColumn m s (length s) o.new.table
+  sole_now m set joint noted sole i h one = sole i h (((owned c.before.before.before.before.before.before.before m set joint noted sole).sifted i h).still one)
 
-sub_wide : tie.Need-overflow-sub-wide invariant-loop decreases-loop
+sub_wide : tie.Need-overflow_sub-j invariant-loop decreases-loop
 sub_wide c = search rules
 
-mul_wide : tie.Need-overflow-mul-wide invariant-loop decreases-loop
+mul_wide : tie.Need-offset_bounds-stretch-j invariant-loop decreases-loop
 mul_wide c = search rules
 
-shared-slice-read-wide : tie.Need-shared-slice-read-wide invariant-loop decreases-loop
+shared-slice-read-wide : tie.Need-bounds-stretch-j invariant-loop decreases-loop
 shared-slice-read-wide c = search rules
 
 wide-requires : tie.Need-wide-requires invariant-loop decreases-loop
 wide-requires c κs = tt
 
-test-column-requires : tie.Need-test-column-requires invariant-loop decreases-loop
+test-column-requires : tie.Need-test_column-requires invariant-loop decreases-loop
 test-column-requires c κs =
-    let p = c.before.before.before.before.before.before.before.requires in
+    let p = c.requires in
     let q = p.1 in
     ((p.0.0, omega arith, p.0.1, p.0.2), (q.0, q.1, q.2, own c.before.before q.0 q.1 q.2, q.3, q.4))
 
-sub-attributes-of : tie.Need-overflow-sub-attributes-of invariant-loop decreases-loop
+sub-attributes-of : tie.Need-overflow_sub-j-2 invariant-loop decreases-loop
 sub-attributes-of c = search rules
 
-attributes-of-requires : tie.Need-attributes-of-requires invariant-loop decreases-loop
+attributes-of-requires : tie.Need-attributes_of-arrives-requires invariant-loop decreases-loop
 attributes-of-requires c κs =
-    let at-test-column = c.before.before.before.before.before in
-    let start = at-test-column.before.before.before.before.before.before.before.before in
-    let q = start.requires.1 in
-    let set = (owned at-test-column q.0 q.1 q.2 q.3 q.4).worked.set in
-    ((all_known set q.2, omega (arith, start.requires.0.0), omega arith), (q.0, set.held))
+    let q = c.requires.1 in
+    let set = (owned c.before.before.before.before q.0 q.1 q.2 q.3 q.4).worked.set in
+    ((all_known set q.2, omega (arith, c.requires.0.0), omega arith), (q.0, set.held))
 
-sub-node-of : tie.Need-overflow-sub-node-of invariant-loop decreases-loop
+sub-node-of : tie.Need-overflow_sub-j-3 invariant-loop decreases-loop
 sub-node-of c = search rules
 
-node-of-requires : tie.Need-node-of-requires invariant-loop decreases-loop
+node-of-requires : tie.Need-node_of-v-requires invariant-loop decreases-loop
 node-of-requires c κs =
-    let at-test-column = c.before.before.before.before.before.before.before in
-    let start = at-test-column.before.before.before.before.before.before.before.before in
-    let q = start.requires.1 in
-    let set = (owned at-test-column q.0 q.1 q.2 q.3 q.4).worked.set in
-    ((all_known set q.2, omega (arith, start.requires.0.0), omega arith), (q.0, set.held))
+    let q = c.requires.1 in
+    let set = (owned c.before.before.before.before.before q.0 q.1 q.2 q.3 q.4).worked.set in
+    ((all_known set q.2, omega (arith, c.requires.0.0), omega arith), (q.0, set.held))
 
-first-leaving-requires : tie.Need-first-leaving-requires invariant-loop decreases-loop
+first-leaving-requires : tie.Need-first_leaving-at-requires invariant-loop decreases-loop
 first-leaving-requires c κs =
-    let at-test-column = c.before.before.before.before.before.before.before.before.before in
-    let start = at-test-column.before.before.before.before.before.before.before.before in
-    let q = start.requires.1 in
-    let set = (owned at-test-column q.0 q.1 q.2 q.3 q.4).worked.set in
-    (mirror q.0, mirrored set.held, set.chained, (c.before.node_of.ensures q.0 set.held).1)
+    let q = c.requires.1 in
+    let set = (owned c.before.before.before.before.before.before q.0 q.1 q.2 q.3 q.4).worked.set in
+    (mirror q.0, mirrored set.held, set.chained, (c.node_of-v.ensures q.0 set.held).1)
 
-loop-holds : tie.Need-loop-init invariant-loop decreases-loop
+loop-holds : tie.Need-loop-at-init invariant-loop decreases-loop
 loop-holds c =
-    let start = c.before.before.before.before.before.before.before.before.before.before.before.before.before.before.before.before.before.before in (
+    (
       refl,
       refl,
       λ m joint o noted sole.
           let set = o.worked.set in
-          let v = c.before.before.node_of.ensures m set.held in
-          testing_start joint c.first-leaving.result
-          (c.first-leaving.ensures (mirror m) (mirrored set.held) set.chained v.1 ∙ ap (λ (x : ℕ). latest (mirror m) x start.args.lines) v.0) o,
+          let v = c.node_of-v.ensures m set.held in
+          testing_start joint c.first_leaving-at.result
+          (c.first_leaving-at.ensures (mirror m) (mirrored set.held) set.chained v.1 ∙ ap (λ (x : ℕ). latest (mirror m) x c.args.lines) v.0) o,
     )
 
 -- The legs after the test of the next last line.
-column : (c : tie.After-test-candidate invariant-loop decreases-loop) →
+column : (c : tie.After-test_candidate invariant-loop decreases-loop) →
     let at-loop = c.before.before.before.before in
     let at-first-leaving = at-loop.before in
-    let a = at-first-leaving.before.before.before.before.before.before.before.before.before.before.before.before.before.before.before.before.before.before.args in
+    let a = c.args in
     let s = a.stretch.now in
-    let l = at-loop.loop in
-    let b = at-first-leaving.before.before.before.before.before.before.before.before.before.before.test-column.new.1.1.1.1.1.1.0 in
-    let v = at-first-leaving.before.before.before.before.before.before.before.before.before.before.test-column.new.0 in
+    let l = c.loop-at in
+    let b = c.test_column.new.table in
+    let v = c.test_column.new.work in
     (m : Map) → Connected m s → ColumnSifted m a.lines s (length s) (line (get_or s (length s - 1) 0)) true b b v v → Noted m a.lines s b → SoleColumn m s (length s) b →
-    ColumnSifted m a.lines s (length s) (line (l.at - 1)) false l.table c.test-candidate.new.1.1.1.1.1.0 l.work c.test-candidate.new.0
+    ColumnSifted m a.lines s (length s) (line (l.at - 1)) false l.table c.test_candidate.new.table l.work c.test_candidate.new.work
 column c m joint o noted sole =
     let at-loop-test = c.before.before.before in
     let at-loop = at-loop-test.before in
     let at-first-leaving = at-loop.before in
-    let start = at-first-leaving.before.before.before.before.before.before.before.before.before.before.before.before.before.before.before.before.before.before in
-    let l = at-loop.loop in
+    let l = c.loop-at in
     let k = l.invariant.2 m joint o noted sole in
-    c.test-candidate.ensures m k.worked.set joint (ends_there m (l.at - 1) (k.list.joined at-loop-test.loop-test.true))
-    (same-attributes at-first-leaving.before.before.before.before m o.worked.set)
-    (noted_kept m start.args.lines start.args.stretch.now start.requires.0.0 k.kept noted) k.owned (testing_sole joint sole k)
+    c.test_candidate.ensures m k.worked.set joint (ends_there m (l.at - 1) (k.list.joined c.loop-at-test.true))
+    (same-attributes c.before.before.before.before.before.before.before m o.worked.set)
+    (noted_kept m c.args.lines c.args.stretch.now c.requires.0.0 k.kept noted) k.owned (testing_sole joint sole k)
 
-sub-test-candidate : tie.Need-overflow-sub-test-candidate invariant-loop decreases-loop
+sub-test-candidate : tie.Need-overflow_sub-at invariant-loop decreases-loop
 sub-test-candidate c = search rules
 
-test-candidate-requires : tie.Need-test-candidate-requires invariant-loop decreases-loop
+test-candidate-requires : tie.Need-test_candidate-requires invariant-loop decreases-loop
 test-candidate-requires c κs =
-    let at-loop-test = c.before.before in
-    let at-loop = at-loop-test.before in
-    let at-first-leaving = at-loop.before in
-    let start = at-first-leaving.before.before.before.before.before.before.before.before.before.before.before.before.before.before.before.before.before.before in
-    let p = start.requires in
+    let p = c.requires in
     let q = p.1 in
     let m = q.0 in
-    let l = at-loop.loop in
-    let some = at-loop-test.loop-test.true in
-    let o = again at-first-leaving m q.1 q.2 q.3 q.4 in
-    let noted = noted_now at-first-leaving m q.1 q.2 q.3 q.4 in
-    let sole = sole_now at-first-leaving m q.1 q.2 q.3 q.4 in
+    let l = c.loop-at in
+    let some = c.loop-at-test.true in
+    let o = again c.before.before.before.before m q.1 q.2 q.3 q.4 in
+    let noted = noted_now c.before.before.before.before m q.1 q.2 q.3 q.4 in
+    let sole = sole_now c.before.before.before.before m q.1 q.2 q.3 q.4 in
     let k = l.invariant.2 m q.2 o noted sole in (
-      (p.0.0, p.0.1, omega (arith, p.0.2, l.invariant.1, at-first-leaving.before.before.before.before.before.before.before.before.before.before.test-column.auto.1.1.1.1.1.1.0), omega (arith, some, k.list.within)),
+      (p.0.0, p.0.1, omega (arith, p.0.2, l.invariant.1, c.test_column.auto.table), omega (arith, some, k.list.within)),
       (
         m,
         k.worked.set,
         q.2,
         ends_there m (l.at - 1) (k.list.joined some),
-        same-attributes at-first-leaving.before.before.before.before m o.worked.set,
-        noted_kept m start.args.lines start.args.stretch.now p.0.0 k.kept noted,
+        same-attributes c.before.before.before.before.before.before m o.worked.set,
+        noted_kept m c.args.lines c.args.stretch.now p.0.0 k.kept noted,
         k.owned,
         testing_sole q.2 sole k,
       ),
     )
 
-next-leaving-requires : tie.Need-next-leaving-requires invariant-loop decreases-loop
+next-leaving-requires : tie.Need-next_leaving-at-requires invariant-loop decreases-loop
 next-leaving-requires c κs =
-    let at-test-candidate = c.before.before.before.before.before in
-    let at-loop-test = at-test-candidate.before.before.before in
-    let at-loop = at-loop-test.before in
-    let at-first-leaving = at-loop.before in
-    let q = at-first-leaving.before.before.before.before.before.before.before.before.before.before.before.before.before.before.before.before.before.before.requires.1 in
+    let q = c.requires.1 in
     let m = q.0 in
-    let o = again at-first-leaving m q.1 q.2 q.3 q.4 in
-    let noted = noted_now at-first-leaving m q.1 q.2 q.3 q.4 in
-    let sole = sole_now at-first-leaving m q.1 q.2 q.3 q.4 in
-    let k = at-loop.loop.invariant.2 m q.2 o noted sole in
-    let r = column at-test-candidate m q.2 o noted sole in
-    ((at-loop-test.loop-test.true, k.list.within), (mirror m, mirrored r.worked.set.held, r.worked.set.chained))
+    let o = again c.before.before.before.before.before.before.before.before.before m q.1 q.2 q.3 q.4 in
+    let noted = noted_now c.before.before.before.before.before.before.before.before.before m q.1 q.2 q.3 q.4 in
+    let sole = sole_now c.before.before.before.before.before.before.before.before.before m q.1 q.2 q.3 q.4 in
+    let k = c.loop-at.invariant.2 m q.2 o noted sole in
+    let r = column c.before.before.before.before m q.2 o noted sole in
+    ((c.loop-at-test.true, k.list.within), (mirror m, mirrored r.worked.set.held, r.worked.set.chained))
 
-loop-less : tie.Need-loop-smaller invariant-loop decreases-loop
+loop-less : tie.Need-loop-at-smaller invariant-loop decreases-loop
 loop-less c =
-    let at-test-candidate = c.before.before.before.before.before.before in
-    let at-loop-test = at-test-candidate.before.before.before in
-    let at-loop = at-loop-test.before in
-    let at-first-leaving = at-loop.before in
-    let q = at-first-leaving.before.before.before.before.before.before.before.before.before.before.before.before.before.before.before.before.before.before.requires.1 in
+    let q = c.requires.1 in
     let m = q.0 in
-    let at = at-loop.loop.at in
-    let r = column at-test-candidate m q.2 (again at-first-leaving m q.1 q.2 q.3 q.4) (noted_now at-first-leaving m q.1 q.2 q.3 q.4)
-    (sole_now at-first-leaving m q.1 q.2 q.3 q.4)
+    let at = c.loop-at.at in
+    let r = column c.before.before.before.before.before m q.2 (again c.before.before.before.before.before.before.before.before.before.before m q.1 q.2 q.3 q.4) (noted_now c.before.before.before.before.before.before.before.before.before.before m q.1 q.2 q.3 q.4)
+    (sole_now c.before.before.before.before.before.before.before.before.before.before m q.1 q.2 q.3 q.4)
     in
     omega (
       arith,
-      at-loop-test.loop-test.true,
-      c.next-leaving.ensures (mirror m) (mirrored r.worked.set.held) r.worked.set.chained,
+      c.loop-at-test.true,
+      c.next_leaving-at.ensures (mirror m) (mirrored r.worked.set.held) r.worked.set.chained,
       latest_le (mirror m) (line_at (mirror m) (at - 1)).start (at - 1),
     )
 
-loop-again : tie.Need-loop-preserved invariant-loop decreases-loop
+loop-again : tie.Need-loop-at-preserved invariant-loop decreases-loop
 loop-again c =
-    let at-test-candidate = c.before.before.before.before.before.before in
-    let at-loop-test = at-test-candidate.before.before.before in
-    let at-loop = at-loop-test.before in (
-      at-test-candidate.test-candidate.auto.0 ∙ at-loop.loop.invariant.0,
-      at-test-candidate.test-candidate.auto.1.1.1.1.1.0 ∙ at-loop.loop.invariant.1,
+    (
+      c.test_candidate.auto.work ∙ c.loop-at.invariant.0,
+      c.test_candidate.auto.table ∙ c.loop-at.invariant.1,
       λ m joint o noted sole.
-          let r = column at-test-candidate m joint o noted sole in
-          testing_on joint (at-loop.loop.invariant.2 m joint o noted sole) at-loop-test.loop-test.true
-          (c.next-leaving.ensures (mirror m) (mirrored r.worked.set.held) r.worked.set.chained) r,
+          let r = column c.before.before.before.before.before m joint o noted sole in
+          testing_on joint (c.loop-at.invariant.2 m joint o noted sole) c.loop-at-test.true
+          (c.next_leaving-at.ensures (mirror m) (mirrored r.worked.set.held) r.worked.set.chained) r,
     )
 
-same_length : tie.Need-same-length invariant-loop decreases-loop
-same_length c = c.before.loop.invariant.0 ∙ c.before.before.before.before.before.before.before.before.before.before.before.before.test-column.auto.0
+same_length : tie.Need-shape_of-work invariant-loop decreases-loop
+same_length c = c.loop-at.invariant.0 ∙ c.test_column.auto.work
 
-same-length-2 : tie.Need-same-length-2 invariant-loop decreases-loop
-same-length-2 c = c.before.loop.invariant.1 ∙ c.before.before.before.before.before.before.before.before.before.before.before.before.test-column.auto.1.1.1.1.1.1.0
+same-length-2 : tie.Need-shape_of-table invariant-loop decreases-loop
+same-length-2 c = c.loop-at.invariant.1 ∙ c.test_column.auto.table
 
 returns : tie.Need-returns invariant-loop decreases-loop
 returns c m set joint noted sole =
-    let at-first-leaving = c.before.before in
-    let o = again at-first-leaving m set joint noted sole in
-    column_after (owned at-first-leaving.before.before.before.before.before.before.before.before.before.before m set joint noted sole)
-    (testing_end joint (omega (arith, c.loop-test.false))
-    (c.before.loop.invariant.2 m joint o (noted_now at-first-leaving m set joint noted sole) (sole_now at-first-leaving m set joint noted sole)))
+    let o = again c.before.before m set joint noted sole in
+    column_after (owned c.before.before.before.before.before.before.before.before.before m set joint noted sole)
+    (testing_end joint (omega (arith, c.loop-at-test.false))
+    (c.loop-at.invariant.2 m joint o (noted_now c.before.before m set joint noted sole) (sole_now c.before.before m set joint noted sole)))
 
 pub test_last_column_spec : {M : Type 1} → statement M
 test_last_column_spec =

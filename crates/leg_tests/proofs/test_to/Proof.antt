@@ -16,66 +16,61 @@ use Rattle.leg_tests.proofs.test_to.Statement.{statement}
 use Rattle.leg_tests.proofs.test_to.Tie as tie
 
 -- The node there is the own terminus.
-own : (c : tie.After-node-of) → let a = c.before.before.before.before.before.before.args in (m : Map) → Set m a.lines a.work.now → Connected m a.stretch.now →
+own : (c : tie.After-node_of) → let a = c.args in (m : Map) → Set m a.lines a.work.now → Connected m a.stretch.now →
     Own m a.lines a.stretch.now a.j (node c.node_of.result)
 own c m set joint =
-    let start = c.before.before.before.before.before.before in
-    let a = start.args in
-    let p = start.requires.0 in
+    let a = c.args in
+    let p = c.requires.0 in
     subst (λ (v : ℕ). Own m a.lines a.stretch.now a.j (node v)) (sym (c.node_of.ensures m set.held).0)
-    (own_node set.held a.stretch.now (all_known set joint) p.0 (omega (arith, p, c.before.before.if1.false)))
+    (own_node set.held a.stretch.now (all_known set joint) p.0 (omega (arith, p, c.if-j-stretch.false)))
 
-test-last-column-requires : tie.Need-test-last-column-requires
+test-last-column-requires : tie.Need-test_last_column-requires
 test-last-column-requires c κs =
-    let start = c.before.before.before.before.before.before in
-    let a = start.args in
-    let p = start.requires in
+    let a = c.args in
+    let p = c.requires in
     let q = p.1 in
-    ((omega (arith, p.0), p.0.2, p.0.3), (q.0, q.1, q.2, q.3, subst (λ (k : ℕ). SoleColumn q.0 a.stretch.now k a.table.now) c.before.before.if1.true q.4))
+    ((omega (arith, p.0), p.0.2, p.0.3), (q.0, q.1, q.2, q.3, subst (λ (k : ℕ). SoleColumn q.0 a.stretch.now k a.table.now) c.if-j-stretch.true q.4))
 
-same_length : tie.Need-same-length
+same_length : tie.Need-shape_of-work-then-j-stretch
 same_length c = search rules
 
-same-length-2 : tie.Need-same-length-2
+same-length-2 : tie.Need-shape_of-table-then-j-stretch
 same-length-2 c = search rules
 
-returns : tie.Need-returns
+returns : tie.Need-returns-then-j-stretch
 returns c m set joint noted sole =
-    let at-if1 = c.before.before.before.before.before.before.before in
-    let a = at-if1.before.before.before.before.args in
-    let e = at-if1.if1.true in
-    let t = c.before.before.before.before.test-last-column.ensures m set joint noted (subst (λ (k : ℕ). SoleColumn m a.stretch.now k a.table.now) e sole) in
-    let o = c.before.before.before.before.test-last-column.new in
-    subst (λ (k : ℕ). ColumnTested m a.lines a.stretch.now k a.table.now o.1.1.1.0 a.work.now o.0) (sym e) t
+    let a = c.args in
+    let e = c.if-j-stretch.true in
+    let t = c.test_last_column.ensures m set joint noted (subst (λ (k : ℕ). SoleColumn m a.stretch.now k a.table.now) e sole) in
+    let o = c.test_last_column.new in
+    subst (λ (k : ℕ). ColumnTested m a.lines a.stretch.now k a.table.now o.table a.work.now o.work) (sym e) t
 
-sub-node-of : tie.Need-overflow-sub-node-of
+sub-node-of : tie.Need-overflow_sub-j
 sub-node-of c = search rules
 
-node-of-requires : tie.Need-node-of-requires
+node-of-requires : tie.Need-node_of-requires
 node-of-requires c κs =
-    let p = c.before.before.before.before.before.requires in ((all_known p.1.1 p.1.2, omega (arith, p.0), omega arith), (p.1.0, p.1.1.held))
+    let p = c.requires in ((all_known p.1.1 p.1.2, omega (arith, p.0), omega arith), (p.1.0, p.1.1.held))
 
-test-column-requires : tie.Need-test-column-requires
+test-column-requires : tie.Need-test_column-requires
 test-column-requires c κs =
-    let p = c.before.before.before.before.before.before.before.before.requires in
+    let p = c.requires in
     let q = p.1 in
     (p.0, (q.0, q.1, q.2, own c.before.before q.0 q.1 q.2, q.3, q.4))
 
-same-length-3 : tie.Need-same-length-3
+same-length-3 : tie.Need-shape_of-work
 same-length-3 c = search rules
 
-same-length-4 : tie.Need-same-length-4
+same-length-4 : tie.Need-shape_of-table
 same-length-4 c = search rules
 
-returns-2 : tie.Need-returns-2
+returns-2 : tie.Need-returns
 returns-2 c m set joint noted sole =
-    let at-node-of = c.before.before.before.before.before.before.before in
-    let start = at-node-of.before.before.before.before.before.before in
-    let a = start.args in
-    let o = c.before.before.before.before.test-column.new in
-    owned_all m a.stretch.now start.requires.0.1
-    (subst (λ (v : ℕ). ColumnSifted m a.lines a.stretch.now a.j (node v) true a.table.now o.1.1.1.1.1.1.0 a.work.now o.0) (at-node-of.node_of.ensures m set.held).0
-    (c.before.before.before.before.test-column.ensures m set joint (own at-node-of m set joint) noted sole))
+    let a = c.args in
+    let o = c.test_column.new in
+    owned_all m a.stretch.now c.requires.0.1
+    (subst (λ (v : ℕ). ColumnSifted m a.lines a.stretch.now a.j (node v) true a.table.now o.table a.work.now o.work) (c.node_of.ensures m set.held).0
+    (c.test_column.ensures m set joint (own c.before.before.before.before.before.before.before m set joint) noted sole))
 
 pub test_to_spec : {M : Type 1} → statement M
 test_to_spec =

@@ -17,72 +17,66 @@ use Rattle.leg_tests.proofs.test_turned.Statement.{statement}
 use Rattle.leg_tests.proofs.test_turned.Tie as tie
 
 -- The lists of the lines that arrive are made, and the map is turned round.
-module _ (c : tie.After-turn-round) (m : Map) (set : Set m c.before.before.before.before.before.before.before.before.before.before.before.before.before.args.lines c.before.before.before.before.before.before.before.before.before.before.before.before.before.args.work.now) where
-  lists : let a = c.before.before.before.before.before.before.before.before.before.before.before.before.before.args in Arriving (mirror m) a.lines a.stretch.now c.before.before.before.list-nexts.new.1.1.0
+module _ (c : tie.After-turn_round) (m : Map) (set : Set m c.args.lines c.args.work.now) where
+  lists : let a = c.args in Arriving (mirror m) a.lines a.stretch.now c.list_nexts.new.arrivals
   lists =
-      let at-list-nexts = c.before.before.before in
-      let start = c.before.before.before.before.before.before.before.before.before.before.before.before.before in
-      arriving start.args.stretch.now start.requires.0.0 refl (at-list-nexts.before.before.before.before.list-firsts.ensures m set) (at-list-nexts.list-nexts.ensures m set)
+      arriving c.args.stretch.now c.requires.0.0 refl (c.list_firsts.ensures m set) (c.list_nexts.ensures m set)
 
-  turned : let a = c.before.before.before.before.before.before.before.before.before.before.before.before.before.args in Turned m a.lines a.work.now c.turn-round.new.0
-  turned = c.turn-round.ensures m set
+  turned : let a = c.args in Turned m a.lines a.work.now c.turn_round.new.work
+  turned = c.turn_round.ensures m set
 
 -- The rows are tested there.
-module _ (c : tie.After-test-rows) (m : Map) (set : Set m c.before.before.before.before.before.before.before.before.before.before.before.before.before.before.before.before.before.before.before.args.lines c.before.before.before.before.before.before.before.before.before.before.before.before.before.before.before.before.before.before.before.args.work.now) (joint : Connected m c.before.before.before.before.before.before.before.before.before.before.before.before.before.before.before.before.before.before.before.args.stretch.now) where
-  rows : let a = c.before.before.before.before.before.before.before.before.before.before.before.before.before.before.before.before.before.before.before.args in
-      RowsTested (mirror m) a.lines a.stretch.now c.test_rows.result a.table.now c.test_rows.new.1.1.1.1.1.0 c.before.before.before.before.before.before.turn-round.new.0 c.test_rows.new.0
+module _ (c : tie.After-test_rows-tested) (m : Map) (set : Set m c.args.lines c.args.work.now) (joint : Connected m c.args.stretch.now) where
+  rows : let a = c.args in
+      RowsTested (mirror m) a.lines a.stretch.now c.test_rows-tested.result a.table.now c.test_rows-tested.new.table c.turn_round.new.work c.test_rows-tested.new.work
   rows =
-      let at-turn-round = c.before.before.before.before.before.before in
-      c.test_rows.ensures.1 (mirror m) (turned at-turn-round m set).set (connected_alike (alike_back (mirrored_twice m)) joint) (lists at-turn-round m set)
+      c.test_rows-tested.ensures.1 (mirror m) (turned c.before.before.before.before.before.before m set).set (connected_alike (alike_back (mirrored_twice m)) joint) (lists c.before.before.before.before.before.before m set)
 
-slice-aggregate-list-firsts : tie.Need-slice-aggregate-list-firsts
+slice-aggregate-list-firsts : tie.Need-slice_bounds-list_firsts-end
 slice-aggregate-list-firsts c = search rules
 
-list-firsts-requires : tie.Need-list-firsts-requires
-list-firsts-requires c κs = let p = c.before.before.before.before.before.requires in ((all_known p.1.1 p.1.2, p.0.0, refl), (p.1.0, p.1.1))
+list-firsts-requires : tie.Need-list_firsts-requires
+list-firsts-requires c κs = let p = c.requires in ((all_known p.1.1 p.1.2, p.0.0, refl), (p.1.0, p.1.1))
 
-slice-aggregate-list-nexts : tie.Need-slice-aggregate-list-nexts
+slice-aggregate-list-nexts : tie.Need-slice_bounds-list_nexts-end
 slice-aggregate-list-nexts c = search rules
 
-list-nexts-requires : tie.Need-list-nexts-requires
+list-nexts-requires : tie.Need-list_nexts-requires
 list-nexts-requires c κs = search rules
 
-turn-round-requires : tie.Need-turn-round-requires
+turn-round-requires : tie.Need-turn_round-requires
 turn-round-requires c κs = search rules
 
-slice-aggregate-test-rows : tie.Need-slice-aggregate-test-rows
+slice-aggregate-test-rows : tie.Need-slice_bounds-test_rows-end
 slice-aggregate-test-rows c = search rules
 
-test-rows-requires : tie.Need-test-rows-requires
+test-rows-requires : tie.Need-test_rows-tested-requires
 test-rows-requires c κs =
-    let at-turn-round = c.before.before.before.before.before in
-    let p = at-turn-round.before.before.before.before.before.before.before.before.before.before.before.before.before.requires in
+    let p = c.requires in
     let q = p.1 in (
       (p.0.0, p.0.1, all_known q.1 q.2, p.0.2),
-      (mirror q.0, (turned at-turn-round q.0 q.1).set, connected_alike (alike_back (mirrored_twice q.0)) q.2, lists at-turn-round q.0 q.1),
+      (mirror q.0, (turned c.before.before.before.before.before q.0 q.1).set, connected_alike (alike_back (mirrored_twice q.0)) q.2, lists c.before.before.before.before.before q.0 q.1),
     )
 
-turn-round-requires-2 : tie.Need-turn-round-requires-2
+turn-round-requires-2 : tie.Need-turn_round-requires-2
 turn-round-requires-2 c κs =
-    let at-test-rows = c.before.before.before.before.before in
-    let q = at-test-rows.before.before.before.before.before.before.before.before.before.before.before.before.before.before.before.before.before.before.before.requires.1 in
-    (mirror q.0, (rows at-test-rows q.0 q.1 q.2).worked.set)
+    let q = c.requires.1 in
+    (mirror q.0, (rows c.before.before.before.before.before q.0 q.1 q.2).worked.set)
 
-same_length : tie.Need-same-length
+same_length : tie.Need-shape_of-work
 same_length c = search rules
 
-same-length-2 : tie.Need-same-length-2
+same-length-2 : tie.Need-shape_of-table
 same-length-2 c = search rules
 
 returns : tie.Need-returns
 returns c =
-    let at-test-rows = c.before.before.before.before.before.before.before.before in
-    let made = at-test-rows.test_rows.result in (
-      at-test-rows.test_rows.ensures.0,
+    let made = c.test_rows-tested.result in (
+      c.test_rows-tested.ensures.0,
       λ m set joint.
-          let r = rows at-test-rows m set joint in
-          let there = turned at-test-rows.before.before.before.before.before.before m set in
-          let back = c.before.before.turn-round2.ensures (mirror m) r.worked.set in
+          let r = rows c.before.before.before.before.before.before.before.before m set joint in
+          let there = turned c.before.before.before.before.before.before.before.before.before.before.before.before.before.before m set in
+          let back = c.turn_round-2.ensures (mirror m) r.worked.set in
           record {
             says = rows_straight m made r;
             kept = r.kept;

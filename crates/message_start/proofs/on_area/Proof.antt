@@ -12,39 +12,39 @@ use Rattle.message_start.proofs.on_area.Lts as lts
 use Rattle.depot_map.proofs.read_map.Reads as read-map-reads
 use Rattle.message_start.proofs.on_map.Reads as on-map-reads
 
-read-map-requires : tie.Need-read-map-requires
+read-map-requires : tie.Need-read_map-requires
 read-map-requires c κs = search rules
 
-enum_told : tie.Need-enum-told
+enum_told : tie.Need-enum_told-1
 enum_told c = search rules
 
-on-map-requires : tie.Need-on-map-requires
+on-map-requires : tie.Need-on_map-requires
 on-map-requires c κs =
-    let w = read_whole c.before.before.before.before.before.read-map.ensures c.before.enum_told.given.1 in
+    let w = read_whole c.read_map.ensures c.in-Whole.is in
     let few = map_few _ w.map w.decodes in
     omega arith
 
-enum-known-why : tie.Need-enum-known-why
+enum-known-why : tie.Need-enum_known-why
 enum-known-why c = search rules
 
-same_length : tie.Need-same-length
+same_length : tie.Need-shape_of-work-in-Whole
 same_length c = search rules
 
-same-length-2 : tie.Need-same-length-2
+same-length-2 : tie.Need-shape_of-buffer
 same-length-2 c = search rules
 
-returns : tie.Need-returns
+returns : tie.Need-returns-in-Whole
 returns c =
-    let w = read_whole c.before.before.before.before.before.before.before.before.read-map.ensures c.before.before.before.before.enum_told.given.1 in
-    answered_by (λ o h. rw w.decodes h) c.before.before.on_map.ensures
+    let w = read_whole c.read_map.ensures c.in-Whole.is in
+    answered_by (λ o h. rw w.decodes h) c.on_map.ensures
 
-same-length-3 : tie.Need-same-length-3
+same-length-3 : tie.Need-shape_of-work-in-Refused
 same-length-3 c = search rules
 
-returns-2 : tie.Need-returns-2
+returns-2 : tie.Need-returns-in-Refused
 returns-2 c =
-    let a = c.before.before.before.before.before.before.before.before.before.before.args in
-    map_refused_lem a.map.now a.buffer.now _ _ (read_refused c.before.before.before.before.before.read-map.ensures c.before.why.given.1)
+    let a = c.args in
+    map_refused_lem a.map.now a.buffer.now _ _ (read_refused c.read_map.ensures c.in-Refused.is)
 
 pub on_area_spec : {M : Type 1} → statement M
 on_area_spec =

@@ -9,31 +9,31 @@ use Rattle.message_start.proofs.on_map.Reads as reads
 use Rattle.message_start.proofs.on_map.Lts as lts
 use Rattle.front.proofs.put_front.Reads as put-front-reads
 
-put-front-requires : tie.Need-put-front-requires
+put-front-requires : tie.Need-put_front-requires
 put-front-requires c κs = search rules
 
-enum-known-count : tie.Need-enum-known-count
+enum-known-count : tie.Need-enum_known-count
 enum-known-count c = search rules
 
-enum_told : tie.Need-enum-told
+enum_told : tie.Need-enum_told-1
 enum_told c = search rules
 
-same_length : tie.Need-same-length
+same_length : tie.Need-shape_of-buffer-in-Bytes
 same_length c = search rules
 
-returns : tie.Need-returns
+returns : tie.Need-returns-in-Bytes
 returns c =
-    let a = c.before.before.before.before.before.before.before.before.before.args in
-    let p = subst (FrontPut _ _ _) c.before.count.given.1 c.before.before.before.before.before.put_front.ensures in
+    let a = c.args in
+    let p = subst (FrontPut _ _ _) c.in-Bytes.is c.put_front.ensures in
     put a.map.now a.buffer.now _ _ p.0 p.1 p.2
 
-same-length-2 : tie.Need-same-length-2
+same-length-2 : tie.Need-shape_of-buffer-in-NoRoom
 same-length-2 c = search rules
 
-returns-2 : tie.Need-returns-2
+returns-2 : tie.Need-returns-in-NoRoom
 returns-2 c =
-    let a = c.before.before.before.before.before.before.before.before.args in
-    let p = subst (FrontPut _ _ _) c.enum_told.given.1 c.before.before.before.before.put_front.ensures in
+    let a = c.args in
+    let p = subst (FrontPut _ _ _) c.in-NoRoom.is c.put_front.ensures in
     no_room a.map.now a.buffer.now _ p.0 p.1
 
 pub on_map_spec : {M : Type 1} → statement M

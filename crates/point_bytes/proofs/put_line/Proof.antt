@@ -9,32 +9,32 @@ use Rattle.point_bytes.proofs.put_line.Tie as tie
 copy-requires : tie.Need-copy-requires
 copy-requires c κs = search rules
 
-byte-at-requires : tie.Need-byte-at-requires
+byte-at-requires : tie.Need-byte_at-first-requires
 byte-at-requires c κs = search rules
 
-byte-at-requires-2 : tie.Need-byte-at-requires-2
+byte-at-requires-2 : tie.Need-byte_at-last-requires
 byte-at-requires-2 c κs = search rules
 
-slice-write-line : tie.Need-slice-write-line
+slice-write-line : tie.Need-bounds-line-0
 slice-write-line c = search rules
 
-cast-line : tie.Need-overflow-cast-line
+cast-line : tie.Need-overflow_cast-line
 cast-line c = search rules
 
-slice-write-line-2 : tie.Need-slice-write-line-2
+slice-write-line-2 : tie.Need-bounds-line-7
 slice-write-line-2 c = simp length-set (omega arith)
 
-cast-line-2 : tie.Need-overflow-cast-line-2
+cast-line-2 : tie.Need-overflow_cast-line-2
 cast-line-2 c = search rules
 
-slice-write-line-3 : tie.Need-slice-write-line-3
+slice-write-line-3 : tie.Need-bounds-line-14
 slice-write-line-3 c = simp length-set (omega arith)
 
-same_length : tie.Need-same-length
+same_length : tie.Need-shape_of-line
 same_length c = search rules
 
 returns : tie.Need-returns
-returns c = rw (c.before.before.before.before.copy.ensures, c.before.byte_at.ensures.0, c.byte-at2.ensures.0) (put_over c.before.before.before.before.before.before.before.before.args.bytes.now c.before.before.before.before.before.before.before.before.args.line.now c.before.before.before.before.before.before.before.before.requires.0)
+returns c = rw (c.copy.ensures, c.byte_at-first.ensures.0, c.byte_at-last.ensures.0) (put_over c.args.bytes.now c.args.line.now c.requires.0)
 
 pub put_line_spec : {M : Type 1} → statement M
 put_line_spec =

@@ -24,46 +24,46 @@ tells_more best {i} {legs} l f tells k h m =
     ⊎_elim (λ e. rw (← e, get_or-set_same best i legs 0) f) (λ lt. rw (get_or-set_other best i k legs 0 (omega arith)) (tells k (omega arith) m))
     (eq-or-lt_of_le h)
 
-abbrev invariant-loop : tie.invariant-loop
+abbrev invariant-loop : tie.invariant-loop-i
 invariant-loop good n best₀ i₀ best i = (i ≤ n) × (length best ≡ 65) × TellsFewest (GoodIn good) n best i
 
-abbrev decreases-loop : tie.decreases-loop
+abbrev decreases-loop : tie.decreases-loop-i
 decreases-loop good n best₀ i₀ best i = i
 
-mul-best : tie.Need-overflow-mul-best invariant-loop decreases-loop
+mul-best : tie.Need-offset_bounds-best-n invariant-loop decreases-loop
 mul-best c = search rules
 
-array-write-best : tie.Need-array-write-best invariant-loop decreases-loop
+array-write-best : tie.Need-bounds-best-n invariant-loop decreases-loop
 array-write-best c = search rules
 
-loop-holds : tie.Need-loop-init invariant-loop decreases-loop
+loop-holds : tie.Need-loop-i-init invariant-loop decreases-loop
 loop-holds c = (omega arith, simp length-set, tells_more (replicate 65 65) (omega arith) (inl ([], arrived, refl)) (λ k h m. absurd (omega arith)))
 
-sub-i : tie.Need-overflow-sub-i invariant-loop decreases-loop
+sub-i : tie.Need-overflow_sub-i invariant-loop decreases-loop
 sub-i c = search rules
 
-first-cut-requires : tie.Need-first-cut-requires invariant-loop decreases-loop
-first-cut-requires c κs = (omega arith, λ k h m. c.before.before.loop.invariant.2 k (omega arith) m)
+first-cut-requires : tie.Need-first_cut-requires invariant-loop decreases-loop
+first-cut-requires c κs = (omega arith, λ k h m. c.loop-i.invariant.2 k (omega arith) m)
 
-mul-best-2 : tie.Need-overflow-mul-best-2 invariant-loop decreases-loop
+mul-best-2 : tie.Need-offset_bounds-best-i invariant-loop decreases-loop
 mul-best-2 c = search rules
 
-array-write-best-2 : tie.Need-array-write-best-2 invariant-loop decreases-loop
+array-write-best-2 : tie.Need-bounds-best-i invariant-loop decreases-loop
 array-write-best-2 c = search rules
 
-loop-less : tie.Need-loop-smaller invariant-loop decreases-loop
+loop-less : tie.Need-loop-i-smaller invariant-loop decreases-loop
 loop-less c = search rules
 
-loop-again : tie.Need-loop-preserved invariant-loop decreases-loop
+loop-again : tie.Need-loop-i-preserved invariant-loop decreases-loop
 loop-again c =
-    let at = c.before.before.before.loop in (
+    let at = c.loop-i in (
       omega arith,
       simp length-set at.invariant.1,
       tells_more at.best (omega arith) (counted c.first_cut.ensures) (λ k h m. at.invariant.2 k (omega arith) m),
     )
 
 returns : tie.Need-returns invariant-loop decreases-loop
-returns c = λ k h m. c.before.loop.invariant.2 k (omega arith) m
+returns c = λ k h m. c.loop-i.invariant.2 k (omega arith) m
 
 pub fewest_spec : {M : Type 1} → statement M
 fewest_spec =

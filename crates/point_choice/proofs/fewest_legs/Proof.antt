@@ -7,7 +7,7 @@ use Rattle.point_choice.proofs.fewest_legs.Tie as tie
 fewest-requires : tie.Need-fewest-requires
 fewest-requires c κs = search rules
 
-array-read-result : tie.Need-array-read-result
+array-read-result : tie.Need-bounds-fewest-0
 array-read-result c = search rules
 
 returns : tie.Need-returns

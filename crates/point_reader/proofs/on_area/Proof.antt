@@ -6,36 +6,36 @@ use Rattle.point_reader.proofs.Answers.{map_refused_lem}
 use Rattle.point_reader.proofs.on_area.Statement.{statement}
 use Rattle.point_reader.proofs.on_area.Tie as tie
 
-open-map-requires : tie.Need-open-map-requires
+open-map-requires : tie.Need-open_map-requires
 open-map-requires c κs = search rules
 
-enum-known-nodes : tie.Need-enum-known-nodes
+enum-known-nodes : tie.Need-enum_known-nodes
 enum-known-nodes c = search rules
 
-on-map-requires : tie.Need-on-map-requires
+on-map-requires : tie.Need-on_map-requires
 on-map-requires c κs =
-    let w = opened_ready c.before.before.before.before.before.before.before.open-map.ensures c.before.before.before.nodes.given.1 in
+    let w = opened_ready c.open_map.ensures c.in-Ready.is in
     (w.map, w.set, w.node_count)
 
-enum-known-why : tie.Need-enum-known-why
+enum-known-why : tie.Need-enum_known-why
 enum-known-why c = search rules
 
-same_length : tie.Need-same-length
+same_length : tie.Need-shape_of-work-in-Ready
 same_length c = search rules
 
-same-length-2 : tie.Need-same-length-2
+same-length-2 : tie.Need-shape_of-out
 same-length-2 c = search rules
 
-returns : tie.Need-returns
+returns : tie.Need-returns-in-Ready
 returns c =
-    let w = opened_ready c.before.before.before.before.before.before.before.before.before.before.before.before.open-map.ensures c.before.before.before.before.before.before.before.before.nodes.given.1 in
-    answered_by (λ o r. rw w.decodes r) (c.before.before.before.before.on_map.ensures w.map w.set w.node_count)
+    let w = opened_ready c.open_map.ensures c.in-Ready.is in
+    answered_by (λ o r. rw w.decodes r) (c.on_map.ensures w.map w.set w.node_count)
 
-same-length-3 : tie.Need-same-length-3
+same-length-3 : tie.Need-shape_of-work-in-Refused
 same-length-3 c = search rules
 
-returns-2 : tie.Need-returns-2
-returns-2 c = map_refused_lem _ _ _ _ (opened_refused c.before.before.before.before.before.open-map.ensures c.before.why.given.1)
+returns-2 : tie.Need-returns-in-Refused
+returns-2 c = map_refused_lem _ _ _ _ (opened_refused c.open_map.ensures c.in-Refused.is)
 
 pub on_area_spec : {M : Type 1} → statement M
 on_area_spec =

@@ -10,38 +10,38 @@ use Rattle.point_reader.proofs.on_area_of_message.Lts as lts
 use Rattle.opening.proofs.open_map.Reads as open-map-reads
 use Rattle.point_reader.proofs.on_front.Reads as on-front-reads
 
-open-map-requires : tie.Need-open-map-requires
+open-map-requires : tie.Need-open_map-requires
 open-map-requires c κs = search rules
 
-enum-known-nodes : tie.Need-enum-known-nodes
+enum-known-nodes : tie.Need-enum_known-nodes
 enum-known-nodes c = search rules
 
-on-front-requires : tie.Need-on-front-requires
+on-front-requires : tie.Need-on_front-requires
 on-front-requires c κs =
-    let w = opened_ready c.before.before.before.before.before.before.before.open-map.ensures c.before.before.before.nodes.given.1 in
+    let w = opened_ready c.open_map.ensures c.in-Ready.is in
     (w.map, w.set, w.node_count)
 
-enum-known-why : tie.Need-enum-known-why
+enum-known-why : tie.Need-enum_known-why
 enum-known-why c = search rules
 
-same_length : tie.Need-same-length
+same_length : tie.Need-shape_of-work-in-Ready
 same_length c = search rules
 
-same-length-2 : tie.Need-same-length-2
+same-length-2 : tie.Need-shape_of-out
 same-length-2 c = search rules
 
-returns : tie.Need-returns
+returns : tie.Need-returns-in-Ready
 returns c =
-    let w = opened_ready c.before.before.before.before.before.before.before.before.before.before.before.before.open-map.ensures c.before.before.before.before.before.before.before.before.nodes.given.1 in
-    answered_by (λ o r. rw w.decodes r) (c.before.before.before.before.on-front.ensures w.map w.set w.node_count)
+    let w = opened_ready c.open_map.ensures c.in-Ready.is in
+    answered_by (λ o r. rw w.decodes r) (c.on_front.ensures w.map w.set w.node_count)
 
-same-length-3 : tie.Need-same-length-3
+same-length-3 : tie.Need-shape_of-work-in-Refused
 same-length-3 c = search rules
 
-returns-2 : tie.Need-returns-2
+returns-2 : tie.Need-returns-in-Refused
 returns-2 c =
-    let a = c.before.before.before.before.before.before.before.before.before.before.before.before.args in
-    map_refused_lem a.map.now a.message.now a.reference.now a.out.now _ (opened_refused c.before.before.before.before.before.open-map.ensures c.before.why.given.1)
+    let a = c.args in
+    map_refused_lem a.map.now a.message.now a.reference.now a.out.now _ (opened_refused c.open_map.ensures c.in-Refused.is)
 
 pub on_area_of_message_spec : {M : Type 1} → statement M
 on_area_of_message_spec =

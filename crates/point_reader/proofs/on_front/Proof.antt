@@ -12,27 +12,27 @@ use Rattle.point_reader.proofs.on_front.Lts as lts
 use Rattle.front.proofs.same_map.Reads as same-map-reads
 use Rattle.point_reader.proofs.on_map.Reads as on-map-reads
 
-same-map-requires : tie.Need-same-map-requires
+same-map-requires : tie.Need-same_map-requires
 same-map-requires c κs = search rules
 
-returns : tie.Need-returns
-returns c m set count = front_refused _ _ _ (sym c.before.same_map.ensures ∙ not-true c.before.same_map.result c.if1.true)
+returns : tie.Need-returns-then-not-same_map
+returns c m set count = front_refused _ _ _ (sym c.same_map.ensures ∙ c.if-not-same_map.true)
 
-on-map-requires : tie.Need-on-map-requires
+on-map-requires : tie.Need-on_map-requires
 on-map-requires c κs = search rules
 
-same_length : tie.Need-same-length
+same_length : tie.Need-shape_of-work
 same_length c = search rules
 
-same-length-2 : tie.Need-same-length-2
+same-length-2 : tie.Need-shape_of-out
 same-length-2 c = search rules
 
-returns-2 : tie.Need-returns-2
+returns-2 : tie.Need-returns
 returns-2 c m set count =
     own_map PointReadOutcome.refused _ _ _
     (let t = c.before.before.before.before.before.before.before in
-    sym t.before.same_map.ensures ∙ not-false t.before.same_map.result t.if1.false)
-    (c.before.before.before.before.on_map.ensures m set count)
+    sym c.same_map.ensures ∙ c.if-not-same_map.false)
+    (c.on_map.ensures m set count)
 
 pub on_front_spec : {M : Type 1} → statement M
 on_front_spec =

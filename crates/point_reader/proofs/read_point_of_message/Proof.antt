@@ -13,41 +13,41 @@ use Rattle.point_reader.proofs.read_point_of_message.Lts as lts
 use Rattle.point_reader.proofs.on_area_of_message.Reads as on-area-of-message-reads
 use Rattle.work_area.proofs.clear.Reads as clear_reads
 
-returns : tie.Need-returns
+returns : tie.Need-returns-then-work-lt-WORK_LENGTH
 returns c =
-    let a = c.before.before.before.before.before.before.args in
-    area_short a.map.now a.message.now a.reference.now a.lines.now a.work.now c.if1.true
+    let a = c.args in
+    area_short a.map.now a.message.now a.reference.now a.lines.now a.work.now c.if-work-lt-WORK_LENGTH.true
 
-slice-relend-prefix-on-area-of-message : tie.Need-slice-relend-prefix-on-area-of-message
+slice-relend-prefix-on-area-of-message : tie.Need-slice_bounds-on_area_of_message-end
 slice-relend-prefix-on-area-of-message c = search rules
 
-slice-aggregate-on-area-of-message : tie.Need-slice-aggregate-on-area-of-message
+slice-aggregate-on-area-of-message : tie.Need-slice_bounds-on_area_of_message-end-2
 slice-aggregate-on-area-of-message c =
-    sym (length-take-le work_length c.before.before.before.before.before.before.before.args.work.now (omega (arith, c.before.if1.false)))
+    sym (length-take-le work_length c.args.work.now (omega (arith, c.if-work-lt-WORK_LENGTH.false)))
 
-on-area-of-message-requires : tie.Need-on-area-of-message-requires
+on-area-of-message-requires : tie.Need-on_area_of_message-given-requires
 on-area-of-message-requires c κs =
     omega (
       arith,
-      length-take-le work_length c.before.before.before.before.before.before.before.before.args.work.now (omega (arith, c.before.before.if1.false)),
+      length-take-le work_length c.args.work.now (omega (arith, c.if-work-lt-WORK_LENGTH.false)),
     )
 
 clear-requires : tie.Need-clear-requires
 clear-requires c κs = search rules
 
-same_length : tie.Need-same-length
+same_length : tie.Need-shape_of-work
 same_length c = search rules
 
-same-length-2 : tie.Need-same-length-2
+same-length-2 : tie.Need-shape_of-lines
 same-length-2 c = search rules
 
-returns-2 : tie.Need-returns-2
+returns-2 : tie.Need-returns
 returns-2 c =
-    let a = c.before.before.before.before.before.before.before.before.before.before.before.before.before.before.before.before.before.args in
-    let large = c.before.before.before.before.before.before.before.before.before.before.before.if1.false in
-    let s = c.before.before.before.before.before.before.before.before.on-area-of-message in
+    let a = c.args in
+    let large = c.if-work-lt-WORK_LENGTH.false in
+    let s = c.on_area_of_message-given in
     called a.map.now a.message.now a.reference.now a.lines.now (omega (arith, large)) s.ensures
-    (c.before.before.clear.ensures ∙ cleared_same a.work.now s.new.1.1.1.0 (omega (arith, large)) s.auto.1.1.1.0)
+    (c.clear.ensures ∙ cleared_same a.work.now s.new.work (omega (arith, large)) s.auto.work)
 
 pub read_point_of_message_spec : {M : Type 1} → statement M
 read_point_of_message_spec =

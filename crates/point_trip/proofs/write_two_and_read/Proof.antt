@@ -8,107 +8,107 @@ use Rattle.point_trip.proofs.Handed.{wrote, bytes_fit, handed_back, alike, hande
 use Rattle.point_trip.proofs.write_two_and_read.Statement.{statement}
 use Rattle.point_trip.proofs.write_two_and_read.Tie as tie
 
-write-point-requires : tie.Need-write-point-requires
+write-point-requires : tie.Need-write_point-requires
 write-point-requires c κs = search rules
 
-enum-known-why : tie.Need-enum-known-why
+enum-known-why : tie.Need-enum_known-why
 enum-known-why c = search rules
 
-enum-known-count : tie.Need-enum-known-count
+enum-known-count : tie.Need-enum_known-count
 enum-known-count c = search rules
 
-write-point-requires-2 : tie.Need-write-point-requires-2
+write-point-requires-2 : tie.Need-write_point-requires-in-Written
 write-point-requires-2 c κs = search rules
 
-enum-known-why-2 : tie.Need-enum-known-why-2
+enum-known-why-2 : tie.Need-enum_known-why-in-Refused-write_point-2
 enum-known-why-2 c = search rules
 
-enum-known-size : tie.Need-enum-known-size
+enum-known-size : tie.Need-enum_known-size
 enum-known-size c = search rules
 
-slice-reshare-prefix-same-bytes : tie.Need-slice-reshare-prefix-same-bytes
-slice-reshare-prefix-same-bytes c = bytes_fit (wrote (rw c.before.before.before.before.before.before.before.before.before.before.before.count.given.1 at c.before.before.before.before.before.before.before.before.before.before.before.before.before.before.before.before.before.write-point.ensures)) c.before.before.before.before.before.before.before.before.before.before.before.before.before.before.before.before.before.write-point.auto.1.1.1.1.1.1.0
+slice-reshare-prefix-same-bytes : tie.Need-slice_bounds-same_bytes-end
+slice-reshare-prefix-same-bytes c = bytes_fit (wrote (rw c.in-Written.is at c.write_point.ensures)) c.write_point.auto.bytes
 
-slice-aggregate-same-bytes : tie.Need-slice-aggregate-same-bytes
-slice-aggregate-same-bytes c = sym (length-take-le _ _ (bytes_fit (wrote (rw c.before.before.before.before.before.before.before.before.before.before.before.before.count.given.1 at c.before.before.before.before.before.before.before.before.before.before.before.before.before.before.before.before.before.before.write-point.ensures)) c.before.before.before.before.before.before.before.before.before.before.before.before.before.before.before.before.before.before.write-point.auto.1.1.1.1.1.1.0))
+slice-aggregate-same-bytes : tie.Need-slice_bounds-same_bytes-end-in-Written-write_point
+slice-aggregate-same-bytes c = sym (length-take-le _ _ (bytes_fit (wrote (rw c.in-Written.is at c.write_point.ensures)) c.write_point.auto.bytes))
 
-slice-reshare-prefix-same-bytes-2 : tie.Need-slice-reshare-prefix-same-bytes-2
-slice-reshare-prefix-same-bytes-2 c = bytes_fit (wrote (rw c.before.before.size.given.1 at c.before.before.before.before.before.before.before.before.write-point2.ensures)) c.before.before.before.before.before.before.before.before.write-point2.auto.1.1.1.1.1.1.0
+slice-reshare-prefix-same-bytes-2 : tie.Need-slice_bounds-same_bytes-end-in-Written-write_point-2
+slice-reshare-prefix-same-bytes-2 c = bytes_fit (wrote (rw c.in-Written-write_point.is at c.write_point-in-Written.ensures)) c.write_point-in-Written.auto.bytes
 
-slice-aggregate-same-bytes-2 : tie.Need-slice-aggregate-same-bytes-2
-slice-aggregate-same-bytes-2 c = sym (length-take-le _ _ (bytes_fit (wrote (rw c.before.before.before.size.given.1 at c.before.before.before.before.before.before.before.before.before.write-point2.ensures)) c.before.before.before.before.before.before.before.before.before.write-point2.auto.1.1.1.1.1.1.0))
+slice-aggregate-same-bytes-2 : tie.Need-slice_bounds-same_bytes-end-in-Written-write_point-3
+slice-aggregate-same-bytes-2 c = sym (length-take-le _ _ (bytes_fit (wrote (rw c.in-Written-write_point.is at c.write_point-in-Written.ensures)) c.write_point-in-Written.auto.bytes))
 
-same-bytes-requires : tie.Need-same-bytes-requires
+same-bytes-requires : tie.Need-same_bytes-requires
 same-bytes-requires c κs = search rules
 
-same_length : tie.Need-same-length
+same_length : tie.Need-shape_of-writing-then-not-same_bytes
 same_length c = search rules
 
-same-length-2 : tie.Need-same-length-2
+same-length-2 : tie.Need-shape_of-bytes-then-not-same_bytes
 same-length-2 c = search rules
 
-same-length-3 : tie.Need-same-length-3
+same-length-3 : tie.Need-shape_of-others-then-not-same_bytes
 same-length-3 c = search rules
 
-returns : tie.Need-returns
+returns : tie.Need-returns-then-not-same_bytes
 returns c =
-    let one = (rw c.before.before.before.before.before.before.before.before.before.before.before.before.before.before.before.count.given.1 at c.before.before.before.before.before.before.before.before.before.before.before.before.before.before.before.before.before.before.before.before.before.write-point.ensures) in
-    let other = (rw c.before.before.before.before.before.size.given.1 at c.before.before.before.before.before.before.before.before.before.before.before.write-point2.ensures) in
-    let differ = rw (not-true c.before.same_bytes.result c.if1.true) at c.before.same_bytes.ensures in
+    let one = (rw c.in-Written.is at c.write_point.ensures) in
+    let other = (rw c.in-Written-write_point.is at c.write_point-in-Written.ensures) in
+    let differ = rw (c.if-not-same_bytes.true) at c.same_bytes.ensures in
     ((_, _, record { between = _; first = one; second = other }, differ), refl, refl)
 
-slice-reshare-prefix-read-point : tie.Need-slice-reshare-prefix-read-point
-slice-reshare-prefix-read-point c = bytes_fit (wrote (rw c.before.before.before.before.before.before.before.before.before.before.before.before.before.before.before.count.given.1 at c.before.before.before.before.before.before.before.before.before.before.before.before.before.before.before.before.before.before.before.before.before.write-point.ensures)) c.before.before.before.before.before.before.before.before.before.before.before.before.before.before.before.before.before.before.before.before.before.write-point.auto.1.1.1.1.1.1.0
+slice-reshare-prefix-read-point : tie.Need-slice_bounds-read_point-end
+slice-reshare-prefix-read-point c = bytes_fit (wrote (rw c.in-Written.is at c.write_point.ensures)) c.write_point.auto.bytes
 
-slice-aggregate-read-point : tie.Need-slice-aggregate-read-point
-slice-aggregate-read-point c = sym (length-take-le _ _ (bytes_fit (wrote (rw c.before.before.before.before.before.before.before.before.before.before.before.before.before.before.before.before.count.given.1 at c.before.before.before.before.before.before.before.before.before.before.before.before.before.before.before.before.before.before.before.before.before.before.write-point.ensures)) c.before.before.before.before.before.before.before.before.before.before.before.before.before.before.before.before.before.before.before.before.before.before.write-point.auto.1.1.1.1.1.1.0))
+slice-aggregate-read-point : tie.Need-slice_bounds-read_point-end-in-Written-write_point
+slice-aggregate-read-point c = sym (length-take-le _ _ (bytes_fit (wrote (rw c.in-Written.is at c.write_point.ensures)) c.write_point.auto.bytes))
 
-read-point-requires : tie.Need-read-point-requires
+read-point-requires : tie.Need-read_point-requires
 read-point-requires c κs = search rules
 
-same-length-4 : tie.Need-same-length-4
+same-length-4 : tie.Need-shape_of-writing-in-Refused
 same-length-4 c = search rules
 
-same-length-5 : tie.Need-same-length-5
+same-length-5 : tie.Need-shape_of-bytes-in-Refused
 same-length-5 c = search rules
 
-returns-2 : tie.Need-returns-2
-returns-2 c = (rw c.before.why.given.1 at c.before.before.before.before.before.before.before.write-point.ensures, refl, refl, refl)
+returns-2 : tie.Need-returns-in-Refused
+returns-2 c = (rw c.in-Refused.is at c.write_point.ensures, refl, refl, refl)
 
-same-length-6 : tie.Need-same-length-6
+same-length-6 : tie.Need-shape_of-writing-in-Refused-write_point
 same-length-6 c = search rules
 
-same-length-7 : tie.Need-same-length-7
+same-length-7 : tie.Need-shape_of-bytes-in-Refused-write_point
 same-length-7 c = search rules
 
-same-length-8 : tie.Need-same-length-8
+same-length-8 : tie.Need-shape_of-others-in-Refused-write_point
 same-length-8 c = search rules
 
-returns-3 : tie.Need-returns-3
-returns-3 c = ((_, _, (rw c.before.before.before.before.before.before.before.before.before.before.before.count.given.1 at c.before.before.before.before.before.before.before.before.before.before.before.before.before.before.before.before.before.write-point.ensures), rw c.before.why2.given.1 at c.before.before.before.before.before.before.before.write-point2.ensures), refl, refl)
+returns-3 : tie.Need-returns-in-Refused-write_point
+returns-3 c = ((_, _, (rw c.in-Written.is at c.write_point.ensures), rw c.in-Refused-write_point.is at c.write_point-in-Written.ensures), refl, refl)
 
-same-length-9 : tie.Need-same-length-9
+same-length-9 : tie.Need-shape_of-writing-else-not-same_bytes
 same-length-9 c = search rules
 
-same-length-10 : tie.Need-same-length-10
+same-length-10 : tie.Need-shape_of-bytes-else-not-same_bytes
 same-length-10 c = search rules
 
-same-length-11 : tie.Need-same-length-11
+same-length-11 : tie.Need-shape_of-others-else-not-same_bytes
 same-length-11 c = search rules
 
-same-length-12 : tie.Need-same-length-12
+same-length-12 : tie.Need-shape_of-reading
 same-length-12 c = search rules
 
-same-length-13 : tie.Need-same-length-13
+same-length-13 : tie.Need-shape_of-lines
 same-length-13 c = search rules
 
-returns-4 : tie.Need-returns-4
+returns-4 : tie.Need-returns-else-not-same_bytes
 returns-4 c =
-    let one = (rw c.before.before.before.before.before.before.before.before.before.before.before.before.before.before.before.before.before.before.before.before.before.before.before.count.given.1 at c.before.before.before.before.before.before.before.before.before.before.before.before.before.before.before.before.before.before.before.before.before.before.before.before.before.before.before.before.before.write-point.ensures) in
-    let other = (rw c.before.before.before.before.before.before.before.before.before.before.before.before.before.size.given.1 at c.before.before.before.before.before.before.before.before.before.before.before.before.before.before.before.before.before.before.before.write-point2.ensures) in
-    let same = rw (not-false c.before.before.before.before.before.before.before.before.before.same_bytes.result c.before.before.before.before.before.before.before.before.if1.false) at c.before.before.before.before.before.before.before.before.before.same_bytes.ensures in
-    let size = same_size _ _ _ _ (bytes_fit (wrote one) c.before.before.before.before.before.before.before.before.before.before.before.before.before.before.before.before.before.before.before.before.before.before.before.before.before.before.before.before.before.write-point.auto.1.1.1.1.1.1.0) (bytes_fit (wrote other) c.before.before.before.before.before.before.before.before.before.before.before.before.before.before.before.before.before.before.before.write-point2.auto.1.1.1.1.1.1.0) same in
-    let call = c.before.before.before.before.read-point.ensures in (
+    let one = (rw c.in-Written.is at c.write_point.ensures) in
+    let other = (rw c.in-Written-write_point.is at c.write_point-in-Written.ensures) in
+    let same = rw (c.if-not-same_bytes.false) at c.same_bytes.ensures in
+    let size = same_size _ _ _ _ (bytes_fit (wrote one) c.write_point.auto.bytes) (bytes_fit (wrote other) c.write_point-in-Written.auto.bytes) same in
+    let call = c.read_point.ensures in (
       record { between = _; first = one; second = rw size at other },
       rw size at same,
       alike (wrote one) (wrote other) same,

@@ -10,34 +10,34 @@ use Rattle.point_writer.proofs.Answers.{area_short, called}
 use Rattle.point_writer.proofs.write_point.Statement.{statement}
 use Rattle.point_writer.proofs.write_point.Tie as tie
 
-returns : tie.Need-returns
-returns c = let a = c.before.before.before.before.args in area_short a.map.now (point_given a.line a.offset a.orientation a.side) a.bytes.now a.work.now c.if1.true
+returns : tie.Need-returns-then-work-lt-WORK_LENGTH
+returns c = let a = c.args in area_short a.map.now (point_given a.line a.offset a.orientation a.side) a.bytes.now a.work.now c.if-work-lt-WORK_LENGTH.true
 
-slice-relend-prefix-on-area : tie.Need-slice-relend-prefix-on-area
+slice-relend-prefix-on-area : tie.Need-slice_bounds-on_area-end
 slice-relend-prefix-on-area c = search rules
 
-slice-aggregate-on-area : tie.Need-slice-aggregate-on-area
-slice-aggregate-on-area c = sym (length-take-le work_length c.before.before.before.before.before.args.work.now (omega (arith, c.before.if1.false)))
+slice-aggregate-on-area : tie.Need-slice_bounds-on_area-end-2
+slice-aggregate-on-area c = sym (length-take-le work_length c.args.work.now (omega (arith, c.if-work-lt-WORK_LENGTH.false)))
 
-on-area-requires : tie.Need-on-area-requires
-on-area-requires c κs = omega (arith, length-take-le work_length c.before.before.before.before.before.before.args.work.now (omega (arith, c.before.before.if1.false)))
+on-area-requires : tie.Need-on_area-given-requires
+on-area-requires c κs = omega (arith, length-take-le work_length c.args.work.now (omega (arith, c.if-work-lt-WORK_LENGTH.false)))
 
 clear-requires : tie.Need-clear-requires
 clear-requires c κs = search rules
 
-same_length : tie.Need-same-length
+same_length : tie.Need-shape_of-work
 same_length c = search rules
 
-same-length-2 : tie.Need-same-length-2
+same-length-2 : tie.Need-shape_of-bytes
 same-length-2 c = search rules
 
-returns-2 : tie.Need-returns-2
+returns-2 : tie.Need-returns
 returns-2 c =
-    let a = c.before.before.before.before.before.before.before.before.before.before.before.before.before.before.before.args in
-    let large = c.before.before.before.before.before.before.before.before.before.before.before.if1.false in
-    let ran = c.before.before.before.before.before.before.before.before.on_area in
+    let a = c.args in
+    let large = c.if-work-lt-WORK_LENGTH.false in
+    let ran = c.on_area-given in
     called a.map.now (point_given a.line a.offset a.orientation a.side) a.bytes.now (omega (arith, large)) ran.ensures
-    (c.before.before.clear.ensures ∙ cleared_same a.work.now ran.new.1.1.1.1.0 (omega (arith, large)) ran.auto.1.1.1.1.0)
+    (c.clear.ensures ∙ cleared_same a.work.now ran.new.work (omega (arith, large)) ran.auto.work)
 
 pub write_point_spec : {M : Type 1} → statement M
 write_point_spec =

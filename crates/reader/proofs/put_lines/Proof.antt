@@ -10,31 +10,31 @@ use Rattle.reader.proofs.Answers.{again}
 use Rattle.reader.proofs.put_lines.Statement.{statement}
 use Rattle.reader.proofs.put_lines.Tie as tie
 
-slice-aggregate-copy : tie.Need-slice-aggregate-copy
-slice-aggregate-copy c = sym (length-take-le _ _ c.before.if1.true)
+slice-aggregate-copy : tie.Need-slice_bounds-copy-end
+slice-aggregate-copy c = sym (length-take-le _ _ c.if-count-kept.true)
 
 copy-requires : tie.Need-copy-requires
-copy-requires c κs = omega (arith, length-take-le _ c.before.before.before.before.before.before.before.before.args.kept.now c.before.before.if1.true)
+copy-requires c κs = omega (arith, length-take-le _ c.args.kept.now c.if-count-kept.true)
 
-same_length : tie.Need-same-length
+same_length : tie.Need-shape_of-out-then-count-kept
 same_length c = search rules
 
-returns : tie.Need-returns
+returns : tie.Need-returns-then-count-kept
 returns c m set places lists read count kept =
-    c.before.before.copy.ensures ∙ ap (λ (ls : List ℕ). placed ls c.before.before.before.before.before.before.before.before.before.before.before.args.out.now) (kept c.before.before.before.before.before.if1.true)
+    c.copy.ensures ∙ ap (λ (ls : List ℕ). placed ls c.args.out.now) (kept c.if-count-kept.true)
 
-read-legs-requires : tie.Need-read-legs-requires
+read-legs-requires : tie.Need-read_legs-requires
 read-legs-requires c κs = search rules
 
-same-length-2 : tie.Need-same-length-2
+same-length-2 : tie.Need-shape_of-work
 same-length-2 c = search rules
 
-same-length-3 : tie.Need-same-length-3
+same-length-3 : tie.Need-shape_of-out
 same-length-3 c = search rules
 
-returns-2 : tie.Need-returns-2
+returns-2 : tie.Need-returns
 returns-2 c m set places lists read count kept =
-    let r = c.before.before.before.before.read-legs in
+    let r = c.read_legs in
     again read _ _ r.result (r.ensures m set places).tells (omega (arith, count))
 
 pub put_lines_spec : {M : Type 1} → statement M

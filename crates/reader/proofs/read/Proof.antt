@@ -9,33 +9,33 @@ use Rattle.reader.proofs.Answers.{area_short, called}
 use Rattle.reader.proofs.read.Statement.{statement}
 use Rattle.reader.proofs.read.Tie as tie
 
-returns : tie.Need-returns
-returns c = let a = c.before.before.before.before.before.args in area_short a.map.now a.reference.now a.lines.now a.work.now c.if1.true
+returns : tie.Need-returns-then-work-lt-WORK_LENGTH
+returns c = let a = c.args in area_short a.map.now a.reference.now a.lines.now a.work.now c.if-work-lt-WORK_LENGTH.true
 
-slice-relend-prefix-on-area : tie.Need-slice-relend-prefix-on-area
+slice-relend-prefix-on-area : tie.Need-slice_bounds-on_area-end
 slice-relend-prefix-on-area c = search rules
 
-slice-aggregate-on-area : tie.Need-slice-aggregate-on-area
-slice-aggregate-on-area c = sym (length-take-le work_length c.before.before.before.before.before.before.args.work.now (omega (arith, c.before.if1.false)))
+slice-aggregate-on-area : tie.Need-slice_bounds-on_area-end-2
+slice-aggregate-on-area c = sym (length-take-le work_length c.args.work.now (omega (arith, c.if-work-lt-WORK_LENGTH.false)))
 
-on-area-requires : tie.Need-on-area-requires
-on-area-requires c κs = omega (arith, length-take-le work_length c.before.before.before.before.before.before.before.args.work.now (omega (arith, c.before.before.if1.false)))
+on-area-requires : tie.Need-on_area-given-requires
+on-area-requires c κs = omega (arith, length-take-le work_length c.args.work.now (omega (arith, c.if-work-lt-WORK_LENGTH.false)))
 
 clear-requires : tie.Need-clear-requires
 clear-requires c κs = search rules
 
-same_length : tie.Need-same-length
+same_length : tie.Need-shape_of-work
 same_length c = search rules
 
-same-length-2 : tie.Need-same-length-2
+same-length-2 : tie.Need-shape_of-lines
 same-length-2 c = search rules
 
-returns-2 : tie.Need-returns-2
+returns-2 : tie.Need-returns
 returns-2 c =
-    let a = c.before.before.before.before.before.before.before.before.before.before.before.before.before.before.before.before.args in
-    let large = c.before.before.before.before.before.before.before.before.before.before.before.if1.false in
-    called a.map.now a.reference.now a.lines.now (omega (arith, large)) c.before.before.before.before.before.before.before.before.on_area.ensures
-    (c.before.before.clear.ensures ∙ cleared_same a.work.now c.before.before.before.before.before.before.before.before.on_area.new.1.1.0 (omega (arith, large)) c.before.before.before.before.before.before.before.before.on_area.auto.1.1.0)
+    let a = c.args in
+    let large = c.if-work-lt-WORK_LENGTH.false in
+    called a.map.now a.reference.now a.lines.now (omega (arith, large)) c.on_area-given.ensures
+    (c.clear.ensures ∙ cleared_same a.work.now c.on_area-given.new.work (omega (arith, large)) c.on_area-given.auto.work)
 
 pub read_spec : {M : Type 1} → statement M
 read_spec =

@@ -5,13 +5,13 @@ use native.Mathlib.Omega.{arith}
 use Rattle.reference_bytes.proofs.flag.Statement.{statement}
 use Rattle.reference_bytes.proofs.flag.Tie as tie
 
-returns : tie.Need-returns
+returns : tie.Need-returns-then-offset-eq0
 unfolding flagged
-returns c = (simp (eq-eqb _ _ c.if1.true), omega arith)
+returns c = (simp (eq-eqb _ _ c.if-offset-eq0.true), omega arith)
 
-returns-2 : tie.Need-returns-2
+returns-2 : tie.Need-returns-else-offset-eq0
 unfolding flagged
-returns-2 c = (simp (ne_eqb _ _ c.if1.false), omega arith)
+returns-2 c = (simp (ne_eqb _ _ c.if-offset-eq0.false), omega arith)
 
 pub flag_spec : {M : Type 1} → statement M
 flag_spec =

@@ -12,16 +12,16 @@ use native.Mathlib.Omega.{arith}
 use Rattle.reference_bytes.proofs.put_last.Statement.{statement}
 use Rattle.reference_bytes.proofs.put_last.Tie as tie
 
-mul-put1 : tie.Need-overflow-mul-put1
+mul-put1 : tie.Need-overflow_mul-a
 mul-put1 c = search rules
 
-add-put1 : tie.Need-overflow-add-put1
+add-put1 : tie.Need-overflow_add-a
 add-put1 c = search rules
 
 put1-requires : tie.Need-put1-requires
 put1-requires c κs = search rules
 
-add-put1-2 : tie.Need-overflow-add-put1-2
+add-put1-2 : tie.Need-overflow_add-at
 add-put1-2 c = search rules
 
 flag-requires : tie.Need-flag-requires
@@ -30,30 +30,30 @@ flag-requires c κs = search rules
 flag-requires-2 : tie.Need-flag-requires-2
 flag-requires-2 c κs = search rules
 
-add-put1-3 : tie.Need-overflow-add-put1-3
-add-put1-3 c = omega (arith, c.before.flag.ensures.1, c.flag2.ensures.1)
+add-put1-3 : tie.Need-overflow_add-flag
+add-put1-3 c = omega (arith, c.flag.ensures.1, c.flag-2.ensures.1)
 
-add-put1-4 : tie.Need-overflow-add-put1-4
-add-put1-4 c = omega (arith, c.before.before.flag.ensures.1, c.before.flag2.ensures.1, c.before.before.before.before.before.before.before.before.before.before.before.requires.2)
+add-put1-4 : tie.Need-overflow_add-flag-2
+add-put1-4 c = omega (arith, c.flag.ensures.1, c.flag-2.ensures.1, c.requires.2)
 
 put1-requires-2 : tie.Need-put1-requires-2
 put1-requires-2 c κs = (
-  omega (arith, c.before.before.flag.ensures.1, c.before.flag2.ensures.1, c.before.before.before.before.before.before.before.before.before.before.before.requires.2),
-  omega (arith, c.before.before.before.before.before.before.put1.auto.0, c.before.before.before.before.before.before.before.before.before.before.before.requires.3),
+  omega (arith, c.flag.ensures.1, c.flag-2.ensures.1, c.requires.2),
+  omega (arith, c.put1.auto.bytes, c.requires.3),
 )
 
-same_length : tie.Need-same-length
+same_length : tie.Need-shape_of-bytes
 same_length c = search rules
 
 returns : tie.Need-returns
 unfolding last_bytes attributes_in byte_p
 returns c =
-    let a = c.before.before.before.before.before.before.before.before.before.before.before.before.before.before.args in
+    let a = c.args in
     let p = a.a.frc * 8 + a.a.fow in
-    let r = c.before.before.before.before.before.flag.result + c.before.before.before.before.flag2.result + a.a.sector in
-    c.before.before.put12.ensures ∙ ap (put_at (a.at + 1) (r ∷ [])) c.before.before.before.before.before.before.before.before.before.put1.ensures
-    ∙ put_then a.at (p ∷ []) a.bytes.now (omega (arith, c.before.before.before.before.before.before.before.before.before.before.before.before.before.before.requires.3)) (a.at + 1) refl (r ∷ []) (omega (arith, c.before.before.before.before.before.before.before.before.before.before.before.before.before.before.requires.3))
-    ∙ ap₂ (λ (x y : ℕ). put_at a.at (p ∷ (x + y + a.a.sector) ∷ []) a.bytes.now) c.before.before.before.before.before.flag.ensures.0 c.before.before.before.before.flag2.ensures.0
+    let r = c.flag.result + c.flag-2.result + a.a.sector in
+    c.put1-2.ensures ∙ ap (put_at (a.at + 1) (r ∷ [])) c.put1.ensures
+    ∙ put_then a.at (p ∷ []) a.bytes.now (omega (arith, c.requires.3)) (a.at + 1) refl (r ∷ []) (omega (arith, c.requires.3))
+    ∙ ap₂ (λ (x y : ℕ). put_at a.at (p ∷ (x + y + a.a.sector) ∷ []) a.bytes.now) c.flag.ensures.0 c.flag-2.ensures.0
 
 pub put_last_spec : {M : Type 1} → statement M
 put_last_spec =

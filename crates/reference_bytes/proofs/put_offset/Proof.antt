@@ -10,31 +10,31 @@ use native.Mathlib.Omega.{arith}
 use Rattle.reference_bytes.proofs.put_offset.Statement.{statement}
 use Rattle.reference_bytes.proofs.put_offset.Tie as tie
 
-returns : tie.Need-returns
+returns : tie.Need-returns-then-offset-eq0
 returns c =
-    let a = c.before.before.args in
-    let e = no_part a.leg a.offset c.if1.true in
+    let a = c.args in
+    let e = no_part a.leg a.offset c.if-offset-eq0.true in
     (omega (arith, e.0), sym (ap (λ (l : List ℕ). put_at a.at l a.bytes.now) e.1 ∙ put_none a.at a.bytes.now))
 
-offset-byte-requires : tie.Need-offset-byte-requires
+offset-byte-requires : tie.Need-offset_byte-requires
 offset-byte-requires c κs = search rules
 
 put1-requires : tie.Need-put1-requires
 put1-requires c κs =
-    let a = c.before.before.before.before.args in
-    (c.offset_byte_lem.ensures.1, omega (arith, c.before.before.before.before.requires.1, (one_part a.leg a.offset c.before.before.if1.false).0))
+    let a = c.args in
+    (c.offset_byte.ensures.1, omega (arith, c.requires.1, (one_part a.leg a.offset c.if-offset-eq0.false).0))
 
-add-result : tie.Need-overflow-add-result
-add-result c = let a = c.before.before.before.before.before.before.before.args in omega (arith, c.before.before.before.before.before.before.before.requires.1, (one_part a.leg a.offset c.before.before.before.before.before.if1.false).0)
+add-result : tie.Need-overflow_add-result
+add-result c = let a = c.args in omega (arith, c.requires.1, (one_part a.leg a.offset c.if-offset-eq0.false).0)
 
-same_length : tie.Need-same-length
+same_length : tie.Need-shape_of-bytes
 same_length c = search rules
 
-returns-2 : tie.Need-returns-2
+returns-2 : tie.Need-returns
 returns-2 c =
-    let a = c.before.before.before.before.before.before.before.args in
-    let e = one_part a.leg a.offset c.before.before.before.before.before.if1.false in
-    (omega (arith, e.0), c.before.before.put1.ensures ∙ ap (λ (l : List ℕ). put_at a.at l a.bytes.now) (ap (λ (b : ℕ). b ∷ []) c.before.before.before.offset_byte_lem.ensures.0 ∙ sym e.1))
+    let a = c.args in
+    let e = one_part a.leg a.offset c.if-offset-eq0.false in
+    (omega (arith, e.0), c.put1.ensures ∙ ap (λ (l : List ℕ). put_at a.at l a.bytes.now) (ap (λ (b : ℕ). b ∷ []) c.offset_byte.ensures.0 ∙ sym e.1))
 
 pub put_offset_spec : {M : Type 1} → statement M
 put_offset_spec =

@@ -9,25 +9,25 @@ use native.Mathlib.Omega.{arith}
 use Rattle.reference_bytes.proofs.put_offsets.Statement.{statement}
 use Rattle.reference_bytes.proofs.put_offsets.Tie as tie
 
-put-offset-requires : tie.Need-put-offset-requires
+put-offset-requires : tie.Need-put_offset-next-requires
 put-offset-requires c κs = search rules
 
-put-offset-requires-2 : tie.Need-put-offset-requires-2
+put-offset-requires-2 : tie.Need-put_offset-requires
 put-offset-requires-2 c κs = search rules
 
-same_length : tie.Need-same-length
+same_length : tie.Need-shape_of-bytes
 same_length c = search rules
 
 returns : tie.Need-returns
 returns c =
-    let a = c.before.before.before.before.before.before.before.before.before.args in
-    let e = c.before.before.before.before.before.before.put-offset.ensures in
+    let a = c.args in
+    let e = c.put_offset-next.ensures in
     let first = part_length a.first a.pos in
     let last = part_length a.last a.neg in (
-      omega (arith, c.before.before.put-offset2.ensures.0, e.0),
-      c.before.before.put-offset2.ensures.1 ∙ ap (put_at c.before.before.before.before.before.before.put-offset.result (offset_part a.last a.neg)) e.1
-          ∙ put_then a.at (offset_part a.first a.pos) a.bytes.now (omega (arith, first, c.before.before.before.before.before.before.before.before.before.requires.2)) c.before.before.before.before.before.before.put-offset.result (omega (arith, first, e.0))
-          (offset_part a.last a.neg) (omega (arith, first, last, c.before.before.before.before.before.before.before.before.before.requires.2)),
+      omega (arith, c.put_offset.ensures.0, e.0),
+      c.put_offset.ensures.1 ∙ ap (put_at c.put_offset-next.result (offset_part a.last a.neg)) e.1
+          ∙ put_then a.at (offset_part a.first a.pos) a.bytes.now (omega (arith, first, c.requires.2)) c.put_offset-next.result (omega (arith, first, e.0))
+          (offset_part a.last a.neg) (omega (arith, first, last, c.requires.2)),
     )
 
 pub put_offsets_spec : {M : Type 1} → statement M

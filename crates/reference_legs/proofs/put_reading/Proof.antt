@@ -58,48 +58,46 @@ module _ (from : ℕ) (r : Reading) (before : List ℕ) (fits : from + r.count �
         short = λ short. absurd (omega arith);
       }
 
-enum-known-found : tie.Need-enum-known-found
+enum-known-found : tie.Need-enum_known-found
 enum-known-found c = search rules
 
-returns : tie.Need-returns
-returns c = nothing_put (not_one c.before.before.before.args.found c.match.keys2)
+returns : tie.Need-returns-in_default
+returns c = nothing_put (not_one c.args.found c.in_default.in_default-own.keys2)
 
-returns-2 : tie.Need-returns-2
-returns-2 c = one_put c.before.before.found.given.1 (short_put (omega (arith, c.if1.true)))
+returns-2 : tie.Need-returns-then-room-from
+returns-2 c = one_put c.in-One.is (short_put (omega (arith, c.if-room-from.true)))
 
-returns-3 : tie.Need-returns-3
-returns-3 c = one_put c.before.before.before.before.found.given.1 (short_put (omega (arith, c.if2.true)))
+returns-3 : tie.Need-returns-then-room-from-2
+returns-3 c = one_put c.in-One.is (short_put (omega (arith, c.if-room-from-2.true)))
 
-add-write-lines : tie.Need-overflow-add-write-lines
+add-write-lines : tie.Need-overflow_add-from
 add-write-lines c = search rules
 
-mul-write-lines : tie.Need-overflow-mul-write-lines
+mul-write-lines : tie.Need-offset_bounds-out-from
 mul-write-lines c = search rules
 
-sub-write-lines : tie.Need-overflow-sub-write-lines
+sub-write-lines : tie.Need-slice_bounds-write_lines-count
 sub-write-lines c = search rules
 
-part-write-lines-start : tie.Need-slice-bounds-write-lines-start
+part-write-lines-start : tie.Need-slice_bounds-write_lines-start
 part-write-lines-start c = search rules
 
-part-write-lines-end : tie.Need-slice-bounds-write-lines-end
+part-write-lines-end : tie.Need-slice_bounds-write_lines-end
 part-write-lines-end c = search rules
 
-write-lines-requires : tie.Need-write-lines-requires
+write-lines-requires : tie.Need-write_lines-requires
 write-lines-requires c κs =
-    let p = c.before.before.before.before.before.before.before.before.before.before.requires in
-    let r = c.before.before.before.before.before.before.found.given in
-    (p.0, p.1, p.2, connected_part _ r.0.0 _ (omega (arith, c.before.before.if2.false, c.before.before.before.before.if1.false)) _ (p.3 r.0.0 r.1))
+    let p = c.requires in
+    (p.0, p.1, p.2, connected_part _ c.in-One.reading _ (omega (arith, c.if-room-from-2.false, c.if-room-from.false)) _ (p.3 c.in-One.reading c.in-One.is))
 
-same_length : tie.Need-same-length
+same_length : tie.Need-shape_of-out
 same_length c = search rules
 
-returns-4 : tie.Need-returns-4
+returns-4 : tie.Need-returns
 returns-4 c =
-    let r = c.before.before.before.before.before.before.before.before.before.found.given in
-    one_put r.1
-    (part_put _ r.0.0 _ (omega (arith, c.before.before.before.before.before.if2.false, c.before.before.before.before.before.before.before.if1.false)) _ _
-    c.before.before.write-lines.ensures)
+    one_put c.in-One.is
+    (part_put _ c.in-One.reading _ (omega (arith, c.if-room-from-2.false, c.if-room-from.false)) _ _
+    c.write_lines.ensures)
 
 pub put_reading_spec : {M : Type 1} → statement M
 put_reading_spec =

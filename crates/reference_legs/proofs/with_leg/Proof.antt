@@ -10,18 +10,18 @@ use Rattle.reference_legs.specs.Legs.{sums_with}
 use Rattle.reference_legs.proofs.with_leg.Statement.{statement}
 use Rattle.reference_legs.proofs.with_leg.Tie as tie
 
-add-t8 : tie.Need-overflow-add-t8
+add-t8 : tie.Need-overflow_add-result
 add-t8 c = search rules
 
-add-t9 : tie.Need-overflow-add-t9
+add-t9 : tie.Need-overflow_add-result-2
 add-t9 c = search rules
 
 returns : tie.Need-returns
 unfolding sums_with
 returns c =
-    let a = c.before.before.before.before.before.args in
-    let first : c.before.before.before.before.if1.first ≡ cond (eqb a.k 0) a.reading.length a.sums.first =
-    ⊎_elim (λ h. rw (eq-eqb _ _ h.0.taken) h.1) (λ h. rw (ne_eqb _ _ h.0.left) h.1) c.before.before.before.before.if1.branch in
+    let a = c.args in
+    let first : c.if-k-eq0.first ≡ cond (eqb a.k 0) a.reading.length a.sums.first =
+    ⊎_elim (λ h. rw (eq-eqb _ _ h.if-k-eq0.true) h.first-is) (λ h. rw (ne_eqb _ _ h.if-k-eq0.false) h.first-is) c.if-k-eq0.branch-raw in
     λ i.
     record { count = a.sums.count + a.reading.count; length = a.sums.length + a.reading.length; first = first i; last = a.reading.length; arrives = a.reading.last; barred = a.barred }
 

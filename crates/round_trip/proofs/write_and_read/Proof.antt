@@ -9,46 +9,46 @@ use Rattle.round_trip.proofs.write_and_read.Tie as tie
 write-requires : tie.Need-write-requires
 write-requires c κs = search rules
 
-enum-known-why : tie.Need-enum-known-why
+enum-known-why : tie.Need-enum_known-why
 enum-known-why c = search rules
 
-enum-known-count : tie.Need-enum-known-count
+enum-known-count : tie.Need-enum_known-count
 enum-known-count c = search rules
 
-slice-reshare-prefix-read : tie.Need-slice-reshare-prefix-read
-slice-reshare-prefix-read c = bytes_fit (wrote (rw c.before.count.given.1 at c.before.before.before.before.before.before.before.write.ensures)) c.before.before.before.before.before.before.before.write.auto.1.1.1.1.1.1.0
+slice-reshare-prefix-read : tie.Need-slice_bounds-read-end
+slice-reshare-prefix-read c = bytes_fit (wrote (rw c.in-Written.is at c.write.ensures)) c.write.auto.bytes
 
-slice-aggregate-read : tie.Need-slice-aggregate-read
-slice-aggregate-read c = sym (length-take-le _ _ (bytes_fit (wrote (rw c.before.before.count.given.1 at c.before.before.before.before.before.before.before.before.write.ensures)) c.before.before.before.before.before.before.before.before.write.auto.1.1.1.1.1.1.0))
+slice-aggregate-read : tie.Need-slice_bounds-read-end-in-Written
+slice-aggregate-read c = sym (length-take-le _ _ (bytes_fit (wrote (rw c.in-Written.is at c.write.ensures)) c.write.auto.bytes))
 
 read-requires : tie.Need-read-requires
 read-requires c κs = search rules
 
-same_length : tie.Need-same-length
+same_length : tie.Need-shape_of-writing-in-Refused
 same_length c = search rules
 
-same-length-2 : tie.Need-same-length-2
+same-length-2 : tie.Need-shape_of-bytes-in-Refused
 same-length-2 c = search rules
 
-returns : tie.Need-returns
-returns c = (rw c.before.why.given.1 at c.before.before.before.before.before.before.before.write.ensures, refl, refl)
+returns : tie.Need-returns-in-Refused
+returns c = (rw c.in-Refused.is at c.write.ensures, refl, refl)
 
-same-length-3 : tie.Need-same-length-3
+same-length-3 : tie.Need-shape_of-writing-in-Written
 same-length-3 c = search rules
 
-same-length-4 : tie.Need-same-length-4
+same-length-4 : tie.Need-shape_of-bytes-in-Written
 same-length-4 c = search rules
 
-same-length-5 : tie.Need-same-length-5
+same-length-5 : tie.Need-shape_of-reading
 same-length-5 c = search rules
 
-same-length-6 : tie.Need-same-length-6
+same-length-6 : tie.Need-shape_of-lines
 same-length-6 c = search rules
 
-returns-2 : tie.Need-returns-2
+returns-2 : tie.Need-returns-in-Written
 returns-2 c =
-    let call = rw c.before.before.before.before.before.before.before.before.before.count.given.1 at c.before.before.before.before.before.before.before.before.before.before.before.before.before.before.before.write.ensures in
-    (call, handed_back (wrote call) c.before.before.before.before.read.ensures)
+    let call = rw c.in-Written.is at c.write.ensures in
+    (call, handed_back (wrote call) c.read.ensures)
 
 pub write_and_read_spec : {M : Type 1} → statement M
 write_and_read_spec =

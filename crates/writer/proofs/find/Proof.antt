@@ -18,131 +18,112 @@ use Rattle.writer.proofs.find.Statement.{statement}
 use Rattle.writer.proofs.find.Tie as tie
 
 -- The route to take over legs tested good, where there is one.
-legs-of : (c : tie.After-known-told) →
+legs-of : (c : tie.In-Legs) →
     let chosen = c.before.before.before.before.before.before.before.before in
-    let tested = chosen.before.before.before.before.before.before in
-    let a = tested.before.before.before.before.before.before.args in
-    CutAnswers (GoodIn tested.test-legs.new.1.1.1.1.0) (length a.part.now) (Legs c.before.chosen.given.0.0) a.cuts.now
-    chosen.choose.new.1.1.0
+    let a = c.args in
+    CutAnswers (GoodIn c.test_legs-made.new.table) (length a.part.now) (Legs c.in-Legs.legs) a.cuts.now
+    c.choose-chosen.new.cuts
 legs-of c =
     let chosen = c.before.before.before.before.before.before.before.before in
-    chose_legs _ _ chosen.choose.result _ _ chosen.choose.ensures c.before.chosen.given.1
+    chose_legs _ _ c.choose-chosen.result _ _ c.choose-chosen.ensures c.in-Legs.is
 
-slice-aggregate-test-legs : tie.Need-slice-aggregate-test-legs
+slice-aggregate-test-legs : tie.Need-slice_bounds-test_legs-end
 slice-aggregate-test-legs c = search rules
 
-test-legs-requires : tie.Need-test-legs-requires
+test-legs-requires : tie.Need-test_legs-made-requires
 test-legs-requires c κs =
-    let p = c.before.before.before.before.before.requires in
+    let p = c.requires in
     ((p.0.0, search rules, zeros 4_160), p.1)
 
-slice-aggregate-choose : tie.Need-slice-aggregate-choose
+slice-aggregate-choose : tie.Need-slice_bounds-choose-end
 slice-aggregate-choose c = search rules
 
-choose-requires : tie.Need-choose-requires
+choose-requires : tie.Need-choose-chosen-requires
 choose-requires c κs = search rules
 
-slice-aggregate-hoped-legs : tie.Need-slice-aggregate-hoped-legs
+slice-aggregate-hoped-legs : tie.Need-slice_bounds-hoped_legs-end
 slice-aggregate-hoped-legs c = search rules
 
-hoped-legs-requires : tie.Need-hoped-legs-requires
+hoped-legs-requires : tie.Need-hoped_legs-hoped-requires
 hoped-legs-requires c κs = search rules
 
-enum-known-chosen : tie.Need-enum-known-chosen
+enum-known-chosen : tie.Need-enum_known-chosen
 enum-known-chosen c = search rules
 
-sub-excess : tie.Need-overflow-sub-excess
+sub-excess : tie.Need-overflow_sub-excess
 sub-excess c =
-    let tested = c.before.before.before.before.before.before.before.before.before.before.before.before.before.before in
-    let start = tested.before.before.before.before.before.before in
-    omega (arith, (legs-of c).2, (no_fewer start.requires.0.0 (legs-of c).1 c.before.before.before.before.hoped-legs.ensures.0).1)
+    omega (arith, (legs-of c).2, (no_fewer c.requires.0.0 (legs-of c).1 c.hoped_legs-hoped.ensures.0).1)
 
-cast-excess : tie.Need-overflow-cast-excess
+cast-excess : tie.Need-overflow_cast-excess
 cast-excess c =
-    let tested = c.before.before.before.before.before.before.before.before.before.before.before.before.before.before in
-    let start = tested.before.before.before.before.before.before in
-    omega (arith, (legs-of c).2, short (legs-of c).1.route, start.requires.0.0)
+    omega (arith, (legs-of c).2, short (legs-of c).1.route, c.requires.0.0)
 
-cast-t25 : tie.Need-overflow-cast-t25
+cast-t25 : tie.Need-overflow_cast-result
 cast-t25 c =
-    let tested = c.before.before.before.before.before.before.before.before.before.before.before.before.before.before in
-    let start = tested.before.before.before.before.before.before in
-    omega (arith, tested.test-legs.ensures.0, few_tests (length start.args.part.now) start.args.tests start.requires.0.0)
+    omega (arith, c.test_legs-made.ensures.0, few_tests (length c.args.part.now) c.args.tests c.requires.0.0)
 
-enum_told : tie.Need-enum-told
+enum_told : tie.Need-enum_told-1
 enum_told c = search rules
 
-same_length : tie.Need-same-length
+same_length : tie.Need-shape_of-work-in-Legs
 same_length c = search rules
 
-same-length-2 : tie.Need-same-length-2
+same-length-2 : tie.Need-shape_of-cuts-in-Legs
 same-length-2 c = search rules
 
-returns : tie.Need-returns
+returns : tie.Need-returns-in-Legs
 returns c m set joint =
-    let hoping = c.before.before.before.before in
-    let chosen = hoping.before.before.before.before in
-    let tested = chosen.before.before.before.before.before.before in
-    let start = tested.before.before.before.before.before.before in
-    let few = start.requires.0.0 in
-    let a = start.args in
-    let t = tested.test-legs in
-    let ch = chosen.choose in
-    let h = hoping.hoped-legs in
-    let table = t.new.1.1.1.1.0 in
+    let few = c.requires.0.0 in
+    let a = c.args in
+    let t = c.test_legs-made in
+    let ch = c.choose-chosen in
+    let h = c.hoped_legs-hoped in
+    let table = t.new.table in
     let all = t.ensures.1 m set joint in
-    let legs = c.before.chosen.given.0.0 in (
+    let legs = c.in-Legs.legs in (
       all.set,
-      subst (λ (q : ℕ). FoundLegs m a.part.now q ch.new.1.1.0 legs t.result (legs - h.result)) t.ensures.0
+      subst (λ (q : ℕ). FoundLegs m a.part.now q ch.new.cuts legs t.result (legs - h.result)) t.ensures.0
           (finds_legs m a.part.now t.result table joint few all.tested h.result h.ensures.0 a.cuts.now (legs-of c)),
     )
 
-same-length-3 : tie.Need-same-length-3
+same-length-3 : tie.Need-shape_of-work-then-hoped-eq-NO_ROUTE
 same-length-3 c = search rules
 
-same-length-4 : tie.Need-same-length-4
+same-length-4 : tie.Need-shape_of-cuts-then-hoped-eq-NO_ROUTE
 same-length-4 c = search rules
 
-returns-2 : tie.Need-returns-2
+returns-2 : tie.Need-returns-then-hoped-eq-NO_ROUTE
 returns-2 c m set joint =
-    let hoping = c.before.before.before.before in
-    let chosen = hoping.before.before.before.before in
-    let tested = chosen.before.before.before.before.before.before in
-    let start = tested.before.before.before.before.before.before in
-    let few = start.requires.0.0 in
-    let a = start.args in
-    let t = tested.test-legs in
-    let h = hoping.hoped-legs in
-    let table = t.new.1.1.1.1.0 in
+    let few = c.requires.0.0 in
+    let a = c.args in
+    let t = c.test_legs-made in
+    let h = c.hoped_legs-hoped in
+    let table = t.new.table in
     let all = t.ensures.1 m set joint in (
       all.set,
       subst (λ (q : ℕ). NoChoice (good_or_untested (good m) a.part.now q) a.part.now) t.ensures.0
-          (finds_nowhere m a.part.now t.result table joint few all.tested h.result h.ensures.0 c.if1.true),
+          (finds_nowhere m a.part.now t.result table joint few all.tested h.result h.ensures.0 c.if-hoped-eq-NO_ROUTE.true),
     )
 
-same-length-5 : tie.Need-same-length-5
+same-length-5 : tie.Need-shape_of-work-else-hoped-eq-NO_ROUTE
 same-length-5 c = search rules
 
-same-length-6 : tie.Need-same-length-6
+same-length-6 : tie.Need-shape_of-cuts-else-hoped-eq-NO_ROUTE
 same-length-6 c = search rules
 
-returns-3 : tie.Need-returns-3
+returns-3 : tie.Need-returns-else-hoped-eq-NO_ROUTE
 returns-3 c m set joint =
-    let hoping = c.before.before.before.before in
-    let chosen = hoping.before.before.before.before in
-    let tested = chosen.before.before.before.before.before.before in
-    let start = tested.before.before.before.before.before.before in
-    let few = start.requires.0.0 in
-    let a = start.args in
-    let t = tested.test-legs in
-    let ch = chosen.choose in
-    let h = hoping.hoped-legs in
-    let table = t.new.1.1.1.1.0 in
+    let few = c.requires.0.0 in
+    let a = c.args in
+    let t = c.test_legs-made in
+    let ch = c.choose-chosen in
+    let h = c.hoped_legs-hoped in
+    let table = t.new.table in
     let all = t.ensures.1 m set joint in
-    let none = chose_none (GoodIn table) (length a.part.now) ch.result a.cuts.now _ ch.ensures c.before.enum_told.given.1 in (
+    let none = chose_none (GoodIn table) (length a.part.now) ch.result a.cuts.now _ ch.ensures c.in-Nowhere.is in (
       all.set,
-      subst (λ (q : ℕ). Finds m a.part.now q ch.new.1.1.0 Unfinished) t.ensures.0
-          (finds_unfinished m a.part.now t.result table joint few all.tested h.result h.ensures.0 none c.if1.false),
+      subst (λ (q : ℕ). Finds m a.part.now q ch.new.cuts Unfinished) t.ensures.0
+          (finds_unfinished m a.part.now t.result table joint few all.tested h.result h.ensures.0 none c.if-hoped-eq-NO_ROUTE.false),
     )
 
 pub find_spec : {M : Type 1} → statement M

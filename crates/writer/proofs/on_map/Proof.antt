@@ -12,69 +12,68 @@ use Rattle.writer.proofs.on_map.Tie as tie
 check-requires : tie.Need-check-requires
 check-requires c κs = search rules
 
-enum-known-left : tie.Need-enum-known-left
+enum-known-left : tie.Need-enum_known-left
 enum-known-left c = search rules
 
-mul-on-part : tie.Need-overflow-mul-on-part
+mul-on-part : tie.Need-offset_bounds-stretch-from
 mul-on-part c =
-    let p = c.before.before.before.before.before.before.before.before.before.requires in
-    let a = c.before.before.before.before.before.before.before.before.before.args in
-    let l = left_passes p.0 (stretch_of a.stretch.now a.pos a.neg) c.before.before.before.before.check.result (c.before.before.before.before.check.ensures p.0 p.1.held) c.before.before.left.given.1 in
+    let p = c.requires in
+    let a = c.args in
+    let l = left_passes p.0 (stretch_of a.stretch.now a.pos a.neg) c.check.result (c.check.ensures p.0 p.1.held) c.in-Remains.is in
     omega (arith, l.ordered, l.inside)
 
-sub-on-part : tie.Need-overflow-sub-on-part
+sub-on-part : tie.Need-slice_bounds-on_part-count
 sub-on-part c =
-    let p = c.before.before.before.before.before.before.before.before.before.requires in
-    let a = c.before.before.before.before.before.before.before.before.before.args in
-    let l = left_passes p.0 (stretch_of a.stretch.now a.pos a.neg) c.before.before.before.before.check.result (c.before.before.before.before.check.ensures p.0 p.1.held) c.before.before.left.given.1 in
+    let p = c.requires in
+    let a = c.args in
+    let l = left_passes p.0 (stretch_of a.stretch.now a.pos a.neg) c.check.result (c.check.ensures p.0 p.1.held) c.in-Remains.is in
     omega (arith, l.ordered)
 
-part-on-part-start : tie.Need-slice-bounds-on-part-start
+part-on-part-start : tie.Need-slice_bounds-on_part-start
 part-on-part-start c =
-    let p = c.before.before.before.before.before.before.before.before.before.requires in
-    let a = c.before.before.before.before.before.before.before.before.before.args in
-    let l = left_passes p.0 (stretch_of a.stretch.now a.pos a.neg) c.before.before.before.before.check.result (c.before.before.before.before.check.ensures p.0 p.1.held) c.before.before.left.given.1 in
+    let p = c.requires in
+    let a = c.args in
+    let l = left_passes p.0 (stretch_of a.stretch.now a.pos a.neg) c.check.result (c.check.ensures p.0 p.1.held) c.in-Remains.is in
     omega (arith, l.ordered)
 
-part-on-part-end : tie.Need-slice-bounds-on-part-end
+part-on-part-end : tie.Need-slice_bounds-on_part-end
 part-on-part-end c =
-    let p = c.before.before.before.before.before.before.before.before.before.requires in
-    let a = c.before.before.before.before.before.before.before.before.before.args in
-    let l = left_passes p.0 (stretch_of a.stretch.now a.pos a.neg) c.before.before.before.before.check.result (c.before.before.before.before.check.ensures p.0 p.1.held) c.before.before.left.given.1 in
+    let p = c.requires in
+    let a = c.args in
+    let l = left_passes p.0 (stretch_of a.stretch.now a.pos a.neg) c.check.result (c.check.ensures p.0 p.1.held) c.in-Remains.is in
     omega (arith, l.inside)
 
-on-part-requires : tie.Need-on-part-requires
+on-part-requires : tie.Need-on_part-requires
 on-part-requires c κs =
-    let p = c.before.before.before.before.before.before.before.before.before.before.before.requires in
-    let a = c.before.before.before.before.before.before.before.before.before.before.before.args in
-    let l = left_passes p.0 (stretch_of a.stretch.now a.pos a.neg) c.before.before.before.before.before.before.check.result (c.before.before.before.before.before.before.check.ensures p.0 p.1.held) c.before.before.before.before.left.given.1 in
+    let p = c.requires in
+    let a = c.args in
+    let l = left_passes p.0 (stretch_of a.stretch.now a.pos a.neg) c.check.result (c.check.ensures p.0 p.1.held) c.in-Remains.is in
     let left = left_of l in
     (left.few, (p.0, p.1, left_connected l, left_inside left))
 
-enum-known-why : tie.Need-enum-known-why
+enum-known-why : tie.Need-enum_known-why
 enum-known-why c = search rules
 
-same_length : tie.Need-same-length
+same_length : tie.Need-shape_of-work-in-Remains
 same_length c = search rules
 
-same-length-2 : tie.Need-same-length-2
+same-length-2 : tie.Need-shape_of-bytes
 same-length-2 c = search rules
 
-returns : tie.Need-returns
+returns : tie.Need-returns-in-Remains
 returns c m set =
-    let a = c.before.before.before.before.before.before.before.before.before.before.before.before.before.before.before.before.args in
-    let l = left_passes m (stretch_of a.stretch.now a.pos a.neg) c.before.before.before.before.before.before.before.before.before.before.before.check.result (c.before.before.before.before.before.before.before.before.before.before.before.check.ensures m set.held) c.before.before.before.before.before.before.before.before.before.left.given.1 in
-    answered_by (λ o r. rw l.checked r) (c.before.before.before.before.on-part.ensures m set (left_connected l) (left_inside (left_of l)))
+    let a = c.args in
+    let l = left_passes m (stretch_of a.stretch.now a.pos a.neg) c.check.result (c.check.ensures m set.held) c.in-Remains.is in
+    answered_by (λ o r. rw l.checked r) (c.on_part.ensures m set (left_connected l) (left_inside (left_of l)))
 
-same-length-3 : tie.Need-same-length-3
+same-length-3 : tie.Need-shape_of-work-in-Refused
 same-length-3 c = search rules
 
-returns-2 : tie.Need-returns-2
+returns-2 : tie.Need-returns-in-Refused
 returns-2 c m set =
-    let checked = c.before.before.before in
-    let a = checked.before.before.before.before.before.args in
+    let a = c.args in
     let s = stretch_of a.stretch.now a.pos a.neg in
-    stretch_refused m s _ _ _ (check_refuses m s checked.check.result (checked.check.ensures m set.held) c.before.why.given.1)
+    stretch_refused m s _ _ _ (check_refuses m s c.check.result (c.check.ensures m set.held) c.in-Refused.is)
 
 pub on_map_spec : {M : Type 1} → statement M
 on_map_spec =

@@ -20,99 +20,95 @@ use Rattle.writer.proofs.on_part.Statement.{statement}
 use Rattle.writer.proofs.on_part.Tie as tie
 
 -- The choice of points that was found, where there is one.
-found_of : (c : tie.After-known-told) (m : Map) →
-    let finding = c.before.before.before.before.before.before in
-    let a = finding.before.before.before.before.before.before.args in
-    let found = c.before.legs.given.0 in
+found_of : (c : tie.In-Legs) (m : Map) →
+    let a = c.args in
     Set m a.lines a.work.now → Connected m a.part.now →
-    FoundLegs m a.part.now (tests_made (length a.part.now) a.tests) finding.find.new.1.1.1.1.0 found.0 found.1.0
-    found.1.1.0
-found_of c m set joint = found_as m _ _ _ (c.before.before.before.before.before.before.find.ensures m set joint).1 c.before.legs.given.1
+    FoundLegs m a.part.now (tests_made (length a.part.now) a.tests) c.find.new.cuts c.in-Legs.legs c.in-Legs.made
+    c.in-Legs.excess
+found_of c m set joint = found_as m _ _ _ (c.find.ensures m set joint).1 c.in-Legs.is
 
-slice-aggregate-find : tie.Need-slice-aggregate-find
+slice-aggregate-find : tie.Need-slice_bounds-find-end
 slice-aggregate-find c = search rules
 
 find-requires : tie.Need-find-requires
 find-requires c κs = search rules
 
-enum_told : tie.Need-enum-told
+enum_told : tie.Need-enum_told-1
 enum_told c = search rules
 
-enum-told-2 : tie.Need-enum-told-2
+enum-told-2 : tie.Need-enum_told-in-Unfinished
 enum-told-2 c = search rules
 
-enum-known-legs : tie.Need-enum-known-legs
+enum-known-legs : tie.Need-enum_known-legs
 enum-known-legs c = search rules
 
-slice-aggregate-put : tie.Need-slice-aggregate-put
+slice-aggregate-put : tie.Need-slice_bounds-put-end
 slice-aggregate-put c = search rules
 
 put-requires : tie.Need-put-requires
 put-requires c κs =
-    let p = c.before.before.before.before.before.before.before.before.before.before.before.before.before.before.before.requires in
+    let p = c.requires in
     let q = p.1 in
-    let r = c.before.before.before.before.before.before.before.before.before.find in
-    let found = found_of c.before.before.before q.0 q.1 q.2 in (
-      omega (arith, p.0, found.cut.count, short found.cut.route, r.auto.1.1.1.1.0),
+    let r = c.find in
+    let found = found_of c.before.before q.0 q.1 q.2 in (
+      omega (arith, p.0, found.cut.count, short found.cut.route, r.auto.cuts),
       (q.0, found.ends, (r.ensures q.0 q.1 q.2).0.held, found.cut, q.3),
     )
 
-enum-known-count : tie.Need-enum-known-count
+enum-known-count : tie.Need-enum_known-count
 enum-known-count c = search rules
 
-enum-told-3 : tie.Need-enum-told-3
+enum-told-3 : tie.Need-enum_told-in-Short
 enum-told-3 c = search rules
 
-same_length : tie.Need-same-length
+same_length : tie.Need-shape_of-work-in-Nowhere
 same_length c = search rules
 
-returns : tie.Need-returns
+returns : tie.Need-returns-in-Nowhere
 returns c m set joint inside =
-    let a = c.before.before.before.before.before.before.before.before.before.before.before.args in
-    let found = found_as m a.part.now _ _ (c.before.before.before.before.before.find.ensures m set joint).1 c.enum_told.given.1 in
+    let a = c.args in
+    let found = found_as m a.part.now _ _ (c.find.ensures m set joint).1 c.in-Nowhere.is in
     nowhere_written a.pos a.neg a.bytes.now found
 
-same-length-2 : tie.Need-same-length-2
+same-length-2 : tie.Need-shape_of-work-in-Unfinished
 same-length-2 c = search rules
 
-returns-2 : tie.Need-returns-2
+returns-2 : tie.Need-returns-in-Unfinished
 returns-2 c m set joint inside =
-    let a = c.before.before.before.before.before.before.before.before.before.before.before.args in
-    let found = found_as m a.part.now _ _ (c.before.before.before.before.before.find.ensures m set joint).1 c.enum-told2.given.1 in
+    let a = c.args in
+    let found = found_as m a.part.now _ _ (c.find.ensures m set joint).1 c.in-Unfinished.is in
     unfinished_written a.pos a.neg a.bytes.now found.0 found.1.1
 
-same-length-3 : tie.Need-same-length-3
+same-length-3 : tie.Need-shape_of-work-in-Bytes
 same-length-3 c = search rules
 
-same-length-4 : tie.Need-same-length-4
+same-length-4 : tie.Need-shape_of-bytes-in-Bytes
 same-length-4 c = search rules
 
-returns-3 : tie.Need-returns-3
+returns-3 : tie.Need-returns-in-Bytes
 returns-3 c m set joint inside =
-    let at = c.before.before.before.before.before.before.before.before.before in
-    let a = at.before.before.before.before.before.before.before.before.before.before.before.before.args in
-    let found = found_of at m set joint in
-    let put = c.before.before.before.before.before.put in
+    let a = c.args in
+    let found = found_of c.before.before.before.before.before.before m set joint in
+    let put = c.put in
     let bytes = stretch_bytes m (cut_legs a.part.now 0 found.ends) (stretch_of a.part.now a.pos a.neg) in
-    let puts = subst (λ (q : Stored). Puts bytes a.bytes.now put.new.1.1.1.1.1.1.1.0 q) c.before.count.given.1
-    (put.ensures m found.ends (at.before.before.before.before.before.before.find.ensures m set joint).0.held found.cut) in
+    let puts = subst (λ (q : Stored). Puts bytes a.bytes.now put.new.bytes q) c.in-Bytes.is
+    (put.ensures m found.ends (c.find.ensures m set joint).0.held found.cut) in
     put_written a.pos a.neg a.bytes.now found puts
 
-same-length-5 : tie.Need-same-length-5
+same-length-5 : tie.Need-shape_of-work-in-Short
 same-length-5 c = search rules
 
-same-length-6 : tie.Need-same-length-6
+same-length-6 : tie.Need-shape_of-bytes-in-Short
 same-length-6 c = search rules
 
-returns-4 : tie.Need-returns-4
+returns-4 : tie.Need-returns-in-Short
 returns-4 c m set joint inside =
-    let at = c.before.before.before.before.before.before.before.before in
-    let a = at.before.before.before.before.before.before.before.before.before.before.before.before.args in
-    let found = found_of at m set joint in
-    let put = c.before.before.before.before.put in
+    let a = c.args in
+    let found = found_of c.before.before.before.before.before.before m set joint in
+    let put = c.put in
     let bytes = stretch_bytes m (cut_legs a.part.now 0 found.ends) (stretch_of a.part.now a.pos a.neg) in
-    let puts = subst (λ (q : Stored). Puts bytes a.bytes.now put.new.1.1.1.1.1.1.1.0 q) c.enum-told3.given.1
-    (put.ensures m found.ends (at.before.before.before.before.before.before.find.ensures m set joint).0.held found.cut) in
+    let puts = subst (λ (q : Stored). Puts bytes a.bytes.now put.new.bytes q) c.in-Short.is
+    (put.ensures m found.ends (c.find.ensures m set joint).0.held found.cut) in
     short_written a.pos a.neg a.bytes.now found puts
 
 pub on_part_spec : {M : Type 1} → statement M

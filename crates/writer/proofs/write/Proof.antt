@@ -10,39 +10,37 @@ use Rattle.writer.proofs.Answers.{area_short, called}
 use Rattle.writer.proofs.write.Statement.{statement}
 use Rattle.writer.proofs.write.Tie as tie
 
-returns : tie.Need-returns
+returns : tie.Need-returns-then-work-lt-WORK_LENGTH
 returns c =
-    let a = c.before.before.before.before.before.args in
-    area_short a.map.now (stretch_of a.stretch.now a.pos a.neg) a.tests a.bytes.now a.work.now c.if1.true
+    let a = c.args in
+    area_short a.map.now (stretch_of a.stretch.now a.pos a.neg) a.tests a.bytes.now a.work.now c.if-work-lt-WORK_LENGTH.true
 
-slice-relend-prefix-on-area : tie.Need-slice-relend-prefix-on-area
+slice-relend-prefix-on-area : tie.Need-slice_bounds-on_area-end
 slice-relend-prefix-on-area c = search rules
 
-slice-aggregate-on-area : tie.Need-slice-aggregate-on-area
-slice-aggregate-on-area c = sym (length-take-le work_length c.before.before.before.before.before.before.args.work.now (omega (arith, c.before.if1.false)))
+slice-aggregate-on-area : tie.Need-slice_bounds-on_area-end-2
+slice-aggregate-on-area c = sym (length-take-le work_length c.args.work.now (omega (arith, c.if-work-lt-WORK_LENGTH.false)))
 
-on-area-requires : tie.Need-on-area-requires
-on-area-requires c κs = omega (arith, length-take-le work_length c.before.before.before.before.before.before.before.args.work.now (omega (arith, c.before.before.if1.false)))
+on-area-requires : tie.Need-on_area-given-requires
+on-area-requires c κs = omega (arith, length-take-le work_length c.args.work.now (omega (arith, c.if-work-lt-WORK_LENGTH.false)))
 
 clear-requires : tie.Need-clear-requires
 clear-requires c κs = search rules
 
-same_length : tie.Need-same-length
+same_length : tie.Need-shape_of-work
 same_length c = search rules
 
-same-length-2 : tie.Need-same-length-2
+same-length-2 : tie.Need-shape_of-bytes
 same-length-2 c = search rules
 
-returns-2 : tie.Need-returns-2
+returns-2 : tie.Need-returns
 returns-2 c =
-    let area = c.before.before.before.before.before.before.before.before in
-    let asked = area.before.before.before in
-    let a = asked.before.before.before.before.before.args in
-    let large = asked.if1.false in
-    let on_area = area.on_area in
+    let a = c.args in
+    let large = c.if-work-lt-WORK_LENGTH.false in
+    let on_area = c.on_area-given in
     called a.map.now (stretch_of a.stretch.now a.pos a.neg) a.tests a.bytes.now (omega (arith, large)) on_area.ensures
-    (c.before.before.clear.ensures
-    ∙ cleared_same a.work.now on_area.new.1.1.1.1.1.0 (omega (arith, large)) on_area.auto.1.1.1.1.1.0)
+    (c.clear.ensures
+    ∙ cleared_same a.work.now on_area.new.work (omega (arith, large)) on_area.auto.work)
 
 pub write_spec : {M : Type 1} → statement M
 write_spec =

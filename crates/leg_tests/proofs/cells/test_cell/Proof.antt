@@ -10,53 +10,48 @@ use borrow.Author.Rules.{rules}
 use Rattle.leg_tests.proofs.cells.test_cell.Statement.{statement}
 use Rattle.leg_tests.proofs.cells.test_cell.Tie as tie
 
-returns : tie.Need-returns
-returns c m set t sole alone there done = record { sifted = not_tested c.if1.true; done = done; worked = worked_none set }
+returns : tie.Need-returns-then-mark-ne1
+returns c m set t sole alone there done = record { sifted = not_tested c.if-mark-ne1.true; done = done; worked = worked_none set }
 
-own-cell-requires : tie.Need-own-cell-requires
+own-cell-requires : tie.Need-own_cell-requires
 own-cell-requires c κs =
-    let start = c.before.before.before.before.before in
-    let a = start.args in
-    let p = start.requires in (
+    let a = c.args in
+    let p = c.requires in (
       p.0,
       p.1,
       p.2,
-      p.3 c.before.before.if1.false,
+      p.3 c.if-mark-ne1.false,
       p.4,
-      subst (EndsThere p.0 a.lines a.stretch.now a.j a.to) c.before.if2.true p.5,
+      subst (EndsThere p.0 a.lines a.stretch.now a.j a.to) c.if-own.true p.5,
       p.6,
     )
 
-same_length : tie.Need-same-length
+same_length : tie.Need-shape_of-work-then-own
 same_length c = search rules
 
-returns-2 : tie.Need-returns-2
+returns-2 : tie.Need-returns-then-own
 returns-2 c m set t sole alone there done =
-    let at-if2 = c.before.before.before.before in
-    let at-if1 = at-if2.before in
-    let a = at-if1.before.before.before.args in
-    let own = at-if2.if2.true in
-    let e = at-if1.if1.false in
-    let r = c.before.before.own-cell.ensures e m set t (sole e) alone (subst (EndsThere m a.lines a.stretch.now a.j a.to) own there) done in
-    subst (λ (b : Bool). CellTested m a.lines a.stretch.now a.i a.j a.to b a.before.mark a.work.now c.before.before.own-cell.new.0
-    c.before.before.own-cell.result) (sym own) r
+    let a = c.args in
+    let own = c.if-own.true in
+    let e = c.if-mark-ne1.false in
+    let r = c.own_cell.ensures e m set t (sole e) alone (subst (EndsThere m a.lines a.stretch.now a.j a.to) own there) done in
+    subst (λ (b : Bool). CellTested m a.lines a.stretch.now a.i a.j a.to b a.before.mark a.work.now c.own_cell.new.work
+    c.own_cell.result) (sym own) r
 
-search-cell-requires : tie.Need-search-cell-requires
+search-cell-requires : tie.Need-search_cell-requires
 search-cell-requires c κs =
-    let p = c.before.before.before.before.before.requires in (p.0, p.1, p.2, p.3 c.before.before.if1.false, p.4, p.5, p.6)
+    let p = c.requires in (p.0, p.1, p.2, p.3 c.if-mark-ne1.false, p.4, p.5, p.6)
 
-same-length-2 : tie.Need-same-length-2
+same-length-2 : tie.Need-shape_of-work
 same-length-2 c = search rules
 
-returns-3 : tie.Need-returns-3
+returns-3 : tie.Need-returns
 returns-3 c m set t sole alone there done =
-    let at-if2 = c.before.before.before.before in
-    let at-if1 = at-if2.before in
-    let a = at-if1.before.before.before.args in
-    let e = at-if1.if1.false in
-    let r = c.before.before.search-cell.ensures m set t (sole e) alone there done in
+    let a = c.args in
+    let e = c.if-mark-ne1.false in
+    let r = c.search_cell.ensures m set t (sole e) alone there done in
     record {
-      sifted = subst (λ (b : Bool). Sifted (Asked m a.stretch.now a.i a.j a.to b) a.before.mark c.before.before.search-cell.result.mark) (sym at-if2.if2.false)
+      sifted = subst (λ (b : Bool). Sifted (Asked m a.stretch.now a.i a.j a.to b) a.before.mark c.search_cell.result.mark) (sym c.if-own.false)
           (sifted_so e r.says);
       done = r.done;
       worked = r.worked;

@@ -4,13 +4,13 @@ use borrow.Author.Rules.{rules}
 use Rattle.leg_tests.proofs.leaving.first_from.Statement.{statement}
 use Rattle.leg_tests.proofs.leaving.first_from.Tie as tie
 
-add_wide : tie.Need-overflow-add-wide
+add_wide : tie.Need-overflow_add-v
 add_wide c = search rules
 
-mul_wide : tie.Need-overflow-mul-wide
+mul_wide : tie.Need-offset_bounds-work-v
 mul_wide c = search rules
 
-shared-slice-read-wide : tie.Need-shared-slice-read-wide
+shared-slice-read-wide : tie.Need-bounds-work-v
 shared-slice-read-wide c = search rules
 
 wide-requires : tie.Need-wide-requires

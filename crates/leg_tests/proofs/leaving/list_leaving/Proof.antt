@@ -14,99 +14,99 @@ use borrow.Author.Rules.{rules}
 use Rattle.leg_tests.proofs.leaving.list_leaving.Statement.{statement}
 use Rattle.leg_tests.proofs.leaving.list_leaving.Tie as tie
 
-abbrev invariant-loop : tie.invariant-loop
+abbrev invariant-loop : tie.invariant-loop-l
 invariant-loop work₀ lines l₀ work l = (l ≤ lines) × (length work ≡ length work₀) × ((m : Map) → Listed m lines 0 work₀ work₀ → Listed m lines l work₀ work)
 
-abbrev decreases-loop : tie.decreases-loop
+abbrev decreases-loop : tie.decreases-loop-l
 decreases-loop work₀ lines l₀ work l = lines - l
 
 -- What is known at the start of each turn, and once the node is read.
-known : (c : tie.In-loop invariant-loop decreases-loop) →
-    let k = c.before.loop in
+known : (c : tie.In-loop-l invariant-loop decreases-loop) →
+    let k = c.loop-l in
     (work_length ≤ length k.work) × (k.l < greatest_line_count) × (get_or k.work (line_place k.l + start_node) 0 < greatest_node_count)
 known c =
-    let p = c.before.before.before.before.before.before.before.requires in
-    let none = listed_none c.before.before.before.before.fill.ensures p.1 in
-    let l = c.before.loop.invariant.2 p.0 (listed_again none) in
-    (l.worked.set.held.full, omega (arith, c.loop-test.true, few p.1.held), start_small l c.loop-test.true)
+    let p = c.requires in
+    let none = listed_none c.fill.ensures p.1 in
+    let l = c.loop-l.invariant.2 p.0 (listed_again none) in
+    (l.worked.set.held.full, omega (arith, c.loop-l-test.true, few p.1.held), start_small l c.loop-l-test.true)
 
-turn : (c : tie.After-wide invariant-loop decreases-loop) →
-    let k = c.before.before.before.before.loop in
-    (work_length ≤ length k.work) × (k.l < greatest_line_count) × (c.wide.result < greatest_node_count)
+turn : (c : tie.After-wide-v invariant-loop decreases-loop) →
+    let k = c.loop-l in
+    (work_length ≤ length k.work) × (k.l < greatest_line_count) × (c.wide-v.result < greatest_node_count)
 turn c =
-    let k = known c.before.before.before in
-    let e = c.wide.ensures in
-    let f = c.before.field.ensures in
+    let k = known c.before.before in
+    let e = c.wide-v.ensures in
+    let f = c.field.ensures in
     (k.0, k.1, omega arith)
 
 fill-requires : tie.Need-fill-requires invariant-loop decreases-loop
-fill-requires c κs = let p = c.before.before.requires in omega (arith, p.1.held.full)
+fill-requires c κs = let p = c.requires in omega (arith, p.1.held.full)
 
-loop-holds : tie.Need-loop-init invariant-loop decreases-loop
+loop-holds : tie.Need-loop-l-init invariant-loop decreases-loop
 loop-holds c = (omega arith, refl, λ m k. k)
 
 field-requires : tie.Need-field-requires invariant-loop decreases-loop
-field-requires c κs = let k = known c.before in (omega arith, omega arith, k.0)
+field-requires c κs = let k = known c in (omega arith, omega arith, k.0)
 
-wide-requires : tie.Need-wide-requires invariant-loop decreases-loop
+wide-requires : tie.Need-wide-v-requires invariant-loop decreases-loop
 wide-requires c κs = search rules
 
-add-work : tie.Need-overflow-add-work invariant-loop decreases-loop
+add-work : tie.Need-overflow_add-work invariant-loop decreases-loop
 add-work c = let k = turn c in omega arith
 
-mul-work : tie.Need-overflow-mul-work invariant-loop decreases-loop
+mul-work : tie.Need-offset_bounds-work-v invariant-loop decreases-loop
 mul-work c = let k = turn c in omega arith
 
-slice-read-work : tie.Need-slice-read-work invariant-loop decreases-loop
+slice-read-work : tie.Need-bounds-work-v invariant-loop decreases-loop
 slice-read-work c = let k = turn c.before in omega arith
 
-add-work-2 : tie.Need-overflow-add-work-2 invariant-loop decreases-loop
+add-work-2 : tie.Need-overflow_add-work-in-loop-l invariant-loop decreases-loop
 add-work-2 c = let k = turn c.before in omega arith
 
-mul-work-2 : tie.Need-overflow-mul-work-2 invariant-loop decreases-loop
+mul-work-2 : tie.Need-offset_bounds-work-l invariant-loop decreases-loop
 mul-work-2 c = let k = turn c.before in omega arith
 
-slice-write-work : tie.Need-slice-write-work invariant-loop decreases-loop
+slice-write-work : tie.Need-bounds-work-l invariant-loop decreases-loop
 slice-write-work c = let k = turn c.before in omega arith
 
-add-work-3 : tie.Need-overflow-add-work-3 invariant-loop decreases-loop
+add-work-3 : tie.Need-overflow_add-work-in-loop-l-2 invariant-loop decreases-loop
 add-work-3 c = let k = turn c.before in omega arith
 
-cast-work : tie.Need-overflow-cast-work invariant-loop decreases-loop
+cast-work : tie.Need-overflow_cast-work invariant-loop decreases-loop
 cast-work c = let k = turn c.before in omega arith
 
-add-work-4 : tie.Need-overflow-add-work-4 invariant-loop decreases-loop
+add-work-4 : tie.Need-overflow_add-work-in-loop-l-3 invariant-loop decreases-loop
 add-work-4 c = let k = turn c.before in omega arith
 
-mul-work-3 : tie.Need-overflow-mul-work-3 invariant-loop decreases-loop
+mul-work-3 : tie.Need-offset_bounds-work-v-in-loop-l invariant-loop decreases-loop
 mul-work-3 c = let k = turn c.before in omega arith
 
-slice-write-work-2 : tie.Need-slice-write-work-2 invariant-loop decreases-loop
+slice-write-work-2 : tie.Need-bounds-work-v-in-loop-l invariant-loop decreases-loop
 slice-write-work-2 c = let k = turn c.before in simp length-set (omega arith)
 
-add-l : tie.Need-overflow-add-l invariant-loop decreases-loop
+add-l : tie.Need-overflow_add-l invariant-loop decreases-loop
 add-l c = let k = turn c.before in omega arith
 
-loop-less : tie.Need-loop-smaller invariant-loop decreases-loop
+loop-less : tie.Need-loop-l-smaller invariant-loop decreases-loop
 loop-less c = search rules
 
-loop-again : tie.Need-loop-preserved invariant-loop decreases-loop
+loop-again : tie.Need-loop-l-preserved invariant-loop decreases-loop
 loop-again c = (
-  omega (arith, c.before.before.before.before.loop-test.true),
-  simp length-set c.before.before.before.before.before.loop.invariant.1,
+  omega (arith, c.loop-l-test.true),
+  simp length-set c.loop-l.invariant.1,
   λ m k.
-      listed_more (c.before.before.before.before.before.loop.invariant.2 m k) c.before.before.before.before.loop-test.true
-      (c.before.wide.ensures.0 ∙ c.before.before.field.ensures),
+      listed_more (c.loop-l.invariant.2 m k) c.loop-l-test.true
+      (c.wide-v.ensures.0 ∙ c.field.ensures),
 )
 
-same_length : tie.Need-same-length invariant-loop decreases-loop
-same_length c = c.before.loop.invariant.1 ∙ c.before.before.before.before.fill.ensures.kept.same
+same_length : tie.Need-shape_of-work invariant-loop decreases-loop
+same_length c = c.loop-l.invariant.1 ∙ c.fill.ensures.kept.same
 
 returns : tie.Need-returns invariant-loop decreases-loop
 returns c m set =
-    let none = listed_none c.before.before.before.before.fill.ensures set in
-    let e : c.before.loop.l ≡ c.before.before.before.before.before.before.before.args.lines = omega (arith, c.loop-test.false) in
-    let s = rw e at (c.before.loop.invariant.2 m (listed_again none)) in
+    let none = listed_none c.fill.ensures set in
+    let e : c.loop-l.l ≡ c.args.lines = omega (arith, c.loop-l-test.false) in
+    let s = rw e at (c.loop-l.invariant.2 m (listed_again none)) in
     record { leaving = s.leaving; worked = worked_then none.worked s.worked }
 
 pub list_leaving_spec : {M : Type 1} → statement M

@@ -5,23 +5,23 @@ use borrow.Author.Rules.{rules}
 use Rattle.leg_tests.proofs.leaving.next_from.Statement.{statement}
 use Rattle.leg_tests.proofs.leaving.next_from.Tie as tie
 
-sub_wide : tie.Need-overflow-sub-wide
+sub_wide : tie.Need-overflow_sub-at
 sub_wide c = search rules
 
-add_wide : tie.Need-overflow-add-wide
+add_wide : tie.Need-overflow_add-at
 add_wide c = search rules
 
-mul_wide : tie.Need-overflow-mul-wide
+mul_wide : tie.Need-offset_bounds-work-at
 mul_wide c = search rules
 
-shared-slice-read-wide : tie.Need-shared-slice-read-wide
+shared-slice-read-wide : tie.Need-bounds-work-at
 shared-slice-read-wide c = search rules
 
 wide-requires : tie.Need-wide-requires
 wide-requires c κs = search rules
 
 returns : tie.Need-returns
-returns c m lists = let p = c.before.before.before.requires.0 in c.wide.ensures.0 ∙ lists.nexts _ (omega arith)
+returns c m lists = let p = c.requires.0 in c.wide.ensures.0 ∙ lists.nexts _ (omega arith)
 
 pub next_from_spec : {M : Type 1} → statement M
 next_from_spec =

@@ -11,21 +11,21 @@ use native.Mathlib.Omega.{arith}
 use Rattle.leg_tests.proofs.leg.arrival_to.Statement.{statement}
 use Rattle.leg_tests.proofs.leg.arrival_to.Tie as tie
 
-returns : tie.Need-returns
+returns : tie.Need-returns-then-j-stretch
 unfolding arrival_in
-returns c m h = rw (ne_eqb c.before.before.before.args.j (length c.before.before.before.args.stretch.now) (λ e. omega (arith, c.if1.true)))
+returns c m h = rw (ne_eqb c.args.j (length c.args.stretch.now) (λ e. omega (arith, c.if-j-stretch.true)))
 
-sub-attributes-of : tie.Need-overflow-sub-attributes-of
+sub-attributes-of : tie.Need-overflow_sub-j
 sub-attributes-of c = search rules
 
-attributes-of-requires : tie.Need-attributes-of-requires
+attributes-of-requires : tie.Need-attributes_of-requires
 attributes-of-requires c κs = search rules
 
-returns-2 : tie.Need-returns-2
+returns-2 : tie.Need-returns
 unfolding arrival_in attributes_by arriving
 returns-2 c m h =
-    rw (eq-eqb c.before.before.before.before.args.j (length c.before.before.before.before.args.stretch.now) (omega (arith, c.before.if1.false, c.before.before.before.before.requires.0.2)))
-    (ap matching (c.attributes-of.ensures m h))
+    rw (eq-eqb c.args.j (length c.args.stretch.now) (omega (arith, c.if-j-stretch.false, c.requires.0.2)))
+    (ap matching (c.attributes_of.ensures m h))
 
 pub arrival_to_spec : {M : Type 1} → statement M
 arrival_to_spec =

@@ -12,30 +12,29 @@ use borrow.Author.Rules.{rules}
 use Rattle.leg_tests.proofs.leg.leg_fits.Statement.{statement}
 use Rattle.leg_tests.proofs.leg.leg_fits.Tie as tie
 
-node-of-requires : tie.Need-node-of-requires
-node-of-requires c κs = let p = c.before.before.requires in ((p.0.0, omega (arith, p.0.1, p.0.2), omega arith), p.1)
+node-of-requires : tie.Need-node_of-from-requires
+node-of-requires c κs = let p = c.requires in ((p.0.0, omega (arith, p.0.1, p.0.2), omega arith), p.1)
 
-sub-node-of : tie.Need-overflow-sub-node-of
+sub-node-of : tie.Need-overflow_sub-j
 sub-node-of c = search rules
 
-node-of-requires-2 : tie.Need-node-of-requires-2
+node-of-requires-2 : tie.Need-node_of-to-requires
 node-of-requires-2 c κs = search rules
 
 fits-requires : tie.Need-fits-requires
 fits-requires c κs =
-    let p = c.before.before.before.before.requires.1 in (p.0, p.1, (c.before.node_of.ensures p.0 p.1).1, (c.node-of2.ensures p.0 p.1).1)
+    let p = c.requires.1 in (p.0, p.1, (c.node_of-from.ensures p.0 p.1).1, (c.node_of-to.ensures p.0 p.1).1)
 
 returns : tie.Need-returns
 returns c m held =
-    let start = c.before.before.before.before.before in
-    let a = start.args in
-    let p = start.requires.0 in
-    let from = c.before.before.node_of.ensures m held in
-    let to = c.before.node-of2.ensures m held in
+    let a = c.args in
+    let p = c.requires.0 in
+    let from = c.node_of-from.ensures m held in
+    let to = c.node_of-to.ensures m held in
     let s = a.stretch.now in
-    subst (λ (x : ℕ). Decides (DifferencesFit (node_at m x) (node_at m (to_node m (slice a.i a.j s)))) c.fits2.result) (from.0 ∙ from_of_slice s a.i a.j p.1 p.2 m)
-    (subst (λ (x : ℕ). Decides (DifferencesFit (node_at m c.before.before.node_of.result) (node_at m x)) c.fits2.result)
-    (to.0 ∙ to_of_slice s a.i a.j p.1 p.2 m) (c.fits2.ensures m held from.1 to.1))
+    subst (λ (x : ℕ). Decides (DifferencesFit (node_at m x) (node_at m (to_node m (slice a.i a.j s)))) c.fits.result) (from.0 ∙ from_of_slice s a.i a.j p.1 p.2 m)
+    (subst (λ (x : ℕ). Decides (DifferencesFit (node_at m c.node_of-from.result) (node_at m x)) c.fits.result)
+    (to.0 ∙ to_of_slice s a.i a.j p.1 p.2 m) (c.fits.ensures m held from.1 to.1))
 
 pub leg_fits_spec : {M : Type 1} → statement M
 leg_fits_spec =

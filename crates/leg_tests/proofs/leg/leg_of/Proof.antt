@@ -17,36 +17,36 @@ use native.Mathlib.Omega.{arith}
 use Rattle.leg_tests.proofs.leg.leg_of.Statement.{statement}
 use Rattle.leg_tests.proofs.leg.leg_of.Tie as tie
 
-node-of-requires : tie.Need-node-of-requires
-node-of-requires c κs = let p = c.before.before.requires in ((p.0.0, omega (arith, p.0.1, p.0.2), omega arith), p.1)
+node-of-requires : tie.Need-node_of-from-requires
+node-of-requires c κs = let p = c.requires in ((p.0.0, omega (arith, p.0.1, p.0.2), omega arith), p.1)
 
-sub-node-of : tie.Need-overflow-sub-node-of
-sub-node-of c = omega (arith, c.before.before.before.requires.0.1)
+sub-node-of : tie.Need-overflow_sub-j
+sub-node-of c = omega (arith, c.requires.0.1)
 
-node-of-requires-2 : tie.Need-node-of-requires-2
-node-of-requires-2 c κs = let p = c.before.before.before.requires in ((p.0.0, omega (arith, p.0.1, p.0.2), omega arith), p.1)
+node-of-requires-2 : tie.Need-node_of-to-requires
+node-of-requires-2 c κs = let p = c.requires in ((p.0.0, omega (arith, p.0.1, p.0.2), omega arith), p.1)
 
-attributes-of-requires : tie.Need-attributes-of-requires
-attributes-of-requires c κs = let p = c.before.before.before.before.requires in ((p.0.0, omega (arith, p.0.1, p.0.2), omega arith), p.1)
+attributes-of-requires : tie.Need-attributes_of-leaves-requires
+attributes-of-requires c κs = let p = c.requires in ((p.0.0, omega (arith, p.0.1, p.0.2), omega arith), p.1)
 
-arrival-to-requires : tie.Need-arrival-to-requires
-arrival-to-requires c κs = let p = c.before.before.before.before.before.requires in ((p.0.0, omega (arith, p.0.1), p.0.2), p.1)
+arrival-to-requires : tie.Need-arrival_to-arrival-requires
+arrival-to-requires c κs = let p = c.requires in ((p.0.0, omega (arith, p.0.1), p.0.2), p.1)
 
-distance-requires : tie.Need-distance-requires
+distance-requires : tie.Need-distance-distance-requires
 distance-requires c κs = search rules
 
 returns : tie.Need-returns
 unfolding leg_in leg_of arrival_of attributes_by leaving
 returns c m h x =
-    let a = c.before.before.before.before.before.before.before.args in
+    let a = c.args in
     let s = a.stretch.now in
-    let p = c.before.before.before.before.before.before.before.requires.0 in
-    let from = (c.before.before.before.before.node_of.ensures m h).0 ∙ from_of_slice s a.i a.j p.1 p.2 m in
-    let to = (c.before.before.before.node-of2.ensures m h).0 ∙ to_of_slice s a.i a.j p.1 p.2 m in
-    let leaves = c.before.before.attributes-of.ensures m h ∙ ap (leaving m) (sym (first_of_slice s a.i a.j p.1 p.2)) in
+    let p = c.requires.0 in
+    let from = (c.node_of-from.ensures m h).0 ∙ from_of_slice s a.i a.j p.1 p.2 m in
+    let to = (c.node_of-to.ensures m h).0 ∙ to_of_slice s a.i a.j p.1 p.2 m in
+    let leaves = c.attributes_of-leaves.ensures m h ∙ ap (leaving m) (sym (first_of_slice s a.i a.j p.1 p.2)) in
     let classes = x.classes in
-    let far = c.distance.ensures ∙ ap distance x.sum in
-    let arrives = c.before.arrival-to.ensures m h
+    let far = c.distance-distance.ensures ∙ ap distance x.sum in
+    let arrives = c.arrival_to-arrival.ensures m h
     ∙ ap (λ (l : ℕ). cond (eqb a.j (length s)) (matching (arriving m l)) any) (sym (last_of_slice s a.i a.j p.1 p.2)) in
     λ t. record { from = from t; to = to t; leaves = leaves t; lowest = classes t; distance = far t; arrival = arrives t }
 

@@ -4,11 +4,11 @@ use Rattle.legs.proofs.Lines.{arriving_at}
 use Rattle.legs.proofs.attributes.arrives_as.Statement.{statement}
 use Rattle.legs.proofs.attributes.arrives_as.Tie as tie
 
-has-attributes-requires : tie.Need-has-attributes-requires
+has-attributes-requires : tie.Need-has_attributes-requires
 has-attributes-requires c κs = search rules
 
 returns : tie.Need-returns
-returns c m h = rw (arriving_at h _ c.before.before.requires.0) c.has-attributes.ensures
+returns c m h = rw (arriving_at h _ c.requires.0) c.has_attributes.ensures
 
 pub arrives_as_spec : {M : Type 1} → statement M
 arrives_as_spec = tie.close (tie.spec has-attributes-requires returns)

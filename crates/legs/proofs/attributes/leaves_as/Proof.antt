@@ -4,11 +4,11 @@ use Rattle.legs.proofs.Lines.{leaving_at}
 use Rattle.legs.proofs.attributes.leaves_as.Statement.{statement}
 use Rattle.legs.proofs.attributes.leaves_as.Tie as tie
 
-has-attributes-requires : tie.Need-has-attributes-requires
+has-attributes-requires : tie.Need-has_attributes-requires
 has-attributes-requires c κs = search rules
 
 returns : tie.Need-returns
-returns c m h = rw (leaving_at h _ c.before.before.requires.0) c.has-attributes.ensures
+returns c m h = rw (leaving_at h _ c.requires.0) c.has_attributes.ensures
 
 pub leaves_as_spec : {M : Type 1} → statement M
 leaves_as_spec = tie.close (tie.spec has-attributes-requires returns)

@@ -20,49 +20,49 @@ use Rattle.ways.proofs.ways_from.Reads as ways-from-reads
 use Rattle.work_area.proofs.field.Reads as field-reads
 
 field-requires : tie.Need-field-requires
-field-requires c κs = let p = c.before.requires in let h = p.1.2.held in (omega (arith, p.0, few h), omega arith, h.full)
+field-requires c κs = let p = c.requires in let h = p.1.2.held in (omega (arith, p.0, few h), omega arith, h.full)
 
 wide-requires : tie.Need-wide-requires
 wide-requires c κs = search rules
 
-returns : tie.Need-returns
+returns : tie.Need-returns-then-wide-leg
 returns c =
     λ m to ready.
-    unread (elsewhere ready _ λ same. c.if1.true (c.before.before.wide.ensures.0 ∙ c.before.before.before.field.ensures ∙ ready.held.line_held _ 0 c.before.before.before.before.before.requires.0 (omega arith) ∙ same))
+    unread (elsewhere ready _ λ same. c.if-wide-leg.true (c.wide.ensures.0 ∙ c.field.ensures ∙ ready.held.line_held _ 0 c.requires.0 (omega arith) ∙ same))
 
-leaves-as-requires : tie.Need-leaves-as-requires
-leaves-as-requires c κs = let p = c.before.before.before.before.before.before.requires in (p.0, (p.1.0, p.1.2.held))
+leaves-as-requires : tie.Need-leaves_as-requires
+leaves-as-requires c κs = let p = c.requires in (p.0, (p.1.0, p.1.2.held))
 
-returns-2 : tie.Need-returns-2
+returns-2 : tie.Need-returns-then-not-leaves_as
 returns-2 c =
     λ m to ready.
-    unread (other_line ready _ (rw (not-true c.before.leaves-as.result c.if2.true) at (c.before.leaves-as.ensures m ready.held)))
+    unread (other_line ready _ (rw (c.if-not-leaves_as.true) at (c.leaves_as.ensures m ready.held)))
 
-length-to-requires : tie.Need-length-to-requires
-length-to-requires c κs = let p = c.before.before.before.before.before.before.before.before.requires in let h = p.1.2.held in (omega (arith, p.0, few h), h.full)
+length-to-requires : tie.Need-length_to-requires
+length-to-requires c κs = let p = c.requires in let h = p.1.2.held in (omega (arith, p.0, few h), h.full)
 
 distance-requires : tie.Need-distance-requires
 distance-requires c κs = search rules
 
-returns-3 : tie.Need-returns-3
+returns-3 : tie.Need-returns-then-distance-leg
 returns-3 c =
     λ m to ready.
-    let from = sym (ready.held.line_held _ 0 c.before.before.before.before.before.before.before.before.before.before.before.before.requires.0 (omega arith)) ∙ sym c.before.before.before.before.before.before.before.before.before.before.field.ensures ∙ sym c.before.before.before.before.before.before.before.before.before.wide.ensures.0 ∙ c.before.before.before.before.before.before.before.if1.false in
-    let leaves = rw (not-false c.before.before.before.before.before.leaves-as.result c.before.before.before.before.if2.false) at (c.before.before.before.before.before.leaves-as.ensures m ready.held) in
-    unread (other_distance ready _ c.before.before.before.before.before.before.before.before.before.before.before.before.requires.0 from leaves (λ e. c.if3.true (c.before.before.distance.ensures ∙ ap distance c.before.before.before.length_to.ensures ∙ e)))
+    let from = sym (ready.held.line_held _ 0 c.requires.0 (omega arith)) ∙ sym c.field.ensures ∙ sym c.wide.ensures.0 ∙ c.if-wide-leg.false in
+    let leaves = rw (c.if-not-leaves_as.false) at (c.leaves_as.ensures m ready.held) in
+    unread (other_distance ready _ c.requires.0 from leaves (λ e. c.if-distance-leg.true (c.distance.ensures ∙ ap distance c.length_to.ensures ∙ e)))
 
-ways-from-requires : tie.Need-ways-from-requires
-ways-from-requires c κs = let p = c.before.before.before.before.before.before.before.before.before.before.before.before.requires in (p.0, (p.1.0, _, p.1.1, p.1.2.searched))
+ways-from-requires : tie.Need-ways_from-requires
+ways-from-requires c κs = let p = c.requires in (p.0, (p.1.0, _, p.1.1, p.1.2.searched))
 
 judge-requires : tie.Need-judge-requires
 judge-requires c κs = search rules
 
-returns-4 : tie.Need-returns-4
+returns-4 : tie.Need-returns
 returns-4 c =
     λ m to ready.
-    let from = sym (ready.held.line_held _ 0 c.before.before.before.before.before.before.before.before.before.before.before.before.before.before.requires.0 (omega arith)) ∙ sym c.before.before.before.before.before.before.before.before.before.before.before.before.field.ensures ∙ sym c.before.before.before.before.before.before.before.before.before.before.before.wide.ensures.0 ∙ c.before.before.before.before.before.before.before.before.before.if1.false in
-    let leaves = rw (not-false c.before.before.before.before.before.before.before.leaves-as.result c.before.before.before.before.before.before.if2.false) at (c.before.before.before.before.before.before.before.leaves-as.ensures m ready.held) in
-    rw c.judge.ensures (line_verdict ready _ from leaves c.before.ways-from.result (c.before.ways-from.ensures m _ to ready.searched))
+    let from = sym (ready.held.line_held _ 0 c.requires.0 (omega arith)) ∙ sym c.field.ensures ∙ sym c.wide.ensures.0 ∙ c.if-wide-leg.false in
+    let leaves = rw (c.if-not-leaves_as.false) at (c.leaves_as.ensures m ready.held) in
+    rw c.judge.ensures (line_verdict ready _ from leaves c.ways_from.result (c.ways_from.ensures m _ to ready.searched))
 
 pub from_line_spec : {M : Type 1} → statement M
 from_line_spec =

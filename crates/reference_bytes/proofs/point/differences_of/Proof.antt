@@ -14,74 +14,74 @@ use Rattle.reference_bytes.proofs.point.differences_of.Statement.{statement}
 use Rattle.reference_bytes.proofs.point.differences_of.Tie as tie
 
 -- The two nodes.
-module _ (c : tie.After-node-of2) (m : Map) (h : Held c.before.before.before.before.args.work.now c.before.before.before.before.args.lines m) where
-  from : (c.before.node_of.result ≡ from_node m c.before.before.before.before.args.leg.now) × (c.before.node_of.result < length m.nodes)
-  from = let e = c.before.node_of.ensures m h in (e.0 ∙ from_is m c.before.before.before.before.args.leg.now, e.1)
+module _ (c : tie.After-node_of-to) (m : Map) (h : Held c.args.work.now c.args.lines m) where
+  from : (c.node_of-from.result ≡ from_node m c.args.leg.now) × (c.node_of-from.result < length m.nodes)
+  from = let e = c.node_of-from.ensures m h in (e.0 ∙ from_is m c.args.leg.now, e.1)
 
-  to : (c.node-of2.result ≡ to_node m c.before.before.before.before.args.leg.now) × (c.node-of2.result < length m.nodes)
-  to = let e = c.node-of2.ensures m h in (e.0 ∙ to_is m c.before.before.before.before.args.leg.now, e.1)
+  to : (c.node_of-to.result ≡ to_node m c.args.leg.now) × (c.node_of-to.result < length m.nodes)
+  to = let e = c.node_of-to.ensures m h in (e.0 ∙ to_is m c.args.leg.now, e.1)
 
 -- Their coordinates.
-module _ (c : tie.After-coordinate2) (m : Map) (h : Held c.before.before.before.before.before.before.args.work.now c.before.before.before.before.before.before.args.lines m) where
-  lon_from : c.before.coordinate.result ≡ (node_at m (from_node m c.before.before.before.before.before.before.args.leg.now)).lon
-  lon_from = let e = from c.before.before m h in c.before.coordinate.ensures m h e.1 ∙ ap (λ (v : ℕ). (node_at m v).lon) e.0
+module _ (c : tie.After-coordinate-2) (m : Map) (h : Held c.args.work.now c.args.lines m) where
+  lon_from : c.coordinate.result ≡ (node_at m (from_node m c.args.leg.now)).lon
+  lon_from = let e = from c.before.before m h in c.coordinate.ensures m h e.1 ∙ ap (λ (v : ℕ). (node_at m v).lon) e.0
 
-  lon_to : c.coordinate2.result ≡ (node_at m (to_node m c.before.before.before.before.before.before.args.leg.now)).lon
-  lon_to = let e = to c.before.before m h in c.coordinate2.ensures m h e.1 ∙ ap (λ (v : ℕ). (node_at m v).lon) e.0
+  lon_to : c.coordinate-2.result ≡ (node_at m (to_node m c.args.leg.now)).lon
+  lon_to = let e = to c.before.before m h in c.coordinate-2.ensures m h e.1 ∙ ap (λ (v : ℕ). (node_at m v).lon) e.0
 
-module _ (c : tie.After-coordinate4) (m : Map) (h : Held c.before.before.before.before.before.before.before.before.before.before.args.work.now c.before.before.before.before.before.before.before.before.before.before.args.lines m) where
-  lat_from : c.before.coordinate3.result ≡ (node_at m (from_node m c.before.before.before.before.before.before.before.before.before.before.args.leg.now)).lat
-  lat_from = let e = from c.before.before.before.before.before.before m h in c.before.coordinate3.ensures m h e.1 ∙ ap (λ (v : ℕ). (node_at m v).lat) e.0
+module _ (c : tie.After-coordinate-4) (m : Map) (h : Held c.args.work.now c.args.lines m) where
+  lat_from : c.coordinate-3.result ≡ (node_at m (from_node m c.args.leg.now)).lat
+  lat_from = let e = from c.before.before.before.before.before.before m h in c.coordinate-3.ensures m h e.1 ∙ ap (λ (v : ℕ). (node_at m v).lat) e.0
 
-  lat_to : c.coordinate4.result ≡ (node_at m (to_node m c.before.before.before.before.before.before.before.before.before.before.args.leg.now)).lat
-  lat_to = let e = to c.before.before.before.before.before.before m h in c.coordinate4.ensures m h e.1 ∙ ap (λ (v : ℕ). (node_at m v).lat) e.0
+  lat_to : c.coordinate-4.result ≡ (node_at m (to_node m c.args.leg.now)).lat
+  lat_to = let e = to c.before.before.before.before.before.before m h in c.coordinate-4.ensures m h e.1 ∙ ap (λ (v : ℕ). (node_at m v).lat) e.0
 
-node-of-requires : tie.Need-node-of-requires
-node-of-requires c κs = let p = c.before.before.requires in ((p.0, filled (connected p.1.3), omega arith), (p.1.0, p.1.2))
+node-of-requires : tie.Need-node_of-from-requires
+node-of-requires c κs = let p = c.requires in ((p.0, filled (connected p.1.3), omega arith), (p.1.0, p.1.2))
 
-sub-node-of : tie.Need-overflow-sub-node-of
-sub-node-of c = let p = c.before.before.before.requires in omega (arith, filled (connected p.1.3))
+sub-node-of : tie.Need-overflow_sub-leg
+sub-node-of c = let p = c.requires in omega (arith, filled (connected p.1.3))
 
-node-of-requires-2 : tie.Need-node-of-requires-2
-node-of-requires-2 c κs = let p = c.before.before.before.requires in ((p.0, omega (arith, filled (connected p.1.3)), omega arith), (p.1.0, p.1.2))
+node-of-requires-2 : tie.Need-node_of-to-requires
+node-of-requires-2 c κs = let p = c.requires in ((p.0, omega (arith, filled (connected p.1.3)), omega arith), (p.1.0, p.1.2))
 
 coordinate-requires : tie.Need-coordinate-requires
-coordinate-requires c κs = let p = c.before.before.before.before.requires.1 in (p.0, p.2, (from c p.0 p.2).1, omega arith)
+coordinate-requires c κs = let p = c.requires.1 in (p.0, p.2, (from c p.0 p.2).1, omega arith)
 
 coordinate-requires-2 : tie.Need-coordinate-requires-2
-coordinate-requires-2 c κs = let p = c.before.before.before.before.before.requires.1 in (p.0, p.2, (to c.before p.0 p.2).1, omega arith)
+coordinate-requires-2 c κs = let p = c.requires.1 in (p.0, p.2, (to c.before p.0 p.2).1, omega arith)
 
-longitude-difference-requires : tie.Need-longitude-difference-requires
+longitude-difference-requires : tie.Need-longitude_difference-eastward-requires
 longitude-difference-requires c κs =
-    let p = c.before.before.before.before.before.before.requires.1 in
+    let p = c.requires.1 in
     let ok = p.2.formed.node_ok in
     let from-ok = (ok _ (from_known p.2.formed (connected p.3))).lon in
     let to-ok = (ok _ (to_known p.2.formed (connected p.3))).lon in
     (omega (arith, lon_from c p.0 p.2, from-ok), omega (arith, lon_to c p.0 p.2, to-ok))
 
 -- The difference of their longitudes.
-eastward : (c : tie.After-longitude-difference) (m : Map) → Held c.before.before.before.before.before.before.before.args.work.now c.before.before.before.before.before.before.before.args.lines m →
-    c.longitude-difference.result ≡ lon_difference (node_at m (from_node m c.before.before.before.before.before.before.before.args.leg.now)).lon (node_at m (to_node m c.before.before.before.before.before.before.before.args.leg.now)).lon
-eastward c m h = c.longitude-difference.ensures ∙ ap₂ lon_difference (lon_from c.before m h) (lon_to c.before m h)
+eastward : (c : tie.After-longitude_difference-eastward) (m : Map) → Held c.args.work.now c.args.lines m →
+    c.longitude_difference-eastward.result ≡ lon_difference (node_at m (from_node m c.args.leg.now)).lon (node_at m (to_node m c.args.leg.now)).lon
+eastward c m h = c.longitude_difference-eastward.ensures ∙ ap₂ lon_difference (lon_from c.before m h) (lon_to c.before m h)
 
-near-difference-requires : tie.Need-near-difference-requires
-near-difference-requires c κs = let p = c.before.before.before.before.before.before.before.requires.1 in rw (eastward c p.0 p.2) p.3.fit.lon
+near-difference-requires : tie.Need-near_difference-lon-requires
+near-difference-requires c κs = let p = c.requires.1 in rw (eastward c p.0 p.2) p.3.fit.lon
 
 coordinate-requires-3 : tie.Need-coordinate-requires-3
-coordinate-requires-3 c κs = let p = c.before.before.before.before.before.before.before.before.requires.1 in (p.0, p.2, (from c.before.before.before.before p.0 p.2).1, omega arith)
+coordinate-requires-3 c κs = let p = c.requires.1 in (p.0, p.2, (from c.before.before.before.before p.0 p.2).1, omega arith)
 
 coordinate-requires-4 : tie.Need-coordinate-requires-4
-coordinate-requires-4 c κs = let p = c.before.before.before.before.before.before.before.before.before.requires.1 in (p.0, p.2, (to c.before.before.before.before.before p.0 p.2).1, omega arith)
+coordinate-requires-4 c κs = let p = c.requires.1 in (p.0, p.2, (to c.before.before.before.before.before p.0 p.2).1, omega arith)
 
-near-difference-requires-2 : tie.Need-near-difference-requires-2
-near-difference-requires-2 c κs = let p = c.before.before.before.before.before.before.before.before.before.before.requires.1 in rw (lat_from c p.0 p.2, lat_to c p.0 p.2) p.3.fit.lat
+near-difference-requires-2 : tie.Need-near_difference-lat-requires
+near-difference-requires-2 c κs = let p = c.requires.1 in rw (lat_from c p.0 p.2, lat_to c p.0 p.2) p.3.fit.lat
 
 returns : tie.Need-returns
 unfolding differences
 returns c m last h g =
     record {
-      lon = c.before.before.before.Near-difference.ensures ∙ ap (difference half_circle) (eastward c.before.before.before.before m h);
-      lat = c.near-difference2.ensures ∙ ap₂ difference (lat_from c.before m h) (lat_to c.before m h);
+      lon = c.near_difference-lon.ensures ∙ ap (difference half_circle) (eastward c.before.before.before.before m h);
+      lat = c.near_difference-lat.ensures ∙ ap₂ difference (lat_from c.before m h) (lat_to c.before m h);
     }
 
 pub differences_of_spec : {M : Type 1} → statement M

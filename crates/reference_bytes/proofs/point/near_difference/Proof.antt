@@ -8,17 +8,17 @@ use Rattle.reference_bytes.proofs.point.near_difference.Tie as tie
 difference-requires : tie.Need-difference-requires
 difference-requires c κs = search rules
 
-enum-known-d : tie.Need-enum-known-d
+enum-known-d : tie.Need-enum_known-d
 enum-known-d c = search rules
 
-enum_told : tie.Need-enum-told
+enum_told : tie.Need-enum_told-1
 enum_told c = search rules
 
-returns : tie.Need-returns
-returns c = (subst (DifferenceIs c.before.before.before.before.args.from c.before.before.before.before.args.to) c.before.d.given.1 c.before.before.before.difference.ensures).1
+returns : tie.Need-returns-in-Fits
+returns c = (subst (DifferenceIs c.args.from c.args.to) c.in-Fits.is c.difference.ensures).1
 
-returns-2 : tie.Need-returns-2
-returns-2 c = absurd (subst (DifferenceIs c.before.before.before.args.from c.before.before.before.args.to) c.enum_told.given.1 c.before.before.difference.ensures c.before.before.before.requires)
+returns-2 : tie.Need-returns-in-TooFar
+returns-2 c = absurd (subst (DifferenceIs c.args.from c.args.to) c.in-TooFar.is c.difference.ensures c.requires)
 
 pub near_difference_spec : {M : Type 1} → statement M
 near_difference_spec =

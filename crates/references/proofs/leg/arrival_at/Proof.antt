@@ -9,33 +9,33 @@ use borrow.Author.Rules.{rules}
 use Rattle.references.proofs.leg.arrival_at.Statement.{statement}
 use Rattle.references.proofs.leg.arrival_at.Tie as tie
 
-add-if1 : tie.Need-overflow-add-if1
+add-if1 : tie.Need-overflow_add-k
 add-if1 c = search rules
 
-returns : tie.Need-returns
+returns : tie.Need-returns-then-k-points
 unfolding arrival_in arrival_at
-returns c = simp (ne_eqb _ _ (λ (e : c.before.before.args.k + 1 ≡ c.before.before.args.points). absurd (omega arith)))
+returns c = simp (ne_eqb _ _ (λ (e : c.args.k + 1 ≡ c.args.points). absurd (omega arith)))
 
-mul-last : tie.Need-overflow-mul-last
+mul-last : tie.Need-overflow_mul-last
 mul-last c = search rules
 
-add-attributes-at : tie.Need-overflow-add-attributes-at
+add-attributes-at : tie.Need-overflow_add-last
 add-attributes-at c = search rules
 
-add-attributes-at-2 : tie.Need-overflow-add-attributes-at-2
+add-attributes-at-2 : tie.Need-overflow_add-attributes_at
 add-attributes-at-2 c = search rules
 
-add-attributes-at-3 : tie.Need-overflow-add-attributes-at-3
+add-attributes-at-3 : tie.Need-overflow_add-last-2
 add-attributes-at-3 c = search rules
 
-attributes-at-requires : tie.Need-attributes-at-requires
+attributes-at-requires : tie.Need-attributes_at-requires
 attributes-at-requires c κs = search rules
 
-returns-2 : tie.Need-returns-2
+returns-2 : tie.Need-returns
 unfolding arrival_in arrival_at
 returns-2 c =
-    let last : c.before.before.before.args.k + 1 ≡ c.before.before.before.args.points = omega arith in
-    simp (eq-eqb _ _ last, c.attributes-at.ensures)
+    let last : c.args.k + 1 ≡ c.args.points = omega arith in
+    simp (eq-eqb _ _ last, c.attributes_at.ensures)
 
 pub arrival_at_spec : {M : Type 1} → statement M
 arrival_at_spec =

@@ -7,66 +7,65 @@ use borrow.Author.Rules.{rules}
 use Rattle.references.proofs.leg.leg_at.Statement.{statement}
 use Rattle.references.proofs.leg.leg_at.Tie as tie
 
-mul-p : tie.Need-overflow-mul-p
+mul-p : tie.Need-overflow_mul-p
 mul-p c = search rules
 
-add-p : tie.Need-overflow-add-p
+add-p : tie.Need-overflow_add-p
 add-p c = search rules
 
-mul_wide : tie.Need-overflow-mul-wide
+mul_wide : tie.Need-offset_bounds-places-k
 mul_wide c = search rules
 
-shared-slice-read-wide : tie.Need-shared-slice-read-wide
+shared-slice-read-wide : tie.Need-bounds-places-k
 shared-slice-read-wide c = search rules
 
-wide-requires : tie.Need-wide-requires
+wide-requires : tie.Need-wide-from-requires
 wide-requires c κs = search rules
 
-add_wide : tie.Need-overflow-add-wide
+add_wide : tie.Need-overflow_add-k
 add_wide c = search rules
 
-mul-wide-2 : tie.Need-overflow-mul-wide-2
+mul-wide-2 : tie.Need-offset_bounds-places-k-2
 mul-wide-2 c = search rules
 
-shared-slice-read-wide-2 : tie.Need-shared-slice-read-wide-2
+shared-slice-read-wide-2 : tie.Need-bounds-places-k-2
 shared-slice-read-wide-2 c = search rules
 
-wide-requires-2 : tie.Need-wide-requires-2
+wide-requires-2 : tie.Need-wide-to-requires
 wide-requires-2 c κs = search rules
 
-add-attributes-at : tie.Need-overflow-add-attributes-at
+add-attributes-at : tie.Need-overflow_add-p-2
 add-attributes-at c = search rules
 
-attributes-at-requires : tie.Need-attributes-at-requires
+attributes-at-requires : tie.Need-attributes_at-leaves-requires
 attributes-at-requires c κs = search rules
 
-add-byte-at : tie.Need-overflow-add-byte-at
+add-byte-at : tie.Need-overflow_add-p-3
 add-byte-at c = search rules
 
-byte-at-requires : tie.Need-byte-at-requires
+byte-at-requires : tie.Need-byte_at-lowest-requires
 byte-at-requires c κs = search rules
 
-add-byte-at-2 : tie.Need-overflow-add-byte-at-2
+add-byte-at-2 : tie.Need-overflow_add-p-4
 add-byte-at-2 c = search rules
 
-byte-at-requires-2 : tie.Need-byte-at-requires-2
+byte-at-requires-2 : tie.Need-byte_at-distance-requires
 byte-at-requires-2 c κs = search rules
 
-arrival-at-requires : tie.Need-arrival-at-requires
+arrival-at-requires : tie.Need-arrival_at-arrival-requires
 arrival-at-requires c κs = search rules
 
 returns : tie.Need-returns
 unfolding leg_in leg_at point_at
 returns c =
-    let bytes_read = c.before.before.before in
     λ i.
     record {
-      from = bytes_read.before.before.before.wide.ensures.0 i;
-      to = bytes_read.before.wide2.ensures.0 i;
-      leaves = bytes_read.attributes-at.ensures i;
-      lowest = c.before.before.byte_at.ensures.0 i / 32;
-      distance = c.before.byte-at2.ensures.0 i;
-      arrival = c.arrival-at.ensures i;
+      from = c.wide-from.ensures.0 i;
+      to = c.wide-to.ensures.0 i;
+      leaves = c.attributes_at-leaves.ensures i;
+      lowest = c.byte_at-lowest.ensures.0 i / 32;
+      distance = c.byte_at-distance.ensures.0 i;
+      arrival = c.arrival_at-arrival.ensures i;
     }
 
 pub leg_at_spec : {M : Type 1} → statement M

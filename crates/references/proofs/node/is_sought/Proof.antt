@@ -7,42 +7,42 @@ use borrow.Author.Rules.{rules}
 use Rattle.references.proofs.node.is_sought.Statement.{statement}
 use Rattle.references.proofs.node.is_sought.Tie as tie
 
-enum-known-sought : tie.Need-enum-known-sought
+enum-known-sought : tie.Need-enum_known-sought
 enum-known-sought c = search rules
 
-longitude-code-requires : tie.Need-longitude-code-requires
+longitude-code-requires : tie.Need-longitude_code-requires
 longitude-code-requires c κs = search rules
 
-latitude-code-requires : tie.Need-latitude-code-requires
+latitude-code-requires : tie.Need-latitude_code-requires
 latitude-code-requires c κs = search rules
 
-enum-known-sought-2 : tie.Need-enum-known-sought-2
+enum-known-sought-2 : tie.Need-enum_known-sought-in-Moved-1
 enum-known-sought-2 c = search rules
 
 moved-requires : tie.Need-moved-requires
 moved-requires c κs = search rules
 
-returns : tie.Need-returns
+returns : tie.Need-returns-then-longitude_code-lon_code
 unfolding passes has_codes
 returns c a e f =
-    let same-lon = sym (c.before.before.longitude-code.ensures a e) ∙ c.before.if1.true in
-    simp (c.before.before.before.before.sought.given.1, eq-eqb _ _ same-lon, c.latitude-code.ensures a f)
+    let same-lon = sym (c.longitude_code.ensures a e) ∙ c.if-longitude_code-lon_code.true in
+    simp (c.in-Codes.is, eq-eqb _ _ same-lon, c.latitude_code.ensures a f)
 
-returns-2 : tie.Need-returns-2
+returns-2 : tie.Need-returns-else-longitude_code-lon_code
 unfolding passes has_codes
 returns-2 c a e f =
-    ne_eqb _ _ c.if1.false
-    ∙ sym (simp (c.before.before.before.sought.given.1, ne_eqb _ _ (λ q. c.if1.false (c.before.longitude-code.ensures a e ∙ q))))
+    ne_eqb _ _ c.if-longitude_code-lon_code.false
+    ∙ sym (simp (c.in-Codes.is, ne_eqb _ _ (λ q. c.if-longitude_code-lon_code.false (c.longitude_code.ensures a e ∙ q))))
 
-returns-3 : tie.Need-returns-3
+returns-3 : tie.Need-returns-then-lon-at_lon
 unfolding passes
 returns-3 c a e f =
-    c.moved.ensures ∙ sym (simp (c.before.before.before.sought2.given.1, f, eq-eqb _ _ (sym (e ∙ c.before.if2.true))))
+    c.moved.ensures ∙ sym (simp (c.in-Moved.is, f, eq-eqb _ _ (sym (e ∙ c.if-lon-at_lon.true))))
 
-returns-4 : tie.Need-returns-4
+returns-4 : tie.Need-returns-else-lon-at_lon
 unfolding passes
 returns-4 c a e f =
-    ne_eqb _ _ c.if2.false ∙ sym (simp (c.before.before.sought2.given.1, ne_eqb _ _ (λ q. c.if2.false (sym (q ∙ e)))))
+    ne_eqb _ _ c.if-lon-at_lon.false ∙ sym (simp (c.in-Moved.is, ne_eqb _ _ (λ q. c.if-lon-at_lon.false (sym (q ∙ e)))))
 
 pub is_sought_spec : {M : Type 1} → statement M
 is_sought_spec =

@@ -4,40 +4,40 @@ use borrow.Author.Rules.{rules}
 use Rattle.references.proofs.points.next_sought.Statement.{statement}
 use Rattle.references.proofs.points.next_sought.Tie as tie
 
-mul-p : tie.Need-overflow-mul-p
+mul-p : tie.Need-overflow_mul-p
 mul-p c = search rules
 
-add-p : tie.Need-overflow-add-p
+add-p : tie.Need-overflow_add-p
 add-p c = search rules
 
-mul_at : tie.Need-overflow-mul-at
+mul_at : tie.Need-overflow_mul-at
 mul_at c = search rules
 
-mul-longitude-sum : tie.Need-overflow-mul-longitude-sum
+mul-longitude-sum : tie.Need-offset_bounds-work-at
 mul-longitude-sum c = search rules
 
-shared-slice-read-longitude-sum : tie.Need-shared-slice-read-longitude-sum
+shared-slice-read-longitude-sum : tie.Need-bounds-work-at
 shared-slice-read-longitude-sum c = search rules
 
-add-at2 : tie.Need-overflow-add-at2
+add-at2 : tie.Need-overflow_add-p-2
 add-at2 c = search rules
 
 at2-requires : tie.Need-at2-requires
 at2-requires c κs = search rules
 
-longitude-sum-requires : tie.Need-longitude-sum-requires
+longitude-sum-requires : tie.Need-longitude_sum-lon-requires
 longitude-sum-requires c κs = search rules
 
-add-t8 : tie.Need-overflow-add-t8
+add-t8 : tie.Need-overflow_add-result
 add-t8 c = search rules
 
-mul-t12 : tie.Need-overflow-mul-t12
+mul-t12 : tie.Need-offset_bounds-work-at-2
 mul-t12 c = search rules
 
-shared-slice-read-t11 : tie.Need-shared-slice-read-t11
+shared-slice-read-t11 : tie.Need-bounds-work-at-2
 shared-slice-read-t11 c = search rules
 
-add-at2-2 : tie.Need-overflow-add-at2-2
+add-at2-2 : tie.Need-overflow_add-p-3
 add-at2-2 c = search rules
 
 at2-requires-2 : tie.Need-at2-requires-2
@@ -45,7 +45,7 @@ at2-requires-2 c κs = search rules
 
 returns : tie.Need-returns
 unfolding sought_after
-returns c = simp (c.before.before.longitude-sum.ensures, c.before.before.before.at2.ensures.0, c.at22.ensures.0)
+returns c = simp (c.longitude_sum-lon.ensures, c.at2.ensures.0, c.at2-2.ensures.0)
 
 pub next_sought_spec : {M : Type 1} → statement M
 next_sought_spec =

@@ -4,10 +4,10 @@ use borrow.Author.Rules.{rules}
 use Rattle.references.proofs.reference.flag_count.Statement.{statement}
 use Rattle.references.proofs.reference.flag_count.Tie as tie
 
-add-result : tie.Need-overflow-add-result
+add-result : tie.Need-overflow_add-result
 add-result c = search rules
 
-cast-result : tie.Need-overflow-cast-result
+cast-result : tie.Need-overflow_cast-result
 cast-result c = search rules
 
 returns : tie.Need-returns

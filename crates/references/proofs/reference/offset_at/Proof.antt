@@ -4,16 +4,16 @@ use Rattle.references.specs.Form.{offset_in}
 use Rattle.references.proofs.reference.offset_at.Statement.{statement}
 use Rattle.references.proofs.reference.offset_at.Tie as tie
 
-byte-at-requires : tie.Need-byte-at-requires
-byte-at-requires c κs = c.before.before.requires c.if1.true
+byte-at-requires : tie.Need-byte_at-requires
+byte-at-requires c κs = c.requires c.if-flagged.true
 
-returns : tie.Need-returns
+returns : tie.Need-returns-then-flagged
 unfolding offset_in offset_at
-returns c = simp (c.before.if1.true, c.byte_at.ensures.0)
+returns c = simp (c.if-flagged.true, c.byte_at.ensures.0)
 
-returns-2 : tie.Need-returns-2
+returns-2 : tie.Need-returns
 unfolding offset_in offset_at
-returns-2 c = simp c.if1.false
+returns-2 c = simp c.if-flagged.false
 
 pub offset_at_spec : {M : Type 1} → statement M
 offset_at_spec = tie.close (tie.spec byte-at-requires returns returns-2)

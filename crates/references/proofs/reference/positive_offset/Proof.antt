@@ -7,25 +7,25 @@ use borrow.Author.Rules.{rules}
 use Rattle.references.proofs.reference.positive_offset.Statement.{statement}
 use Rattle.references.proofs.reference.positive_offset.Tie as tie
 
-byte-r-requires : tie.Need-byte-r-requires
+byte-r-requires : tie.Need-byte_r-r-requires
 byte-r-requires c κs = search rules
 
-add-offset-at : tie.Need-overflow-add-offset-at
+add-offset-at : tie.Need-overflow_add-offset_at
 add-offset-at c = search rules
 
-mul-offset-at : tie.Need-overflow-mul-offset-at
+mul-offset-at : tie.Need-overflow_mul-points
 mul-offset-at c = search rules
 
-add-offset-at-2 : tie.Need-overflow-add-offset-at-2
+add-offset-at-2 : tie.Need-overflow_add-points
 add-offset-at-2 c = search rules
 
-offset-at-requires : tie.Need-offset-at-requires
+offset-at-requires : tie.Need-offset_at-requires
 unfolding flags
-offset-at-requires c κs = λ flagged. first_inside _ _ _ _ (rw (← c.byte_r_lem.ensures.0) at c.before.before.requires.sized) (eqb-true _ _ flagged)
+offset-at-requires c κs = λ flagged. first_inside _ _ _ _ (rw (← c.byte_r-r.ensures.0) at c.requires.sized) (eqb-true _ _ flagged)
 
 returns : tie.Need-returns
 unfolding positive reference_at
-returns c = c.offset_at.ensures ∙ rw c.before.byte_r_lem.ensures.0
+returns c = c.offset_at.ensures ∙ rw c.byte_r-r.ensures.0
 
 pub positive_offset_spec : {M : Type 1} → statement M
 positive_offset_spec =

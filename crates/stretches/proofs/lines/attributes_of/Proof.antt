@@ -5,21 +5,21 @@ use borrow.Author.Rules.{rules}
 use Rattle.stretches.proofs.lines.attributes_of.Statement.{statement}
 use Rattle.stretches.proofs.lines.attributes_of.Tie as tie
 
-field-of-requires : tie.Need-field-of-requires
+field-of-requires : tie.Need-field_of-frc-requires
 field-of-requires c κs = search rules
 
-field-of-requires-2 : tie.Need-field-of-requires-2
+field-of-requires-2 : tie.Need-field_of-fow-requires
 field-of-requires-2 c κs = search rules
 
-field-of-requires-3 : tie.Need-field-of-requires-3
+field-of-requires-3 : tie.Need-field_of-sector-requires
 field-of-requires-3 c κs = search rules
 
 returns : tie.Need-returns
 unfolding attributes_in attributes_by
 returns c m h =
-    let frc = c.before.before.field_of.ensures m h in
-    let fow = c.before.field-of2.ensures m h in
-    let sectored = c.field-of3.ensures m h in
+    let frc = c.field_of-frc.ensures m h in
+    let fow = c.field_of-fow.ensures m h in
+    let sectored = c.field_of-sector.ensures m h in
     λ t. record { frc = frc t; fow = fow t; sector = sectored t }
 
 pub attributes_of_spec : {M : Type 1} → statement M

@@ -9,10 +9,10 @@ use native.Mathlib.Omega.{arith}
 use Rattle.stretches.proofs.lines.field_of.Statement.{statement}
 use Rattle.stretches.proofs.lines.field_of.Tie as tie
 
-mul_wide : tie.Need-overflow-mul-wide
+mul_wide : tie.Need-offset_bounds-list-i
 mul_wide c = search rules
 
-shared-slice-read-wide : tie.Need-shared-slice-read-wide
+shared-slice-read-wide : tie.Need-bounds-list-i
 shared-slice-read-wide c = search rules
 
 wide-requires : tie.Need-wide-requires
@@ -20,14 +20,14 @@ wide-requires c κs = search rules
 
 field-requires : tie.Need-field-requires
 field-requires c κs =
-    let p = c.before.before.before.before.requires in
-    (omega (arith, p.0.0 c.before.before.before.before.args.i p.0.1, few p.1.1, c.wide.ensures.0), p.0.2, p.1.1.full)
+    let p = c.requires in
+    (omega (arith, p.0.0 c.args.i p.0.1, few p.1.1, c.wide.ensures.0), p.0.2, p.1.1.full)
 
 returns : tie.Need-returns
 returns c m h =
-    let p = c.before.before.before.before.before.requires in
-    let a = c.before.before.before.before.before.args in
-    c.field.ensures ∙ ap (λ (l : ℕ). get_or a.work.now (line_place l + a.k) 0) c.before.wide.ensures.0
+    let p = c.requires in
+    let a = c.args in
+    c.field.ensures ∙ ap (λ (l : ℕ). get_or a.work.now (line_place l + a.k) 0) c.wide.ensures.0
     ∙ h.line_held _ a.k (p.0.0 a.i p.0.1) p.0.2
 
 pub field_of_spec : {M : Type 1} → statement M

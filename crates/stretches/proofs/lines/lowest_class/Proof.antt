@@ -12,38 +12,38 @@ use native.Mathlib.Omega.{arith}
 use Rattle.stretches.proofs.lines.lowest_class.Statement.{statement}
 use Rattle.stretches.proofs.lines.lowest_class.Tie as tie
 
-abbrev invariant-loop : tie.invariant-loop
+abbrev invariant-loop : tie.invariant-loop-i
 invariant-loop work lines list class₀ i₀ class i = (i ≤ length list) × ((m : Map) → Held work lines m → class ≡ lowest m (take i list))
 
-abbrev decreases-loop : tie.decreases-loop
+abbrev decreases-loop : tie.decreases-loop-i
 decreases-loop work lines list class₀ i₀ class i = length list - i
 
-loop-holds : tie.Need-loop-init invariant-loop decreases-loop
-loop-holds c = (omega arith, λ m h. lowest_none m c.before.before.args.list.now)
+loop-holds : tie.Need-loop-i-init invariant-loop decreases-loop
+loop-holds c = (omega arith, λ m h. lowest_none m c.args.list.now)
 
-field-of-requires : tie.Need-field-of-requires invariant-loop decreases-loop
-field-of-requires c κs = let p = c.before.before.before.before.requires in ((p.0, omega (arith, c.loop-test.true), omega arith), p.1)
+field-of-requires : tie.Need-field_of-requires invariant-loop decreases-loop
+field-of-requires c κs = let p = c.requires in ((p.0, omega (arith, c.loop-i-test.true), omega arith), p.1)
 
-greater-requires : tie.Need-greater-requires invariant-loop decreases-loop
+greater-requires : tie.Need-greater-class-requires invariant-loop decreases-loop
 greater-requires c κs = search rules
 
-add-i : tie.Need-overflow-add-i invariant-loop decreases-loop
+add-i : tie.Need-overflow_add-i invariant-loop decreases-loop
 add-i c = search rules
 
-loop-less : tie.Need-loop-smaller invariant-loop decreases-loop
+loop-less : tie.Need-loop-i-smaller invariant-loop decreases-loop
 loop-less c = search rules
 
-loop-again : tie.Need-loop-preserved invariant-loop decreases-loop
+loop-again : tie.Need-loop-i-preserved invariant-loop decreases-loop
 loop-again c = (
   omega arith,
-  λ m h. c.greater.ensures ∙ ap₂ max (c.before.before.before.loop.invariant.1 m h) (c.before.field_of.ensures m h)
-      ∙ sym (lowest_on m c.before.before.before.before.before.before.args.list.now c.before.before.before.loop.i c.before.before.loop-test.true),
+  λ m h. c.greater-class.ensures ∙ ap₂ max (c.loop-i.invariant.1 m h) (c.field_of.ensures m h)
+      ∙ sym (lowest_on m c.args.list.now c.loop-i.i c.loop-i-test.true),
 )
 
 returns : tie.Need-returns invariant-loop decreases-loop
 returns c m h =
-    let e : c.before.loop.i ≡ length c.before.before.before.before.args.list.now = omega arith in
-    c.before.loop.invariant.1 m h ∙ rw (e, take-length)
+    let e : c.loop-i.i ≡ length c.args.list.now = omega arith in
+    c.loop-i.invariant.1 m h ∙ rw (e, take-length)
 
 pub lowest_class_spec : {M : Type 1} → statement M
 lowest_class_spec =

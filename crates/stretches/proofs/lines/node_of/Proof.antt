@@ -6,7 +6,7 @@ use borrow.Author.Rules.{rules}
 use Rattle.stretches.proofs.lines.node_of.Statement.{statement}
 use Rattle.stretches.proofs.lines.node_of.Tie as tie
 
-field-of-requires : tie.Need-field-of-requires
+field-of-requires : tie.Need-field_of-requires
 field-of-requires c κs = search rules
 
 wide-requires : tie.Need-wide-requires
@@ -14,9 +14,9 @@ wide-requires c κs = search rules
 
 returns : tie.Need-returns
 returns c m h =
-    let p = c.before.before.before.before.requires in
-    let e = c.wide.ensures.0 ∙ c.before.field_of.ensures m h in
-    (e, rw e (node_small _ p.0.2 (line_ok h (p.0.0 c.before.before.before.before.args.i p.0.1))))
+    let p = c.requires in
+    let e = c.wide.ensures.0 ∙ c.field_of.ensures m h in
+    (e, rw e (node_small _ p.0.2 (line_ok h (p.0.0 c.args.i p.0.1))))
 
 pub node_of_spec : {M : Type 1} → statement M
 node_of_spec =

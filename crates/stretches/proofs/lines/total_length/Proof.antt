@@ -13,44 +13,44 @@ use native.Mathlib.Omega.{arith}
 use Rattle.stretches.proofs.lines.total_length.Statement.{statement}
 use Rattle.stretches.proofs.lines.total_length.Tie as tie
 
-abbrev invariant-loop : tie.invariant-loop
+abbrev invariant-loop : tie.invariant-loop-i
 invariant-loop work lines list sum₀ i₀ sum i = (i ≤ length list) × ((m : Map) → Held work lines m → sum ≡ total m (take i list))
 
-abbrev decreases-loop : tie.decreases-loop
+abbrev decreases-loop : tie.decreases-loop-i
 decreases-loop work lines list sum₀ i₀ sum i = length list - i
 
-loop-holds : tie.Need-loop-init invariant-loop decreases-loop
-loop-holds c = (omega arith, λ m h. total_none m c.before.before.args.list.now)
+loop-holds : tie.Need-loop-i-init invariant-loop decreases-loop
+loop-holds c = (omega arith, λ m h. total_none m c.args.list.now)
 
-field-of-requires : tie.Need-field-of-requires invariant-loop decreases-loop
-field-of-requires c κs = let p = c.before.before.before.before.requires in ((p.0.0, c.loop-test.true, omega arith), p.1)
+field-of-requires : tie.Need-field_of-requires invariant-loop decreases-loop
+field-of-requires c κs = let p = c.requires in ((p.0.0, c.loop-i-test.true, omega arith), p.1)
 
-wide-requires : tie.Need-wide-requires invariant-loop decreases-loop
+wide-requires : tie.Need-wide-sum-requires invariant-loop decreases-loop
 wide-requires c κs = search rules
 
-add-sum : tie.Need-overflow-add-sum invariant-loop decreases-loop
+add-sum : tie.Need-overflow_add-sum invariant-loop decreases-loop
 add-sum c =
-    let p = c.before.before.before.before.before.before.requires in
+    let p = c.requires in
     let held = p.1.1 in
-    let few = stretch_fits held c.before.before.before.before.before.before.args.list.now p.0.0 c.before.before.before.loop.i (omega arith) p.0.1 in
-    omega (arith, few, c.before.before.before.loop.invariant.1 p.1.0 held, c.wide.ensures.1)
+    let few = stretch_fits held c.args.list.now p.0.0 c.loop-i.i (omega arith) p.0.1 in
+    omega (arith, few, c.loop-i.invariant.1 p.1.0 held, c.wide-sum.ensures.1)
 
-add-i : tie.Need-overflow-add-i invariant-loop decreases-loop
+add-i : tie.Need-overflow_add-i invariant-loop decreases-loop
 add-i c = search rules
 
-loop-less : tie.Need-loop-smaller invariant-loop decreases-loop
+loop-less : tie.Need-loop-i-smaller invariant-loop decreases-loop
 loop-less c = search rules
 
-loop-again : tie.Need-loop-preserved invariant-loop decreases-loop
+loop-again : tie.Need-loop-i-preserved invariant-loop decreases-loop
 loop-again c = (
   omega arith,
-  λ m h. omega (arith, total_on m c.before.before.before.before.before.before.args.list.now c.before.before.before.loop.i c.before.before.loop-test.true, c.before.before.before.loop.invariant.1 m h, c.wide.ensures.0, c.before.field_of.ensures m h),
+  λ m h. omega (arith, total_on m c.args.list.now c.loop-i.i c.loop-i-test.true, c.loop-i.invariant.1 m h, c.wide-sum.ensures.0, c.field_of.ensures m h),
 )
 
 returns : tie.Need-returns invariant-loop decreases-loop
 returns c m h =
-    let e : c.before.loop.i ≡ length c.before.before.before.before.args.list.now = omega arith in
-    c.before.loop.invariant.1 m h ∙ rw (e, take-length)
+    let e : c.loop-i.i ≡ length c.args.list.now = omega arith in
+    c.loop-i.invariant.1 m h ∙ rw (e, take-length)
 
 pub total_length_spec : {M : Type 1} → statement M
 total_length_spec =

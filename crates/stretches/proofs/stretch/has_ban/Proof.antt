@@ -19,68 +19,68 @@ ban_at : (m : Map) (a b : ℕ) {x y : ℕ} {r t : Bool} → x ≡ a → y ≡ b 
 unfolding banned
 ban_at m a b e f g h = ap₂ (turn_among m.bans) (sym e) (sym f) ∙ sym g ∙ h
 
-abbrev invariant-loop : tie.invariant-loop
+abbrev invariant-loop : tie.invariant-loop-i
 invariant-loop work lines stretch i₀ i = (1 ≤ i) × ((m : Map) → Held work lines m → banned_pair m stretch ≡ banned_pair m (drop (i - 1) stretch))
 
-abbrev decreases-loop : tie.decreases-loop
+abbrev decreases-loop : tie.decreases-loop-i
 decreases-loop work lines stretch i₀ i = length stretch - i
 
-loop-holds : tie.Need-loop-init invariant-loop decreases-loop
+loop-holds : tie.Need-loop-i-init invariant-loop decreases-loop
 loop-holds c = (omega arith, λ m h. refl)
 
-sub_wide : tie.Need-overflow-sub-wide invariant-loop decreases-loop
+sub_wide : tie.Need-overflow_sub-i invariant-loop decreases-loop
 sub_wide c = search rules
 
-mul_wide : tie.Need-overflow-mul-wide invariant-loop decreases-loop
+mul_wide : tie.Need-offset_bounds-stretch-i invariant-loop decreases-loop
 mul_wide c = search rules
 
-shared-slice-read-wide : tie.Need-shared-slice-read-wide invariant-loop decreases-loop
+shared-slice-read-wide : tie.Need-bounds-stretch-i invariant-loop decreases-loop
 shared-slice-read-wide c = search rules
 
-wide-requires : tie.Need-wide-requires invariant-loop decreases-loop
+wide-requires : tie.Need-wide-l-requires invariant-loop decreases-loop
 wide-requires c κs = search rules
 
-mul-wide-2 : tie.Need-overflow-mul-wide-2 invariant-loop decreases-loop
+mul-wide-2 : tie.Need-offset_bounds-stretch-i-in-loop-i invariant-loop decreases-loop
 mul-wide-2 c = search rules
 
-shared-slice-read-wide-2 : tie.Need-shared-slice-read-wide-2 invariant-loop decreases-loop
+shared-slice-read-wide-2 : tie.Need-bounds-stretch-i-in-loop-i invariant-loop decreases-loop
 shared-slice-read-wide-2 c = search rules
 
-wide-requires-2 : tie.Need-wide-requires-2 invariant-loop decreases-loop
+wide-requires-2 : tie.Need-wide-k-requires invariant-loop decreases-loop
 wide-requires-2 c κs = search rules
 
 banned-requires : tie.Need-banned-requires invariant-loop decreases-loop
 banned-requires c κs =
-    let p = c.before.before.before.before.before.before.before.before.requires in
+    let p = c.requires in
     let held = p.1.1 in
-    let i = c.before.before.before.before.before.loop.i in
-    let k = p.0 i c.before.before.before.before.loop-test.true in
-    (omega (arith, c.wide2.ensures.0, k), few held, held.full, (p.1.0.bans, held.bans_held))
+    let i = c.loop-i.i in
+    let k = p.0 i c.loop-i-test.true in
+    (omega (arith, c.wide-k.ensures.0, k), few held, held.full, (p.1.0.bans, held.bans_held))
 
-returns : tie.Need-returns invariant-loop decreases-loop
+returns : tie.Need-returns-then-banned invariant-loop decreases-loop
 returns c m h =
-    let one = c.before.before.before.before.before.before.before.loop in
+    let one = c.loop-i in
     sym (one.invariant.1 m h
-    ∙ pair_here (banned m) _ _ one.invariant.0 c.before.before.before.before.before.before.loop-test.true
-    (ban_at m _ _ c.before.before.before.before.wide.ensures.0 c.before.before.wide2.ensures.0 (c.before.banned.ensures m.bans h.bans_held) c.if1.true))
+    ∙ pair_here (banned m) _ _ one.invariant.0 c.loop-i-test.true
+    (ban_at m _ _ c.wide-l.ensures.0 c.wide-k.ensures.0 (c.banned.ensures m.bans h.bans_held) c.if-banned.true))
 
-add-i : tie.Need-overflow-add-i invariant-loop decreases-loop
+add-i : tie.Need-overflow_add-i invariant-loop decreases-loop
 add-i c = search rules
 
-loop-less : tie.Need-loop-smaller invariant-loop decreases-loop
+loop-less : tie.Need-loop-i-smaller invariant-loop decreases-loop
 loop-less c = search rules
 
-loop-again : tie.Need-loop-preserved invariant-loop decreases-loop
+loop-again : tie.Need-loop-i-preserved invariant-loop decreases-loop
 loop-again c =
-    let one = c.before.before.before.before.before.before.before.loop in (
+    let one = c.loop-i in (
       omega arith,
       λ m h. one.invariant.1 m h
-          ∙ pair_on (banned m) _ _ one.invariant.0 c.before.before.before.before.before.before.loop-test.true
-          (ban_at m _ _ c.before.before.before.before.wide.ensures.0 c.before.before.wide2.ensures.0 (c.before.banned.ensures m.bans h.bans_held) c.if1.false),
+          ∙ pair_on (banned m) _ _ one.invariant.0 c.loop-i-test.true
+          (ban_at m _ _ c.wide-l.ensures.0 c.wide-k.ensures.0 (c.banned.ensures m.bans h.bans_held) c.if-banned.false),
     )
 
-returns-2 : tie.Need-returns-2 invariant-loop decreases-loop
-returns-2 c m h = sym (c.before.loop.invariant.1 m h ∙ pair_none (banned m) _ c.before.loop.i (omega arith))
+returns-2 : tie.Need-returns invariant-loop decreases-loop
+returns-2 c m h = sym (c.loop-i.invariant.1 m h ∙ pair_none (banned m) _ c.loop-i.i (omega arith))
 
 pub has_ban_spec : {M : Type 1} → statement M
 has_ban_spec =

@@ -11,39 +11,39 @@ use native.Mathlib.Omega.{arith}
 use Rattle.stretches.proofs.stretch.has_gap.Statement.{statement}
 use Rattle.stretches.proofs.stretch.has_gap.Tie as tie
 
-abbrev invariant-loop : tie.invariant-loop
+abbrev invariant-loop : tie.invariant-loop-i
 invariant-loop work lines stretch i₀ i = (1 ≤ i) × ((m : Map) → Held work lines m → gap m stretch ≡ gap m (drop (i - 1) stretch))
 
-abbrev decreases-loop : tie.decreases-loop
+abbrev decreases-loop : tie.decreases-loop-i
 decreases-loop work lines stretch i₀ i = length stretch - i
 
-loop-holds : tie.Need-loop-init invariant-loop decreases-loop
+loop-holds : tie.Need-loop-i-init invariant-loop decreases-loop
 loop-holds c = (omega arith, λ m h. refl)
 
-sub-field-of : tie.Need-overflow-sub-field-of invariant-loop decreases-loop
+sub-field-of : tie.Need-overflow_sub-i invariant-loop decreases-loop
 sub-field-of c = search rules
 
-field-of-requires : tie.Need-field-of-requires invariant-loop decreases-loop
-field-of-requires c κs = let p = c.before.before.before.before.requires in ((p.0, omega arith, omega arith), p.1)
+field-of-requires : tie.Need-field_of-end-requires invariant-loop decreases-loop
+field-of-requires c κs = let p = c.requires in ((p.0, omega arith, omega arith), p.1)
 
-field-of-requires-2 : tie.Need-field-of-requires-2 invariant-loop decreases-loop
-field-of-requires-2 c κs = let p = c.before.before.before.before.before.requires in ((p.0, c.before.loop-test.true, omega arith), p.1)
+field-of-requires-2 : tie.Need-field_of-start-requires invariant-loop decreases-loop
+field-of-requires-2 c κs = let p = c.requires in ((p.0, c.loop-i-test.true, omega arith), p.1)
 
-returns : tie.Need-returns invariant-loop decreases-loop
+returns : tie.Need-returns-then-end-start invariant-loop decreases-loop
 returns c m h =
-    sym (c.before.before.before.before.loop.invariant.1 m h ∙ gap_here m _ _ c.before.before.before.before.loop.invariant.0 c.before.before.before.loop-test.true (λ e. c.if1.true (c.before.before.field_of.ensures m h ∙ e ∙ sym (c.before.field-of2.ensures m h))))
+    sym (c.loop-i.invariant.1 m h ∙ gap_here m _ _ c.loop-i.invariant.0 c.loop-i-test.true (λ e. c.if-end-start.true (c.field_of-end.ensures m h ∙ e ∙ sym (c.field_of-start.ensures m h))))
 
-add-i : tie.Need-overflow-add-i invariant-loop decreases-loop
+add-i : tie.Need-overflow_add-i invariant-loop decreases-loop
 add-i c = search rules
 
-loop-less : tie.Need-loop-smaller invariant-loop decreases-loop
+loop-less : tie.Need-loop-i-smaller invariant-loop decreases-loop
 loop-less c = search rules
 
-loop-again : tie.Need-loop-preserved invariant-loop decreases-loop
-loop-again c = (omega arith, λ m h. c.before.before.before.before.loop.invariant.1 m h ∙ gap_on m _ _ c.before.before.before.before.loop.invariant.0 c.before.before.before.loop-test.true (sym (c.before.before.field_of.ensures m h) ∙ c.if1.false ∙ c.before.field-of2.ensures m h))
+loop-again : tie.Need-loop-i-preserved invariant-loop decreases-loop
+loop-again c = (omega arith, λ m h. c.loop-i.invariant.1 m h ∙ gap_on m _ _ c.loop-i.invariant.0 c.loop-i-test.true (sym (c.field_of-end.ensures m h) ∙ c.if-end-start.false ∙ c.field_of-start.ensures m h))
 
-returns-2 : tie.Need-returns-2 invariant-loop decreases-loop
-returns-2 c m h = sym (c.before.loop.invariant.1 m h ∙ pair_none (apart m) _ c.before.loop.i (omega arith))
+returns-2 : tie.Need-returns invariant-loop decreases-loop
+returns-2 c m h = sym (c.loop-i.invariant.1 m h ∙ pair_none (apart m) _ c.loop-i.i (omega arith))
 
 pub has_gap_spec : {M : Type 1} → statement M
 has_gap_spec =

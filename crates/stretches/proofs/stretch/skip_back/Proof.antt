@@ -13,45 +13,45 @@ use native.Mathlib.Omega.{arith}
 use Rattle.stretches.proofs.stretch.skip_back.Statement.{statement}
 use Rattle.stretches.proofs.stretch.skip_back.Tie as tie
 
-abbrev invariant-loop : tie.invariant-loop
+abbrev invariant-loop : tie.invariant-loop-at
 invariant-loop work lines stretch offset left₀ at₀ left at =
     (at ≤ length stretch) × ((m : Map) → Held work lines m → skip m offset (reverse stretch) ≡ skip m left (reverse (take at stretch)))
 
-abbrev decreases-loop : tie.decreases-loop
+abbrev decreases-loop : tie.decreases-loop-at
 decreases-loop work lines stretch offset left₀ at₀ left at = at
 
-loop-holds : tie.Need-loop-init invariant-loop decreases-loop
+loop-holds : tie.Need-loop-at-init invariant-loop decreases-loop
 loop-holds c =
-    let a = c.before.before.args in
+    let a = c.args in
     (omega arith, λ m h. ap (λ (ls : List ℕ). skip m a.offset (reverse ls)) (sym (take-length a.stretch.now)))
 
-sub-field-of : tie.Need-overflow-sub-field-of invariant-loop decreases-loop
+sub-field-of : tie.Need-overflow_sub-at invariant-loop decreases-loop
 sub-field-of c = search rules
 
-field-of-requires : tie.Need-field-of-requires invariant-loop decreases-loop
-field-of-requires c κs = let p = c.before.before.before.before.requires in ((p.0, omega (arith, c.before.loop.invariant.0, c.loop-test.true), omega arith), p.1)
+field-of-requires : tie.Need-field_of-length-requires invariant-loop decreases-loop
+field-of-requires c κs = let p = c.requires in ((p.0, omega (arith, c.loop-at.invariant.0, c.loop-at-test.true), omega arith), p.1)
 
-returns : tie.Need-returns invariant-loop decreases-loop
+returns : tie.Need-returns-then-left-length invariant-loop decreases-loop
 returns c = (
-  c.before.before.before.loop.invariant.0,
-  λ m h. c.before.before.before.loop.invariant.1 m h ∙ back_stop m _ _ _ c.before.before.loop-test.true c.before.before.before.loop.invariant.0 (rw (c.before.field_of.ensures m h) at c.if1.true),
+  c.loop-at.invariant.0,
+  λ m h. c.loop-at.invariant.1 m h ∙ back_stop m _ _ _ c.loop-at-test.true c.loop-at.invariant.0 (rw (c.field_of-length.ensures m h) at c.if-left-length.true),
 )
 
-sub_at : tie.Need-overflow-sub-at invariant-loop decreases-loop
+sub_at : tie.Need-overflow_sub-at-in-loop-at invariant-loop decreases-loop
 sub_at c = search rules
 
-loop-less : tie.Need-loop-smaller invariant-loop decreases-loop
+loop-less : tie.Need-loop-at-smaller invariant-loop decreases-loop
 loop-less c = search rules
 
-loop-again : tie.Need-loop-preserved invariant-loop decreases-loop
+loop-again : tie.Need-loop-at-preserved invariant-loop decreases-loop
 loop-again c = (
   omega arith,
-  λ m h. c.before.before.before.loop.invariant.1 m h ∙ rw (← c.before.field_of.ensures m h) at
-      (back_on m c.before.before.before.before.before.before.args.stretch.now c.before.before.before.loop.left c.before.before.before.loop.at c.before.before.loop-test.true c.before.before.before.loop.invariant.0 (rw (c.before.field_of.ensures m h) at c.if1.false)),
+  λ m h. c.loop-at.invariant.1 m h ∙ rw (← c.field_of-length.ensures m h) at
+      (back_on m c.args.stretch.now c.loop-at.left c.loop-at.at c.loop-at-test.true c.loop-at.invariant.0 (rw (c.field_of-length.ensures m h) at c.if-left-length.false)),
 )
 
-returns-2 : tie.Need-returns-2 invariant-loop decreases-loop
-returns-2 c = (c.before.loop.invariant.0, λ m h. c.before.loop.invariant.1 m h ∙ back_none m _ _ c.before.loop.at (omega arith))
+returns-2 : tie.Need-returns invariant-loop decreases-loop
+returns-2 c = (c.loop-at.invariant.0, λ m h. c.loop-at.invariant.1 m h ∙ back_none m _ _ c.loop-at.at (omega arith))
 
 pub skip_back_spec : {M : Type 1} → statement M
 skip_back_spec =
