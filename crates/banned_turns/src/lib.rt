@@ -1,6 +1,7 @@
 // The banned turns in the work area: those from one line are a chain, the last one first. They are turns of the mirrored map: the turn that is banned
 // from line `l` into line `k` of the map stands there as one from line `k` into line `l`, once, however often the map lists it.
 #![tactic(auto)]
+
 ghost use Rattle.std.specs.Prelude.{◌≡◌, List, ℕ, ◌≤◌, ◌<◌, length};
 ghost use Rattle.model.specs.Map.{Turn, greatest_ban_count, greatest_line_count, fitting};
 ghost use Rattle.model.specs.Lines.{turn_among};

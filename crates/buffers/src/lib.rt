@@ -1,5 +1,6 @@
 // Buffers and numbers, for every crate above: parts filled and copied, numbers of seven bits, and numbers of two, three and four bytes.
 #![tactic(auto)]
+
 ghost use Rattle.model.specs.Work.{placed};
 ghost use Rattle.std.specs.Prelude.{◌≡◌, min, ◌+◌, ◌≤◌, ◌<◌, length};
 ghost use Rattle.buffers.specs.Kept.{Filled};

@@ -1,6 +1,7 @@
 // The depot map, read from its bytes into the lent work area. The stages are those of `decode` in crates/model/specs/Map.antt,
 // each called by the one before it.
 #![tactic(auto)]
+
 ghost use Rattle.std.specs.Prelude.{◌≤◌, List, [], length, drop};
 ghost use Rattle.model.specs.Map.{Turn, decode_nodes, decode_lines, decode_bans, ended, greatest_node_count, greatest_line_count, greatest_ban_count};
 ghost use Rattle.model.specs.Work.{work_length};

@@ -1,5 +1,6 @@
 // Whether two nodes have the same pair of codes. Nodes are put into buckets by their codes, and only those of one bucket are compared.
 #![tactic(auto)]
+
 ghost use Rattle.std.specs.Prelude.{◌≡◌, ◌+◌, ◌≤◌, ◌<◌, length};
 ghost use Rattle.model.specs.Map.{same_codes, among, greatest_node_count};
 ghost use Rattle.model.specs.Work.{work_length};

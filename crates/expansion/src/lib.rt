@@ -1,6 +1,7 @@
 // How a search goes on from the line at a place of its queue. A leaving line needs the nearest line that may turn into it, and one more for a tie: so most
 // lines that end at a node have nothing to do there, and of the others only the first two, and the free one, go along all lines that leave it.
 #![tactic(auto)]
+
 ghost use Rattle.std.specs.Prelude.{◌≡◌, length, ℕ, ◌≤◌, ◌<◌};
 ghost use Rattle.work_area.specs.Area.{last_barred_from, search_to, ban_chain};
 ghost use Rattle.model.specs.Map.{greatest_ban_count, Map};

@@ -1,5 +1,6 @@
 // The front of a message (paper 02, W10): the byte count of the map that it is written for, and the sum of the map's bytes.
 #![tactic(auto)]
+
 ghost use Rattle.std.specs.Prelude.{◌≡◌, ◌≤◌, ◌<◌, ◌^◌, length};
 ghost use Rattle.model.specs.Work.{placed};
 ghost use Rattle.model.specs.Front.{front_bytes, same_map};

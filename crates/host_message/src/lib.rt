@@ -1,5 +1,6 @@
 // Messages as a C host holds them: numbers of 32 bits by value (paper 02, W9 and W10). The crate openlr has the functions that it calls.
 #![tactic(auto)]
+
 ghost use Rattle.std.specs.Prelude.{◌≡◌, length};
 ghost use Rattle.model.specs.MessageCall.{opening, closing};
 ghost use Rattle.model.specs.HostMessage.{HostMessage, message_of, host_message, HostStartCall, host_part, HostAdds};

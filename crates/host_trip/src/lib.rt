@@ -1,5 +1,6 @@
 // Demand 3 as a claim about the two functions that a C program calls: what `openlr_write` accepts `openlr_read` hands back exactly.
 #![tactic(auto)]
+
 ghost use Rattle.host_trip.specs.Trip.{TripTells, PairTells};
 
 use openlr::{Lines, openlr_read, openlr_write};

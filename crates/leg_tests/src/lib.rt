@@ -1,6 +1,7 @@
 // The tests of a stretch's legs. A leg may be used if its differences fit and it is its own only reading. First the rows: which legs are sole ways, by searches from their
 // first lines on the map turned round. Then the columns: for what is left, by searches back from where legs end, one for many first lines.
 #![tactic(auto)]
+
 ghost use Rattle.std.specs.Prelude.{◌≡◌, ◌⊎◌, ◌*◌, ◌≤◌, ◌<◌, length};
 ghost use Rattle.model.specs.Map.{Map};
 ghost use Rattle.model.specs.Lines.{Connected};

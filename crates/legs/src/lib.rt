@@ -1,6 +1,7 @@
 // A leg's reading: none, exactly one, or several (paper 01, "What counts as a reading").
 // `read_to` answers for one terminus of a leg, after a search back from it. A caller that asks for many legs of one search uses `first_lines`.
 #![tactic(auto)]
+
 ghost use Rattle.model.specs.Map.{Map};
 ghost use Rattle.fields.specs.Leg.{leg_in};
 ghost use Rattle.legs.specs.Verdict.{TerminusOf, ReadingTo, StandsIn, Judged};

@@ -1,5 +1,6 @@
 // The sum of a map's bytes, which stands in the front of a message (paper 02, W10).
 #![tactic(auto)]
+
 ghost use Rattle.std.specs.Prelude.{◌≡◌, ◌+◌, ◌%◌, ◌^◌, ◌≤◌, ◌<◌, pos, nat_abs, ◌+ℤ◌, ◌*ℤ◌, length, drop};
 ghost use Rattle.model.specs.Front.{sum_modulus, summed, map_sum};
 ghost use Rattle.map_sum.specs.Blocks.{dot, powers, low_weights, high_weights};

@@ -1,5 +1,6 @@
 // Functions of the inner crates as C functions, for the benchmark alone. They are no entry points of the product.
 #![tactic(auto)]
+
 ghost use Rattle.std.specs.Prelude.{◌≡◌, length};
 ghost use Rattle.model.specs.Map.{Map};
 ghost use Rattle.search_cells.specs.Area.{Set};

@@ -1,6 +1,7 @@
 // Messages: several references in one lent buffer, each behind its length (paper 02, W9). What is known of a message beside its buffer is a `Message`, by value;
 // the crate message_start begins one.
 #![tactic(auto)]
+
 ghost use Rattle.std.specs.Prelude.{◌≡◌};
 ghost use Rattle.model.specs.MessageCall.{finished_bytes, opening, closing, Adds, finished_number};
 

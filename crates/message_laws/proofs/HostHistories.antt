@@ -114,14 +114,14 @@ start_meant {mb} {b₀} {h₀} {b₁} call accepted =
     go (StartOutcome.refused r) asked e b =
         absurd (let least = (start_rows mb work_length (length b₀) r asked).least in omega (arith, accepted, ap (λ (h : HostMessage). h.refusal) e))
 
-history : {h₀ h : HostMessage} {b₀ buffer : List ℕ} {calls : List Call} → HostHistory h₀ b₀ calls h buffer →
+history : {h₀ : HostMessage} {b₀ : List ℕ} {h : HostMessage} {buffer : List ℕ} {calls : List Call} → HostHistory h₀ b₀ calls h buffer →
     History (message_of h₀) b₀ calls (message_of h) buffer
 history HostHistory.begun = begun
-history {h₀} {b₀ = b₀} {buffer} {calls} (HostHistory.then {given = given} {a = a} earlier call) =
+history {h₀} {b₀ = b₀} {buffer = buffer} {calls = calls} (HostHistory.then {given = given} {a = a} earlier call) =
     let m = means call in
     subst (λ (k : Message). History (message_of h₀) b₀ calls k buffer) (sym (ap message_of m.told ∙ meant given m.answer))
     (then (history earlier) m.made)
-history {h₀} {h} {b₀} {calls = calls} (HostHistory.not_started earlier call some) =
+history {h₀} {b₀ = b₀} {h = h} {calls = calls} (HostHistory.not_started earlier call some) =
     subst (History (message_of h₀) b₀ calls (message_of h)) (sym (start_refused call some)) (history earlier)
 
 pub begun_meant : {mb b₀ : List ℕ} {calls : List Call} {h : HostMessage} {buffer : List ℕ} → HostBegun mb b₀ calls h buffer →

@@ -50,7 +50,7 @@ lasts mb room later calls n h =
     ap (λ (rs : List (List ℕ)). get_or rs n []) g.is ∙ get_or-append (finished (after mb room calls)) g.more [] n h
 
 -- Calls after calls.
-pub joined : {m₀ m m' : Message} {b₀ buffer buffer' : List ℕ} {calls later : List Call} → History m₀ b₀ calls m buffer →
+pub joined : {m₀ m : Message} {b₀ buffer : List ℕ} {calls later : List Call} {m' : Message} {buffer' : List ℕ} → History m₀ b₀ calls m buffer →
     History m buffer later m' buffer' → History m₀ b₀ (later ++ calls) m' buffer'
 joined h begun = h
 joined h (then earlier call) = then (joined h earlier) call

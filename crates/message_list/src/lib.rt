@@ -1,5 +1,6 @@
 // The references of a message's bytes, as a box receives them (paper 02, W9), behind the front (W10).
 #![tactic(auto)]
+
 ghost use Rattle.std.specs.Prelude.{◌≡◌, ℕ, ◌≤◌, length, drop};
 ghost use Rattle.model.specs.Front.{front_of};
 ghost use Rattle.model.specs.Message.{longest_message, of_length, next, reference_number, start_of_number, end_of_number};

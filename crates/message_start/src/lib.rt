@@ -1,5 +1,6 @@
 // Starting a message for a map (paper 02, W10): `start`, and its parts in the order in which they are asked.
 #![tactic(auto)]
+
 ghost use Rattle.std.specs.Prelude.{◌≡◌, ◌≤◌, ◌<◌, ◌^◌, length};
 ghost use Rattle.model.specs.Map.{decode};
 ghost use Rattle.model.specs.Work.{work_length};

@@ -1,5 +1,6 @@
 // The answers that the reader and the writer give, and messages. What they mean is defined in specs/.
 #![tactic(auto)]
+
 ghost use Rattle.std.specs.Prelude.{◌≡◌};
 ghost use Rattle.model.specs.Refusal.{number_of, place_of, refusal_of};
 

@@ -1,5 +1,6 @@
 // A map opened for a call: read from its bytes into the work area and made ready for searches, or refused. Every entry opens its map here.
 #![tactic(auto)]
+
 ghost use Rattle.std.specs.Prelude.{◌≤◌, length};
 ghost use Rattle.model.specs.Work.{work_length};
 ghost use Rattle.opening.specs.Opened.{MapOpened};

@@ -1,5 +1,6 @@
 // The functions that a C program calls (paper 01, "The product"). include/openlr.h has them for C.
 #![tactic(auto)]
+
 ghost use Rattle.std.specs.Prelude.{◌≡◌, ℕ, ◌*◌, ◌≤◌, List, length, take};
 ghost use Rattle.model.specs.Refusal.{refusal_of};
 ghost use Rattle.model.specs.Reference.{longest_reference};

@@ -1,5 +1,6 @@
 // The bytes of a point along line (paper 02, W5): whether some bytes have that form, and the marks that tell it from a line reference with the same points.
 #![tactic(auto)]
+
 ghost use Rattle.std.specs.Prelude.{◌≡◌, ◌≤◌, ◌<◌, ◌/◌, length, get_or};
 ghost use Rattle.model.specs.Work.{placed};
 ghost use Rattle.model.specs.PointAlong.{shortest_point, greatest_mark};

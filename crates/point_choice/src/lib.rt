@@ -1,6 +1,7 @@
 // The writer's choice of points: where a stretch of `n` lines is cut into good legs. Number 65 * i + j of a table is 1 where the leg from
 // position `i` to position `j` is good.
 #![tactic(auto)]
+
 ghost use Rattle.std.specs.Prelude.{◌+◌, ◌*◌, ◌≤◌, ◌<◌, length};
 ghost use Rattle.point_choice.specs.Cuts.{GoodIn, Fewest, FirstCut, TellsFewest, CutAnswers};
 

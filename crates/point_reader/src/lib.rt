@@ -1,6 +1,7 @@
 // The reader of points along a line (paper 02, W5): `read_point`, and its parts in the order in which they are asked; `read_point_of_message` for those out of a
 // message (W10).
 #![tactic(auto)]
+
 ghost use Rattle.std.specs.Prelude.{◌≡◌, ◌≤◌, length};
 ghost use Rattle.model.specs.Map.{Map, decode};
 ghost use Rattle.model.specs.Outcome.{ReadOutcome};

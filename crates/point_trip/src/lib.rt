@@ -1,5 +1,6 @@
 // The claim of W5 (paper 02) about calls: what `write_point` accepts `read_point` hands back, and nothing else fits the bytes.
 #![tactic(auto)]
+
 ghost use Rattle.point_trip.specs.Told.{as_given, TripTells, PairTells};
 
 use model::{PointReadAnswer, PointWriteAnswer, Refusal};

@@ -1,5 +1,6 @@
 // The writer of points along a line (paper 02, W5): `write_point`, and its parts in the order in which they are asked.
 #![tactic(auto)]
+
 ghost use Rattle.std.specs.Prelude.{◌≡◌, ◌≤◌, length};
 ghost use Rattle.model.specs.Map.{Map, decode};
 ghost use Rattle.model.specs.Work.{work_length};

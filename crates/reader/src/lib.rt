@@ -1,5 +1,6 @@
 // The reader of references (paper 01): `read`, and its parts in the order in which they are asked; `read_of_message` for those out of a message (paper 02, W10).
 #![tactic(auto)]
+
 ghost use Rattle.std.specs.Prelude.{◌≡◌, ℕ, ◌≤◌, ◌<◌, List, length, take};
 ghost use Rattle.model.specs.Map.{Map, decode};
 ghost use Rattle.model.specs.Reference.{reference_at, parse};

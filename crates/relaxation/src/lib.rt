@@ -1,5 +1,6 @@
 // How a search takes a line into account at one line that can follow it: that is reached, or a tie is recorded there.
 #![tactic(auto)]
+
 ghost use Rattle.std.specs.Prelude.{◌≡◌, ℕ, ◌≤◌, ◌<◌, length};
 ghost use Rattle.model.specs.Lines.{line_at};
 ghost use Rattle.model.specs.Map.{greatest_line_count, Map};

@@ -1,5 +1,6 @@
 // Demand 3 as a claim about calls: what `write` accepts `read` hands back exactly, and nothing else fits the bytes.
 #![tactic(auto)]
+
 ghost use Rattle.std.specs.Prelude.{◌≡◌};
 ghost use Rattle.buffers.specs.Decides.{Decides};
 ghost use Rattle.model.specs.Stretch.{stretch_of};

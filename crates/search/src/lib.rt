@@ -3,6 +3,7 @@
 // node, of predecessors and of lengths to a line, here and down to `search_cells`, is said of that map. The crate `ways` reads it as ways of the map itself.
 // `search_cells::adjacency::link` is called once a map, then `search` for each terminus, class and limit.
 #![tactic(auto)]
+
 ghost use Rattle.std.specs.Prelude.{◌≤◌};
 ghost use Rattle.model.specs.Map.{Map};
 ghost use Rattle.model.specs.Reading.{greatest_leg_length};

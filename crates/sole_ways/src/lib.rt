@@ -2,6 +2,7 @@
 // their end, row by row, by searches from the first line of a row. A search serves many legs of its row, and a leg that is a sole way tells so of those that start later and
 // end where it does.
 #![tactic(auto)]
+
 ghost use Rattle.std.specs.Prelude.{◌≡◌, ◌+◌, ◌*◌, ◌≤◌, ◌<◌, min, length};
 ghost use Rattle.model.specs.Map.{Map};
 ghost use Rattle.model.specs.Lines.{Connected};

@@ -1,5 +1,6 @@
 // The map in the work area, turned round in place. Searches go along the mirrored map: after a turn they go along the map itself.
 #![tactic(auto)]
+
 ghost use Rattle.model.specs.Map.{Map};
 ghost use Rattle.search_cells.specs.Area.{Set};
 ghost use Rattle.turning.specs.Turned.{Turned};

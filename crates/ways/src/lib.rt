@@ -1,6 +1,7 @@
 // What a search back from a terminus has found: the ways of least length from a line to it. The search went along the mirrored map; here the ways are
 // those of the map itself.
 #![tactic(auto)]
+
 ghost use Rattle.work_area.specs.Area.{Held};
 ghost use Rattle.work_area.specs.Mirror.{mirror};
 ghost use Rattle.model.specs.Map.{greatest_line_count, Map};

@@ -1,6 +1,7 @@
 // The work area: where everything stands in it, how a line's numbers are read, and how it is cleared.
 // specs/Area.antt has the same places by name. No other file has an address.
 #![tactic(auto)]
+
 ghost use Rattle.std.specs.Prelude.{◌≡◌, ◌+◌, ◌≤◌, ◌<◌, length, get_or};
 ghost use Rattle.model.specs.Map.{greatest_line_count};
 ghost use Rattle.model.specs.Work.{cleared, work_length};

@@ -1,5 +1,6 @@
 // The writer of references (paper 01): `write`, and its parts in the order in which they are asked.
 #![tactic(auto)]
+
 ghost use Rattle.std.specs.Prelude.{◌≤◌, ◌<◌, length};
 ghost use Rattle.model.specs.Map.{Map, decode};
 ghost use Rattle.model.specs.Lines.{Connected};

@@ -114,16 +114,15 @@ first-leaving-requires c κs =
     (mirror q.0, mirrored set.held, set.chained, (c.node_of-v.ensures q.0 set.held).1)
 
 loop-holds : tie.Need-loop-at-init invariant-loop decreases-loop
-loop-holds c =
-    (
-      refl,
-      refl,
-      λ m joint o noted sole.
-          let set = o.worked.set in
-          let v = c.node_of-v.ensures m set.held in
-          testing_start joint c.first_leaving-at.result
-          (c.first_leaving-at.ensures (mirror m) (mirrored set.held) set.chained v.1 ∙ ap (λ (x : ℕ). latest (mirror m) x c.args.lines) v.0) o,
-    )
+loop-holds c = (
+  refl,
+  refl,
+  λ m joint o noted sole.
+      let set = o.worked.set in
+      let v = c.node_of-v.ensures m set.held in
+      testing_start joint c.first_leaving-at.result
+      (c.first_leaving-at.ensures (mirror m) (mirrored set.held) set.chained v.1 ∙ ap (λ (x : ℕ). latest (mirror m) x c.args.lines) v.0) o,
+)
 
 -- The legs after the test of the next last line.
 column : (c : tie.After-test_candidate invariant-loop decreases-loop) →
@@ -200,15 +199,14 @@ loop-less c =
     )
 
 loop-again : tie.Need-loop-at-preserved invariant-loop decreases-loop
-loop-again c =
-    (
-      c.test_candidate.auto.work ∙ c.loop-at.invariant.0,
-      c.test_candidate.auto.table ∙ c.loop-at.invariant.1,
-      λ m joint o noted sole.
-          let r = column c.before.before.before.before.before m joint o noted sole in
-          testing_on joint (c.loop-at.invariant.2 m joint o noted sole) c.loop-at-test.true
-          (c.next_leaving-at.ensures (mirror m) (mirrored r.worked.set.held) r.worked.set.chained) r,
-    )
+loop-again c = (
+  c.test_candidate.auto.work ∙ c.loop-at.invariant.0,
+  c.test_candidate.auto.table ∙ c.loop-at.invariant.1,
+  λ m joint o noted sole.
+      let r = column c.before.before.before.before.before m joint o noted sole in
+      testing_on joint (c.loop-at.invariant.2 m joint o noted sole) c.loop-at-test.true
+      (c.next_leaving-at.ensures (mirror m) (mirrored r.worked.set.held) r.worked.set.chained) r,
+)
 
 same_length : tie.Need-shape_of-work invariant-loop decreases-loop
 same_length c = c.loop-at.invariant.0 ∙ c.test_column.auto.work

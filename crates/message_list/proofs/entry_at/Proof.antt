@@ -15,93 +15,93 @@ use Rattle.message_list.proofs.entry_at.Lts as lts
 use Rattle.buffers.proofs.bytes.wide.Reads as wide-reads
 use Rattle.message_list.proofs.entry_of.Reads as entry-of-reads
 
-returns : tie.Need-returns
-returns c = ap next (drop_of_length-le c.before.before.args.message.now c.if1.true) ∙ next_none
+returns : tie.Need-returns-then-message-at
+returns c = ap next (drop_of_length-le c.args.message.now c.if-message-at.true) ∙ next_none
 
-shared-slice-read-wide : tie.Need-shared-slice-read-wide
+shared-slice-read-wide : tie.Need-bounds-message-at
 shared-slice-read-wide c = search rules
 
-wide-requires : tie.Need-wide-requires
+wide-requires : tie.Need-wide-first-requires
 wide-requires c κs = search rules
 
-cast-first : tie.Need-overflow-cast-first
+cast-first : tie.Need-overflow_cast-first
 cast-first c = search rules
 
-add-entry-of : tie.Need-overflow-add-entry-of
+add-entry-of : tie.Need-overflow_add-at
 add-entry-of c = search rules
 
-entry-of-requires : tie.Need-entry-of-requires
+entry-of-requires : tie.Need-entry_of-requires
 entry-of-requires c κs = search rules
 
-returns-2 : tie.Need-returns-2
+returns-2 : tie.Need-returns-then-first-lt-GROUP
 returns-2 c =
-    let a = c.before.before.before.before.before.before.args in
+    let a = c.args in
     let message = a.message.now in
-    let first : c.before.before.wide.result ≡ get_or message a.at 0 = c.before.before.wide.ensures.0 in
+    let first : c.wide-first.result ≡ get_or message a.at 0 = c.wide-first.ensures.0 in
     let is = one_byte_next message a.at (omega arith) (omega arith) in
     subst (λ (what : Next). EntryIs message what c.entry_of.result)
     (sym (is ∙ ap (λ (x : ℕ). of_length x (drop (a.at + 1) message)) (sym first))) c.entry_of.ensures
 
-sub-if3 : tie.Need-overflow-sub-if3
+sub-if3 : tie.Need-overflow_sub-message
 sub-if3 c = search rules
 
-returns-3 : tie.Need-returns-3
+returns-3 : tie.Need-returns-then-message-at-lt2
 returns-3 c =
-    let a = c.before.before.before.before.before.before.args in
-    let first : c.before.before.wide.result ≡ get_or a.message.now a.at 0 = c.before.before.wide.ensures.0 in
+    let a = c.args in
+    let first : c.wide-first.result ≡ get_or a.message.now a.at 0 = c.wide-first.ensures.0 in
     cut_length a.message.now a.at (omega arith) (omega arith) (omega arith)
 
-add_wide : tie.Need-overflow-add-wide
+add_wide : tie.Need-overflow_add-at-2
 add_wide c = search rules
 
-shared-slice-read-wide-2 : tie.Need-shared-slice-read-wide-2
+shared-slice-read-wide-2 : tie.Need-bounds-message-at-2
 shared-slice-read-wide-2 c = search rules
 
-wide-requires-2 : tie.Need-wide-requires-2
+wide-requires-2 : tie.Need-wide-second-requires
 wide-requires-2 c κs = search rules
 
-cast-second : tie.Need-overflow-cast-second
+cast-second : tie.Need-overflow_cast-second
 cast-second c = search rules
 
-returns-4 : tie.Need-returns-4
+returns-4 : tie.Need-returns-then-second-eq0
 returns-4 c =
-    let a = c.before.before.before.before.before.before.before.before.before.args in
-    let first : c.before.before.before.before.before.wide.result ≡ get_or a.message.now a.at 0 =
-    c.before.before.before.before.before.wide.ensures.0 in
-    let second : c.before.wide2.result ≡ get_or a.message.now (a.at + 1) 0 = c.before.wide2.ensures.0 in
+    let a = c.args in
+    let first : c.wide-first.result ≡ get_or a.message.now a.at 0 =
+    c.wide-first.ensures.0 in
+    let second : c.wide-second.result ≡ get_or a.message.now (a.at + 1) 0 = c.wide-second.ensures.0 in
     padded_length a.message.now a.at (omega arith) (omega arith) (omega arith) (omega arith)
 
-returns-5 : tie.Need-returns-5
+returns-5 : tie.Need-returns-then-second-ge-GROUP
 returns-5 c =
-    let a = c.before.before.before.before.before.before.before.before.before.before.args in
-    let first : c.before.before.before.before.before.before.wide.result ≡ get_or a.message.now a.at 0 =
-    c.before.before.before.before.before.before.wide.ensures.0 in
-    let second : c.before.before.wide2.result ≡ get_or a.message.now (a.at + 1) 0 = c.before.before.wide2.ensures.0 in
+    let a = c.args in
+    let first : c.wide-first.result ≡ get_or a.message.now a.at 0 =
+    c.wide-first.ensures.0 in
+    let second : c.wide-second.result ≡ get_or a.message.now (a.at + 1) 0 = c.wide-second.ensures.0 in
     longer_length a.message.now a.at (omega arith) (omega arith) (omega arith) (omega arith)
 
-add-entry-of-2 : tie.Need-overflow-add-entry-of-2
+add-entry-of-2 : tie.Need-overflow_add-at-3
 add-entry-of-2 c = search rules
 
-mul-entry-of : tie.Need-overflow-mul-entry-of
+mul-entry-of : tie.Need-overflow_mul-second
 mul-entry-of c = search rules
 
-add-entry-of-3 : tie.Need-overflow-add-entry-of-3
+add-entry-of-3 : tie.Need-overflow_add-first
 add-entry-of-3 c = search rules
 
-entry-of-requires-2 : tie.Need-entry-of-requires-2
+entry-of-requires-2 : tie.Need-entry_of-requires-2
 entry-of-requires-2 c κs = search rules
 
-returns-6 : tie.Need-returns-6
+returns-6 : tie.Need-returns
 returns-6 c =
-    let a = c.before.before.before.before.before.before.before.before.before.before.before.args in
+    let a = c.args in
     let message = a.message.now in
-    let w = c.before.before.before.before.before.before.before.wide in
-    let v = c.before.before.before.wide2 in
+    let w = c.wide-first in
+    let v = c.wide-second in
     let first : w.result ≡ get_or message a.at 0 = w.ensures.0 in
     let second : v.result ≡ get_or message (a.at + 1) 0 = v.ensures.0 in
     let is = two_byte_next message a.at (omega arith) (omega arith) (omega arith) (omega arith) (λ z. omega arith) (omega arith) in
-    subst (λ (what : Next). EntryIs message what c.entry-of2.result)
-    (sym (is ∙ ap₂ (λ (x y : ℕ). of_length (x - 128 + y * 128) (drop (a.at + 2) message)) (sym first) (sym second))) c.entry-of2.ensures
+    subst (λ (what : Next). EntryIs message what c.entry_of-2.result)
+    (sym (is ∙ ap₂ (λ (x y : ℕ). of_length (x - 128 + y * 128) (drop (a.at + 2) message)) (sym first) (sym second))) c.entry_of-2.ensures
 
 pub entry_at_spec : {M : Type 1} → statement M
 entry_at_spec =

@@ -10,19 +10,19 @@ use Rattle.message_list.proofs.place.Reads as reads
 use Rattle.message_list.proofs.place.Lts as lts
 use Rattle.message_list.proofs.place_in.Reads as place-in-reads
 
-slice-aggregate-place-in : tie.Need-slice-aggregate-place-in
-slice-aggregate-place-in c = sym (length-take-le 16_384 c.before.before.before.args.message.now (omega arith))
+slice-aggregate-place-in : tie.Need-slice_bounds-place_in-end
+slice-aggregate-place-in c = sym (length-take-le 16_384 c.args.message.now (omega arith))
 
-place-in-requires : tie.Need-place-in-requires
-place-in-requires c κs = omega (arith, length-take-le 16_384 c.before.before.before.args.message.now (omega arith))
+place-in-requires : tie.Need-place_in-requires
+place-in-requires c κs = omega (arith, length-take-le 16_384 c.args.message.now (omega arith))
 
-returns : tie.Need-returns
+returns : tie.Need-returns-then-message-gt-LONGEST_MESSAGE
 returns c = (c.IsPlace-in.ensures.0 ∙ cut_start _ _, c.IsPlace-in.ensures.1 ∙ cut_end _ _)
 
-place-in-requires-2 : tie.Need-place-in-requires-2
+place-in-requires-2 : tie.Need-place_in-requires-2
 place-in-requires-2 c κs = search rules
 
-returns-2 : tie.Need-returns-2
+returns-2 : tie.Need-returns
 returns-2 c = search rules
 
 pub place_spec : {M : Type 1} → statement M

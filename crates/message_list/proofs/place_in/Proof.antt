@@ -10,28 +10,27 @@ use Rattle.message_list.proofs.place_in.Lts as lts
 use Rattle.front.proofs.read_front.Reads as read-front-reads
 use Rattle.message_list.proofs.place_behind.Reads as place-behind-reads
 
-read-front-requires : tie.Need-read-front-requires
+read-front-requires : tie.Need-read_front-requires
 read-front-requires c κs = search rules
 
-enum-known-behind : tie.Need-enum-known-behind
+enum-known-behind : tie.Need-enum_known-behind
 enum-known-behind c = search rules
 
-place-behind-requires : tie.Need-place-behind-requires
+place-behind-requires : tie.Need-place_behind-requires
 place-behind-requires c κs =
-    let h = c.before in
-    let r = subst (FrontIs _) h.behind.given.1 h.before.before.read-front.ensures in
-    ((h.before.before.before.before.requires, r.1), (h.behind.given.0.0, h.behind.given.0.1.0, r.0))
+    let r = subst (FrontIs _) c.in-Read.is c.read_front.ensures in
+    ((c.requires, r.1), (c.in-Read.field-0, c.in-Read.field-1, r.0))
 
-enum_told : tie.Need-enum-told
+enum_told : tie.Need-enum_told-1
 enum_told c = search rules
 
-returns : tie.Need-returns
+returns : tie.Need-returns-in-Read
 returns c = search rules
 
-returns-2 : tie.Need-returns-2
+returns-2 : tie.Need-returns-in-Unreadable
 returns-2 c =
-    let r = subst (FrontIs _) c.enum_told.given.1 c.before.before.read-front.ensures in
-    asked_unread _ _ c.before.before.before.before.requires r
+    let r = subst (FrontIs _) c.in-Unreadable.is c.read_front.ensures in
+    asked_unread _ _ c.requires r
 
 pub place_in_spec : {M : Type 1} → statement M
 place_in_spec =

@@ -12,27 +12,27 @@ use Rattle.message_list.proofs.received.Reads as reads
 use Rattle.message_list.proofs.received.Lts as lts
 use Rattle.message_list.proofs.place.Reads as place-reads
 
-there : (c : tie.After-place) → Placed c.before.before.args.n c.before.before.args.message.now
+there : (c : tie.After-place-part) → Placed c.args.n c.args.message.now
 there c = placed_in _ _
 
-place-requires : tie.Need-place-requires
+place-requires : tie.Need-place-part-requires
 place-requires c κs = search rules
 
-sub-result : tie.Need-overflow-sub-result
-sub-result c = omega (arith, (there c).counted, c.place.ensures)
+sub-result : tie.Need-slice_bounds-result-count
+sub-result c = omega (arith, (there c).counted, c.place-part.ensures)
 
-part-result-start : tie.Need-slice-bounds-result-start
-part-result-start c = omega (arith, (there c).counted, c.place.ensures)
+part-result-start : tie.Need-slice_bounds-result-start
+part-result-start c = omega (arith, (there c).counted, c.place-part.ensures)
 
-part-result-end : tie.Need-slice-bounds-result-end
-part-result-end c = omega (arith, (there c).inside, c.place.ensures)
+part-result-end : tie.Need-slice_bounds-result-end
+part-result-end c = omega (arith, (there c).inside, c.place-part.ensures)
 
 returns : tie.Need-returns
 returns c =
     let p = there c.before in
-    let r = c.before.place in
-    let n = c.before.before.before.args.n in
-    let message = c.before.before.before.args.message.now in
+    let r = c.place-part in
+    let n = c.args.n in
+    let message = c.args.message.now in
     let count : r.result.1 - r.result.0 ≡ length (reference_number n message) = omega (arith, p.counted, r.ensures) in
     ap₂ (λ (j k : ℕ). take j (drop k message)) count r.ensures.0 ∙ p.itself
 

@@ -24,14 +24,13 @@ abbrev decreases-loop : tie.decreases-loop-i
 decreases-loop work₀ lines stretch tests arrivals table₀ left₀ row₀ i₀ work table left row i = length stretch - i
 
 loop-holds : tie.Need-loop-i-init invariant-loop decreases-loop
-loop-holds c =
-    (
-      omega arith,
-      omega (arith, legs_none (length c.args.stretch.now)),
-      refl,
-      refl,
-      λ m set joint arriving. (ordered_start c.requires.0.3 set, λ some. absurd (omega arith)),
-    )
+loop-holds c = (
+  omega arith,
+  omega (arith, legs_none (length c.args.stretch.now)),
+  refl,
+  refl,
+  λ m set joint arriving. (ordered_start c.requires.0.3 set, λ some. absurd (omega arith)),
+)
 
 same_length : tie.Need-shape_of-work-then-left-eq0 invariant-loop decreases-loop
 same_length c = c.loop-i.invariant.2

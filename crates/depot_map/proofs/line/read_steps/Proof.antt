@@ -59,12 +59,11 @@ returns-3 c =
     }
 
 sector-requires : tie.Need-sector-requires
-sector-requires c κs =
-    (
-      (field_range c.field-east.ensures c.in-Got.is).1,
-      (field_range c.field-north.ensures c.in-Got-north.is).1,
-      not_both _ _ (sym c.both_zero.ensures ∙ c.if-both_zero.false),
-    )
+sector-requires c κs = (
+  (field_range c.field-east.ensures c.in-Got.is).1,
+  (field_range c.field-north.ensures c.in-Got-north.is).1,
+  not_both _ _ (sym c.both_zero.ensures ∙ c.if-both_zero.false),
+)
 
 returns-4 : tie.Need-returns
 unfolding read_steps fault_of go_on

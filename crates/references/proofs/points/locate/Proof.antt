@@ -126,13 +126,12 @@ loop-less : tie.Need-loop-k-smaller invariant-loop decreases-loop
 loop-less c = search rules
 
 loop-again : tie.Need-loop-k-preserved invariant-loop decreases-loop
-loop-again c =
-    (
-      omega arith,
-      kept_set c.args.points _ _ (omega arith) c.loop-k.invariant.1,
-      tracked_more _ _ _ c.loop-k.places _ c.loop-k.k (omega (arith, (kept c.before.before.before.before.before).same, c.requires.3)) c.loop-k.invariant.2
-          (node_found (next-sought-found c.before) c.in-At-find.is),
-    )
+loop-again c = (
+  omega arith,
+  kept_set c.args.points _ _ (omega arith) c.loop-k.invariant.1,
+  tracked_more _ _ _ c.loop-k.places _ c.loop-k.k (omega (arith, (kept c.before.before.before.before.before).same, c.requires.3)) c.loop-k.invariant.2
+      (node_found (next-sought-found c.before) c.in-At-find.is),
+)
 
 same-length-2 : tie.Need-shape_of-places invariant-loop decreases-loop
 same-length-2 c = (kept c.before).same

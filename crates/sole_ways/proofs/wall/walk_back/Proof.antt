@@ -42,11 +42,10 @@ sub-k : tie.Need-overflow_sub-k invariant-loop decreases-loop
 sub-k c = search rules
 
 loop-holds : tie.Need-loop-k-init invariant-loop decreases-loop
-loop-holds c =
-    (
-      omega (arith, c.requires.0.2),
-      λ m b set f e j. back_start f.searched j.known (omega (arith, j.near, limit_of f e)) (class_held _ set j.known c.field-class.ensures),
-    )
+loop-holds c = (
+  omega (arith, c.requires.0.2),
+  λ m b set f e j. back_start f.searched j.known (omega (arith, j.near, limit_of f e)) (class_held _ set j.known c.field-class.ensures),
+)
 
 mul_wide : tie.Need-offset_bounds-stretch-k invariant-loop decreases-loop
 mul_wide c = search rules
