@@ -16,7 +16,7 @@ WORD = r"[\w'₀-₉-]+"
 
 
 def norm(name):
-    name = re.sub(r"_lem$", "", name).replace("_", "-").lower()
+    name = re.sub(r"^Is(?=[A-Z])", "", re.sub(r"_lem$", "", name)).replace("_", "-").lower()
     for old, new in (("overflow-", ""), ("in-bounds-", "")):
         if name.startswith(old):
             name = new + name[len(old) :]
@@ -123,7 +123,8 @@ def turn(path, r, where):
             return block
         here = head.group(2) if inner else at_goal.get(head.group(3)) if head.group(2) else head.group(3)
         param = re.match(r"(?:pub |abbrev )*" + WORD + r" : \((" + WORD + r") : tie\.", block)
-        me = inner.group(1) if inner else param.group(1) if param else "c"
+        clause = re.search(r"(?m)^" + re.escape(head.group(1)) + " (" + WORD + ") ", block)
+        me = inner.group(1) if inner else param.group(1) if param else clause.group(1) if clause and not head.group(2) else "c"
         made = re.match(r"(?:abbrev )?(" + WORD + r") : (?:\(\w+ : )?tie\.(" + WORD + r")[^→\n]*→ tie\.(" + WORD + r")[^\n]*\n", block)
         if made and made.group(1) in gives:
             n = depth(made.group(2), made.group(3))

@@ -18,22 +18,22 @@ use Rattle.host_message.proofs.told.Reads as told-reads
 meant-requires : tie.Need-meant-requires
 meant-requires c κs = search rules
 
-add-bytes-requires : tie.Need-add-bytes-requires
+add-bytes-requires : tie.Need-add_bytes-requires
 add-bytes-requires c κs = search rules
 
 told-requires : tie.Need-told-requires
 told-requires c κs =
-    let a = c.before.before.add-bytes in
-    subst NarrowAnswer (sym a.ensures.answers) (narrow_adding _ _ _ c.before.before.before.before.meant.ensures.1)
+    let a = c.add_bytes in
+    subst NarrowAnswer (sym a.ensures.answers) (narrow_adding _ _ _ c.meant.ensures.1)
 
-same_length : tie.Need-same-length
+same_length : tie.Need-shape_of-buffer
 same_length c = search rules
 
 returns : tie.Need-returns
 returns c =
-    let a = c.before.before.before.add-bytes in
-    let m = c.before.before.before.before.before.meant.ensures.0 in
-    let g = c.before.before.before.before.before.before.before.before.args in
+    let a = c.add_bytes in
+    let m = c.meant.ensures.0 in
+    let g = c.args in
     let buffer = g.buffer.now in
     let portion = g.portion.now in
     record {

@@ -12,21 +12,21 @@ use Rattle.host_message.proofs.begin.Lts as lts
 use Rattle.host_message.proofs.told.Reads as told-reads
 use Rattle.message_start.proofs.start.Reads as start-reads
 
-slice-aggregate-start : tie.Need-slice-aggregate-start
+slice-aggregate-start : tie.Need-slice_bounds-start-end
 slice-aggregate-start c = search rules
 
 start-requires : tie.Need-start-requires
 start-requires c κs = search rules
 
 told-requires : tie.Need-told-requires
-told-requires c κs = narrow_start _ c.before.before.before.start.ensures
+told-requires c κs = narrow_start _ c.start.ensures
 
-same_length : tie.Need-same-length
+same_length : tie.Need-shape_of-buffer
 same_length c = search rules
 
 returns : tie.Need-returns
 unfolding as_message
-returns c = host_start c.before.before.before.before.start.ensures (length-replicate {A = ℕ} work_length 0) c.told.ensures
+returns c = host_start c.start.ensures (length-replicate {A = ℕ} work_length 0) c.told.ensures
 
 pub begin_spec : {M : Type 1} → statement M
 begin_spec =

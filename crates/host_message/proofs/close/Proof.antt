@@ -16,14 +16,14 @@ use Rattle.host_message.proofs.told.Reads as told-reads
 meant-requires : tie.Need-meant-requires
 meant-requires c κs = search rules
 
-close-reference-requires : tie.Need-close-reference-requires
+close-reference-requires : tie.Need-close_reference-requires
 close-reference-requires c κs = search rules
 
 told-requires : tie.Need-told-requires
-told-requires c κs = subst NarrowAnswer (sym c.close-reference.ensures) (narrow_closing _ c.before.meant.ensures.1)
+told-requires c κs = subst NarrowAnswer (sym c.close_reference.ensures) (narrow_closing _ c.meant.ensures.1)
 
 returns : tie.Need-returns
-returns c = c.told.ensures ∙ ap (host_message _) (c.before.close-reference.ensures ∙ ap closing c.before.before.meant.ensures.0)
+returns c = c.told.ensures ∙ ap (host_message _) (c.close_reference.ensures ∙ ap closing c.meant.ensures.0)
 
 pub close_spec : {M : Type 1} → statement M
 close_spec =

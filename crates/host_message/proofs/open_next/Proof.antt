@@ -16,14 +16,14 @@ use Rattle.host_message.proofs.told.Reads as told-reads
 meant-requires : tie.Need-meant-requires
 meant-requires c κs = search rules
 
-open-reference-requires : tie.Need-open-reference-requires
+open-reference-requires : tie.Need-open_reference-requires
 open-reference-requires c κs = search rules
 
 told-requires : tie.Need-told-requires
-told-requires c κs = subst NarrowAnswer (sym c.open-reference.ensures) (narrow_opening _ c.before.meant.ensures.1)
+told-requires c κs = subst NarrowAnswer (sym c.open_reference.ensures) (narrow_opening _ c.meant.ensures.1)
 
 returns : tie.Need-returns
-returns c = c.told.ensures ∙ ap (host_message _) (c.before.open-reference.ensures ∙ ap opening c.before.before.meant.ensures.0)
+returns c = c.told.ensures ∙ ap (host_message _) (c.open_reference.ensures ∙ ap opening c.meant.ensures.0)
 
 pub open_next_spec : {M : Type 1} → statement M
 open_next_spec =

@@ -15,29 +15,29 @@ use Rattle.host_message.proofs.part_of.Lts as lts
 use Rattle.message_list.proofs.place.Reads as place-reads
 
 -- The place lies inside what is used of a message.
-there : (c : tie.After-place) → Placed c.before.before.args.n c.before.before.args.message.now
+there : (c : tie.After-place-part) → Placed c.args.n c.args.message.now
 there c = placed_in _ _
 
-place-requires : tie.Need-place-requires
+place-requires : tie.Need-place-part-requires
 place-requires c κs = search rules
 
-cast-t7 : tie.Need-overflow-cast-t7
-cast-t7 c = search (rules, (there c).counted, (there c).used, c.place.ensures)
+cast-t7 : tie.Need-overflow_cast-result
+cast-t7 c = search (rules, (there c).counted, (there c).used, c.place-part.ensures)
 
-sub-t6 : tie.Need-overflow-sub-t6
-sub-t6 c = omega (arith, (there c).counted, c.place.ensures)
+sub-t6 : tie.Need-overflow_sub-result
+sub-t6 c = omega (arith, (there c).counted, c.place-part.ensures)
 
-cast-t8 : tie.Need-overflow-cast-t8
-cast-t8 c = search (rules, (there c).counted, (there c).used, c.place.ensures)
+cast-t8 : tie.Need-overflow_cast-result-2
+cast-t8 c = search (rules, (there c).counted, (there c).used, c.place-part.ensures)
 
 returns : tie.Need-returns
 unfolding as_part host_part
 returns c =
     let p = there c in
-    let n = c.before.before.args.n in
-    let message = c.before.before.args.message.now in
-    let count : c.place.result.1 - c.place.result.0 ≡ length (reference_number n message) = omega (arith, p.counted, c.place.ensures) in
-    rw (count, c.place.ensures.0)
+    let n = c.args.n in
+    let message = c.args.message.now in
+    let count : c.place-part.result.1 - c.place-part.result.0 ≡ length (reference_number n message) = omega (arith, p.counted, c.place-part.ensures) in
+    rw (count, c.place-part.ensures.0)
 
 pub part_of_spec : {M : Type 1} → statement M
 part_of_spec = tie.close (tie.spec place-requires cast-t7 sub-t6 cast-t8 returns)

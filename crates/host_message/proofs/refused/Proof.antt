@@ -8,12 +8,12 @@ use Rattle.host_message.proofs.refused.Reads as reads
 use Rattle.host_message.proofs.refused.Lts as lts
 use Rattle.model.proofs.number_of.Reads as number-of-reads
 
-number-of-requires : tie.Need-number-of-requires
+number-of-requires : tie.Need-number_of-number-requires
 number-of-requires c κs = search rules
 
 returns : tie.Need-returns
 unfolding host_message as_message
-returns c = simp c.number_of_lem.ensures
+returns c = simp c.number_of-number.ensures
 
 pub refused_spec : {M : Type 1} → statement M
 refused_spec = tie.close (tie.spec number-of-requires returns)

@@ -10,23 +10,23 @@ use Rattle.host_message.proofs.told.Lts as lts
 use Rattle.host_message.proofs.holding.Reads as holding-reads
 use Rattle.host_message.proofs.refused.Reads as refused-reads
 
-enum-known-answer : tie.Need-enum-known-answer
+enum-known-answer : tie.Need-enum_known-answer
 enum-known-answer c = search rules
 
 holding-requires : tie.Need-holding-requires
-holding-requires c κs = subst NarrowAnswer c.before.answer.given.1 c.before.before.before.requires
+holding-requires c κs = subst NarrowAnswer c.in-Now.is c.requires
 
-enum-known-answer-2 : tie.Need-enum-known-answer-2
+enum-known-answer-2 : tie.Need-enum_known-answer-in-Refused-1
 enum-known-answer-2 c = search rules
 
 refused-requires : tie.Need-refused-requires
 refused-requires c κs = search rules
 
-returns : tie.Need-returns
-returns c = c.holding.ensures _ ∙ ap (host_message _) (sym c.before.before.answer.given.1)
+returns : tie.Need-returns-in-Now
+returns c = c.holding.ensures _ ∙ ap (host_message _) (sym c.in-Now.is)
 
-returns-2 : tie.Need-returns-2
-returns-2 c = c.refused.ensures ∙ ap (host_message _) (sym c.before.before.answer2.given.1)
+returns-2 : tie.Need-returns-in-Refused
+returns-2 c = c.refused.ensures ∙ ap (host_message _) (sym c.in-Refused.is)
 
 pub told_spec : {M : Type 1} → statement M
 told_spec =

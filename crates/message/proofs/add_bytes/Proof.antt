@@ -20,77 +20,75 @@ use Rattle.message.proofs.frame.fitting.Reads as fitting-reads
 
 -- ---- there is room
 
-abbrev finished-at : tie.Else2 → ℕ
-finished-at c = c.before.before.before.before.m.given.0.0
+abbrev finished-at : tie.Else-not-fitting → ℕ
+finished-at c = c.in-Open.finished
 
-abbrev count_at : tie.Else2 → ℕ
-count_at c = c.before.before.before.before.m.given.0.1.0 + length c.before.before.before.before.before.before.before.before.args.portion.now
+abbrev count_at : tie.Else-not-fitting → ℕ
+count_at c = c.in-Open.added + length c.args.portion.now
 
-fit : (c : tie.Else2) → fits (finished-at c) (count_at c) (length c.before.before.before.before.before.before.before.before.args.buffer.now) ≡ true
-fit c = sym c.before.fitting.ensures ∙ not-false c.before.fitting.result c.if2.false
+fit : (c : tie.Else-not-fitting) → fits (finished-at c) (count_at c) (length c.args.buffer.now) ≡ true
+fit c = sym c.fitting.ensures ∙ c.if-not-fitting.false
 
-known : (c : tie.Else2) → Fit (finished-at c) (count_at c) (length c.before.before.before.before.before.before.before.before.args.buffer.now)
+known : (c : tie.Else-not-fitting) → Fit (finished-at c) (count_at c) (length c.args.buffer.now)
 known c = fit_of _ _ _ (fit c)
 
-inside : (c : tie.Else2) → finished-at c ≤ length c.before.before.before.before.before.before.before.before.args.buffer.now
+inside : (c : tie.Else-not-fitting) → finished-at c ≤ length c.args.buffer.now
 inside c = let k = known c in omega (arith, k.in_room, behind_finished (finished-at c) (count_at c))
 
 -- ---- the needs
 
-enum-known-m : tie.Need-enum-known-m
+enum-known-m : tie.Need-enum_known-m
 enum-known-m c = search rules
 
-enum_told : tie.Need-enum-told
+enum_told : tie.Need-enum_told-1
 enum_told c = search rules
 
-returns : tie.Need-returns
-returns c = none_open c.enum_told.given.1
+returns : tie.Need-returns-in_default
+returns c = none_open c.in_default.is
 
-returns-2 : tie.Need-returns-2
-returns-2 c = nothing_more _ _ c.before.before.m.given.1 c.if1.true
+returns-2 : tie.Need-returns-then-portion-eq0
+returns-2 c = nothing_more _ _ c.in-Open.is c.if-portion-eq0.true
 
 fitting-requires : tie.Need-fitting-requires
 fitting-requires c κs = search rules
 
-returns-3 : tie.Need-returns-3
+returns-3 : tie.Need-returns-then-not-fitting
 returns-3 c =
-    no_room _ _ c.before.before.before.before.m.given.1 c.before.before.if1.false
-    (sym c.before.fitting.ensures ∙ not-true c.before.fitting.result c.if2.true)
+    no_room _ _ c.in-Open.is c.if-portion-eq0.false
+    (sym c.fitting.ensures ∙ c.if-not-fitting.true)
 
-sub-extend : tie.Need-overflow-sub-extend
+sub-extend : tie.Need-slice_bounds-extend-count
 sub-extend c = omega (arith, inside c)
 
-part-extend-start : tie.Need-slice-bounds-extend-start
+part-extend-start : tie.Need-slice_bounds-extend-start
 part-extend-start c = omega (arith, inside c)
 
-part-extend-end : tie.Need-slice-bounds-extend-end
+part-extend-end : tie.Need-slice_bounds-extend-end
 part-extend-end c = search rules
 
 extend-requires : tie.Need-extend-requires
 extend-requires c κs =
     let k = known c.before in
-    let b = c.before.before.before.before.before.before.before.before.before.args.buffer.now in
+    let b = c.args.buffer.now in
     let f = finished-at c.before in
     omega (arith, k.short, k.in_room, behind_finished f (count_at c.before), end_is f (count_at c.before), ap length (tail_lent f b), length-drop f b)
 
-add-t7 : tie.Need-overflow-add-t7
+add-t7 : tie.Need-overflow_add-result
 add-t7 c = omega (arith, (known c.before.before.before.before).short)
 
-same_length : tie.Need-same-length
+same_length : tie.Need-shape_of-buffer
 same_length c = search rules
 
-returns-4 : tie.Need-returns-4
+returns-4 : tie.Need-returns
 returns-4 c =
-    let t = c.before.before.before.before in
-    let o = t.before.before.before.before in
-    let a = o.before.before.before.before.args in
-    let f = finished-at t in
+    let a = c.args in
+    let f = finished-at c.before.before.before.before in
     let buffer = a.buffer.now in
-    let lent = c.before.before.extend in
-    more buffer a.portion.now o.m.given.1 t.before.before.if1.false (fit t)
-    (tail_back f buffer lent.new.0
+    let lent = c.extend in
+    more buffer a.portion.now c.in-Open.is c.if-portion-eq0.false (fit c.before.before.before.before)
+    (tail_back f buffer lent.new.part
     ∙ ap (λ (l : List ℕ). take f buffer ++ l)
-    (lent.ensures ∙ ap (λ (l : List ℕ). extended o.m.given.0.1.0 l a.portion.now) (tail_lent f buffer)))
+    (lent.ensures ∙ ap (λ (l : List ℕ). extended c.in-Open.added l a.portion.now) (tail_lent f buffer)))
 
 pub add_bytes_spec : {M : Type 1} → statement M
 add_bytes_spec =

@@ -14,47 +14,44 @@ use Rattle.message.proofs.close_reference.Lts as lts
 use Rattle.message.proofs.frame.end_of.Reads as end-of-reads
 use Rattle.message.proofs.frame.fitting.Reads as fitting-reads
 
-enum-known-m : tie.Need-enum-known-m
+enum-known-m : tie.Need-enum_known-m
 enum-known-m c = search rules
 
-enum_told : tie.Need-enum-told
+enum_told : tie.Need-enum_told-1
 enum_told c = search rules
 
-returns : tie.Need-returns
+returns : tie.Need-returns-in_default
 unfolding closing
-returns c = simp c.enum_told.given.1
+returns c = simp c.in_default.is
 
-returns-2 : tie.Need-returns-2
+returns-2 : tie.Need-returns-then-added-eq0
 unfolding closing
-returns-2 c = simp (c.before.before.m.given.1, eq-eqb _ _ c.if1.true)
+returns-2 c = simp (c.in-Open.is, eq-eqb _ _ c.if-added-eq0.true)
 
 fitting-requires : tie.Need-fitting-requires
 fitting-requires c κs = search rules
 
-returns-3 : tie.Need-returns-3
+returns-3 : tie.Need-returns-then-not-fitting
 unfolding closing
 returns-3 c =
-    let g = c.before.before.before.before.m.given.0 in
-    let same : 0 + g.1.0 ≡ g.1.0 = omega arith in
-    let e : fits g.0 g.1.0 16_384 ≡ false =
-    ap (λ (n : ℕ). fits g.0 n 16_384) (sym same) ∙ sym c.before.fitting.ensures ∙ not-true c.before.fitting.result c.if2.true in
-    simp (c.before.before.before.before.m.given.1, ne_eqb _ _ c.before.before.if1.false, e)
+    let same : 0 + c.in-Open.added ≡ c.in-Open.added = omega arith in
+    let e : fits c.in-Open.finished c.in-Open.added 16_384 ≡ false =
+    ap (λ (n : ℕ). fits c.in-Open.finished n 16_384) (sym same) ∙ sym c.fitting.ensures ∙ c.if-not-fitting.true in
+    simp (c.in-Open.is, ne_eqb _ _ c.if-added-eq0.false, e)
 
-end-of-requires : tie.Need-end-of-requires
+end-of-requires : tie.Need-end_of-requires
 end-of-requires c κs =
-    let g = c.before.before.before.before.m.given.0 in
-    let f = fit_of g.0 (0 + g.1.0) 16_384 (sym c.before.fitting.ensures ∙ not-false _ c.if2.false) in
-    omega (arith, f.short, f.in_most, behind_finished g.0 (0 + g.1.0))
+    let f = fit_of c.in-Open.finished (0 + c.in-Open.added) 16_384 (sym c.fitting.ensures ∙ c.if-not-fitting.false) in
+    omega (arith, f.short, f.in_most, behind_finished c.in-Open.finished (0 + c.in-Open.added))
 
-returns-4 : tie.Need-returns-4
+returns-4 : tie.Need-returns
 unfolding closing
 returns-4 c =
-    let g = c.before.before.before.before.before.m.given.0 in
-    let same : 0 + g.1.0 ≡ g.1.0 = omega arith in
-    let e : fits g.0 g.1.0 16_384 ≡ true =
-    ap (λ (n : ℕ). fits g.0 n 16_384) (sym same) ∙ sym c.before.before.fitting.ensures
-    ∙ not-false c.before.before.fitting.result c.before.if2.false in
-    simp (c.before.before.before.before.before.m.given.1, ne_eqb _ _ c.before.before.before.if1.false, e, c.end_of.ensures)
+    let same : 0 + c.in-Open.added ≡ c.in-Open.added = omega arith in
+    let e : fits c.in-Open.finished c.in-Open.added 16_384 ≡ true =
+    ap (λ (n : ℕ). fits c.in-Open.finished n 16_384) (sym same) ∙ sym c.fitting.ensures
+    ∙ c.if-not-fitting.false in
+    simp (c.in-Open.is, ne_eqb _ _ c.if-added-eq0.false, e, c.end_of.ensures)
 
 pub close_reference_spec : {M : Type 1} → statement M
 close_reference_spec =

@@ -17,7 +17,7 @@ place-in-requires : tie.Need-place_in-requires
 place-in-requires c κs = omega (arith, length-take-le 16_384 c.args.message.now (omega arith))
 
 returns : tie.Need-returns-then-message-gt-LONGEST_MESSAGE
-returns c = (c.IsPlace-in.ensures.0 ∙ cut_start _ _, c.IsPlace-in.ensures.1 ∙ cut_end _ _)
+returns c = (c.place_in.ensures.0 ∙ cut_start _ _, c.place_in.ensures.1 ∙ cut_end _ _)
 
 place-in-requires-2 : tie.Need-place_in-requires-2
 place-in-requires-2 c κs = search rules

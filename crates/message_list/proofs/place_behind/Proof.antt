@@ -23,7 +23,7 @@ decreases-loop message behind n at₀ left₀ at left = length message - at
 
 -- The reference that was found.
 abbrev bytes-at : tie.In-Reference invariant-loop decreases-loop → List ℕ
-bytes-at h = h.before.before.before.before.before.args.message.now
+bytes-at h = h.args.message.now
 
 stands : (h : tie.In-Reference invariant-loop decreases-loop) →
     Stands (bytes-at h) (next (drop h.loop-start.at (bytes-at h))) h.in-Reference.start h.in-Reference.end

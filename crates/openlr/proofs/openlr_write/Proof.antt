@@ -6,28 +6,28 @@ use borrow.Author.Rules.{rules}
 use Rattle.openlr.proofs.openlr_write.Statement.{statement}
 use Rattle.openlr.proofs.openlr_write.Tie as tie
 
-slice-aggregate-take-stretch : tie.Need-slice-aggregate-take-stretch
+slice-aggregate-take-stretch : tie.Need-slice_bounds-take_stretch-end
 slice-aggregate-take-stretch c = search rules
 
-take-stretch-requires : tie.Need-take-stretch-requires
+take-stretch-requires : tie.Need-take_stretch-count-requires
 take-stretch-requires c κs = search rules
 
-array-share-prefix-numbers : tie.Need-array-share-prefix-numbers
+array-share-prefix-numbers : tie.Need-slice_bounds-numbers-end
 array-share-prefix-numbers c = search rules
 
-slice-aggregate-write-taken : tie.Need-slice-aggregate-write-taken
+slice-aggregate-write-taken : tie.Need-slice_bounds-write_taken-end
 slice-aggregate-write-taken c =
-    let t = c.before.before.take-stretch in
-    sym (length-take-le t.result t.new.1.0 (omega (arith, t.auto.1.0, t.ensures.0)))
+    let t = c.take_stretch-count in
+    sym (length-take-le t.result t.new.numbers (omega (arith, t.auto.numbers, t.ensures.0)))
 
-write-taken-requires : tie.Need-write-taken-requires
+write-taken-requires : tie.Need-write_taken-requires
 write-taken-requires c κs = search rules
 
-same_length : tie.Need-same-length
+same_length : tie.Need-shape_of-bytes
 same_length c = search rules
 
 returns : tie.Need-returns
-returns c = c.before.before.write-taken.ensures c.before.before.before.before.before.before.before.before.before.before.before.args.stretch.now c.before.before.before.before.before.before.take-stretch.ensures.1
+returns c = c.write_taken.ensures c.args.stretch.now c.take_stretch-count.ensures.1
 
 pub openlr_write_spec : {M : Type 1} → statement M
 openlr_write_spec =

@@ -8,21 +8,21 @@ use borrow.Author.Rules.{rules}
 use Rattle.openlr.proofs.take_stretch.Statement.{statement}
 use Rattle.openlr.proofs.take_stretch.Tie as tie
 
-returns : tie.Need-returns
+returns : tie.Need-returns-then-bytes-ne0
 returns c =
-    let a = c.before.before.before.args in
-    (omega arith, sym (ap (take (length a.numbers.now)) (no_stretch a.bytes.now c.if1.true) ∙ take-nil (length a.numbers.now)))
+    let a = c.args in
+    (omega arith, sym (ap (take (length a.numbers.now)) (no_stretch a.bytes.now c.if-bytes-ne0.true) ∙ take-nil (length a.numbers.now)))
 
-take-words-requires : tie.Need-take-words-requires
+take-words-requires : tie.Need-take_words-requires
 take-words-requires c κs = search rules
 
-same_length : tie.Need-same-length
+same_length : tie.Need-shape_of-numbers
 same_length c = search rules
 
-returns-2 : tie.Need-returns-2
+returns-2 : tie.Need-returns
 returns-2 c =
-    let a = c.before.before.before.before.before.before.before.args in
-    let t = c.before.before.take_words.ensures in
+    let a = c.args in
+    let t = c.take_words.ensures in
     (t.0, t.1 ∙ ap (take (length a.numbers.now)) (sym (whole_stretch a.bytes.now (search rules))))
 
 pub take_stretch_spec : {M : Type 1} → statement M

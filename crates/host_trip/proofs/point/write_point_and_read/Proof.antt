@@ -6,37 +6,37 @@ use Rattle.host_trip.proofs.HandedPoint.{wrote_point, no_point, point_fits, hand
 use Rattle.host_trip.proofs.point.write_point_and_read.Statement.{statement}
 use Rattle.host_trip.proofs.point.write_point_and_read.Tie as tie
 
-openlr-write-point-requires : tie.Need-openlr-write-point-requires
+openlr-write-point-requires : tie.Need-openlr_write_point-written-requires
 openlr-write-point-requires c κs = search rules
 
-same_length : tie.Need-same-length
+same_length : tie.Need-shape_of-bytes-then-written-ne0
 same_length c = search rules
 
-returns : tie.Need-returns
-returns c = (no_point _ c.before.before.before.before.openlr-write-point.ensures c.if1.true, refl)
+returns : tie.Need-returns-then-written-ne0
+returns c = (no_point _ c.openlr_write_point-written.ensures c.if-written-ne0.true, refl)
 
-cast-openlr-read-point : tie.Need-overflow-cast-openlr-read-point
+cast-openlr-read-point : tie.Need-overflow_cast-written
 cast-openlr-read-point c = search rules
 
-slice-reshare-prefix-openlr-read-point : tie.Need-slice-reshare-prefix-openlr-read-point
-slice-reshare-prefix-openlr-read-point c = point_fits (wrote_point _ c.before.before.before.before.before.openlr-write-point.ensures c.before.if1.false) c.before.before.before.before.before.openlr-write-point.auto.1.1.1.1.1.0
+slice-reshare-prefix-openlr-read-point : tie.Need-slice_bounds-openlr_read_point-end
+slice-reshare-prefix-openlr-read-point c = point_fits (wrote_point _ c.openlr_write_point-written.ensures c.if-written-ne0.false) c.openlr_write_point-written.auto.bytes
 
-slice-aggregate-openlr-read-point : tie.Need-slice-aggregate-openlr-read-point
-slice-aggregate-openlr-read-point c = sym (length-take-le _ _ (point_fits (wrote_point _ c.before.before.before.before.before.before.openlr-write-point.ensures c.before.before.if1.false) c.before.before.before.before.before.before.openlr-write-point.auto.1.1.1.1.1.0))
+slice-aggregate-openlr-read-point : tie.Need-slice_bounds-openlr_read_point-end-2
+slice-aggregate-openlr-read-point c = sym (length-take-le _ _ (point_fits (wrote_point _ c.openlr_write_point-written.ensures c.if-written-ne0.false) c.openlr_write_point-written.auto.bytes))
 
-openlr-read-point-requires : tie.Need-openlr-read-point-requires
+openlr-read-point-requires : tie.Need-openlr_read_point-requires
 openlr-read-point-requires c κs = search rules
 
-same-length-2 : tie.Need-same-length-2
+same-length-2 : tie.Need-shape_of-bytes
 same-length-2 c = search rules
 
-same-length-3 : tie.Need-same-length-3
+same-length-3 : tie.Need-shape_of-lines
 same-length-3 c = search rules
 
-returns-2 : tie.Need-returns-2
+returns-2 : tie.Need-returns
 returns-2 c =
-    let call = wrote_point _ c.before.before.before.before.before.before.before.before.before.before.openlr-write-point.ensures c.before.before.before.before.before.before.if1.false in
-    (call, handed_point call _ refl c.before.before.openlr-read-point.ensures)
+    let call = wrote_point _ c.openlr_write_point-written.ensures c.if-written-ne0.false in
+    (call, handed_point call _ refl c.openlr_read_point.ensures)
 
 pub write_point_and_read_spec : {M : Type 1} → statement M
 write_point_and_read_spec =

@@ -8,87 +8,87 @@ use Rattle.host_trip.proofs.HandedPoint.{wrote_point, no_point, point_fits, hand
 use Rattle.host_trip.proofs.point.write_two_points_and_read.Statement.{statement}
 use Rattle.host_trip.proofs.point.write_two_points_and_read.Tie as tie
 
-openlr-write-point-requires : tie.Need-openlr-write-point-requires
+openlr-write-point-requires : tie.Need-openlr_write_point-one-requires
 openlr-write-point-requires c κs = search rules
 
-same_length : tie.Need-same-length
+same_length : tie.Need-shape_of-bytes-then-one-ne0
 same_length c = search rules
 
-returns : tie.Need-returns
-returns c = (no_point _ c.before.before.before.before.openlr-write-point.ensures c.if1.true, refl, refl)
+returns : tie.Need-returns-then-one-ne0
+returns c = (no_point _ c.openlr_write_point-one.ensures c.if-one-ne0.true, refl, refl)
 
-openlr-write-point-requires-2 : tie.Need-openlr-write-point-requires-2
+openlr-write-point-requires-2 : tie.Need-openlr_write_point-other-requires
 openlr-write-point-requires-2 c κs = search rules
 
-same-length-2 : tie.Need-same-length-2
+same-length-2 : tie.Need-shape_of-bytes-then-other-ne0
 same-length-2 c = search rules
 
-same-length-3 : tie.Need-same-length-3
+same-length-3 : tie.Need-shape_of-others-then-other-ne0
 same-length-3 c = search rules
 
-returns-2 : tie.Need-returns-2
-returns-2 c = ((_, wrote_point _ c.before.before.before.before.before.before.before.before.before.before.openlr-write-point.ensures c.before.before.before.before.before.before.if1.false), no_point _ c.before.before.before.before.openlr-write-point2.ensures c.if2.true, refl)
+returns-2 : tie.Need-returns-then-other-ne0
+returns-2 c = ((_, wrote_point _ c.openlr_write_point-one.ensures c.if-one-ne0.false), no_point _ c.openlr_write_point-other.ensures c.if-other-ne0.true, refl)
 
-cast-same-bytes : tie.Need-overflow-cast-same-bytes
+cast-same-bytes : tie.Need-overflow_cast-one
 cast-same-bytes c = search rules
 
-slice-reshare-prefix-same-bytes : tie.Need-slice-reshare-prefix-same-bytes
-slice-reshare-prefix-same-bytes c = point_fits (wrote_point _ c.before.before.before.before.before.before.before.before.before.before.before.openlr-write-point.ensures c.before.before.before.before.before.before.before.if1.false) c.before.before.before.before.before.before.before.before.before.before.before.openlr-write-point.auto.1.1.1.1.1.0
+slice-reshare-prefix-same-bytes : tie.Need-slice_bounds-same_bytes-end
+slice-reshare-prefix-same-bytes c = point_fits (wrote_point _ c.openlr_write_point-one.ensures c.if-one-ne0.false) c.openlr_write_point-one.auto.bytes
 
-slice-aggregate-same-bytes : tie.Need-slice-aggregate-same-bytes
-slice-aggregate-same-bytes c = sym (length-take-le _ _ (point_fits (wrote_point _ c.before.before.before.before.before.before.before.before.before.before.before.before.openlr-write-point.ensures c.before.before.before.before.before.before.before.before.if1.false) c.before.before.before.before.before.before.before.before.before.before.before.before.openlr-write-point.auto.1.1.1.1.1.0))
+slice-aggregate-same-bytes : tie.Need-slice_bounds-same_bytes-end-2
+slice-aggregate-same-bytes c = sym (length-take-le _ _ (point_fits (wrote_point _ c.openlr_write_point-one.ensures c.if-one-ne0.false) c.openlr_write_point-one.auto.bytes))
 
-cast-same-bytes-2 : tie.Need-overflow-cast-same-bytes-2
+cast-same-bytes-2 : tie.Need-overflow_cast-other
 cast-same-bytes-2 c = search rules
 
-slice-reshare-prefix-same-bytes-2 : tie.Need-slice-reshare-prefix-same-bytes-2
-slice-reshare-prefix-same-bytes-2 c = point_fits (wrote_point _ c.before.before.before.before.before.before.before.openlr-write-point2.ensures c.before.before.before.if2.false) c.before.before.before.before.before.before.before.openlr-write-point2.auto.1.1.1.1.1.0
+slice-reshare-prefix-same-bytes-2 : tie.Need-slice_bounds-same_bytes-end-3
+slice-reshare-prefix-same-bytes-2 c = point_fits (wrote_point _ c.openlr_write_point-other.ensures c.if-other-ne0.false) c.openlr_write_point-other.auto.bytes
 
-slice-aggregate-same-bytes-2 : tie.Need-slice-aggregate-same-bytes-2
-slice-aggregate-same-bytes-2 c = sym (length-take-le _ _ (point_fits (wrote_point _ c.before.before.before.before.before.before.before.before.openlr-write-point2.ensures c.before.before.before.before.if2.false) c.before.before.before.before.before.before.before.before.openlr-write-point2.auto.1.1.1.1.1.0))
+slice-aggregate-same-bytes-2 : tie.Need-slice_bounds-same_bytes-end-4
+slice-aggregate-same-bytes-2 c = sym (length-take-le _ _ (point_fits (wrote_point _ c.openlr_write_point-other.ensures c.if-other-ne0.false) c.openlr_write_point-other.auto.bytes))
 
-same-bytes-requires : tie.Need-same-bytes-requires
+same-bytes-requires : tie.Need-same_bytes-requires
 same-bytes-requires c κs = search rules
 
-same-length-4 : tie.Need-same-length-4
+same-length-4 : tie.Need-shape_of-bytes-then-not-same_bytes
 same-length-4 c = search rules
 
-same-length-5 : tie.Need-same-length-5
+same-length-5 : tie.Need-shape_of-others-then-not-same_bytes
 same-length-5 c = search rules
 
-returns-3 : tie.Need-returns-3
+returns-3 : tie.Need-returns-then-not-same_bytes
 returns-3 c =
-    let differ = rw (not-true c.before.same_bytes.result c.if3.true) at c.before.same_bytes.ensures in
-    ((_, _, wrote_point _ c.before.before.before.before.before.before.before.before.before.before.before.before.before.before.before.before.openlr-write-point.ensures c.before.before.before.before.before.before.before.before.before.before.before.before.if1.false, wrote_point _ c.before.before.before.before.before.before.before.before.before.before.openlr-write-point2.ensures c.before.before.before.before.before.before.if2.false, differ), refl)
+    let differ = rw (c.if-not-same_bytes.true) at c.same_bytes.ensures in
+    ((_, _, wrote_point _ c.openlr_write_point-one.ensures c.if-one-ne0.false, wrote_point _ c.openlr_write_point-other.ensures c.if-other-ne0.false, differ), refl)
 
-cast-openlr-read-point : tie.Need-overflow-cast-openlr-read-point
+cast-openlr-read-point : tie.Need-overflow_cast-one-2
 cast-openlr-read-point c = search rules
 
-slice-reshare-prefix-openlr-read-point : tie.Need-slice-reshare-prefix-openlr-read-point
-slice-reshare-prefix-openlr-read-point c = point_fits (wrote_point _ c.before.before.before.before.before.before.before.before.before.before.before.before.before.before.before.before.before.openlr-write-point.ensures c.before.before.before.before.before.before.before.before.before.before.before.before.before.if1.false) c.before.before.before.before.before.before.before.before.before.before.before.before.before.before.before.before.before.openlr-write-point.auto.1.1.1.1.1.0
+slice-reshare-prefix-openlr-read-point : tie.Need-slice_bounds-openlr_read_point-end
+slice-reshare-prefix-openlr-read-point c = point_fits (wrote_point _ c.openlr_write_point-one.ensures c.if-one-ne0.false) c.openlr_write_point-one.auto.bytes
 
-slice-aggregate-openlr-read-point : tie.Need-slice-aggregate-openlr-read-point
-slice-aggregate-openlr-read-point c = sym (length-take-le _ _ (point_fits (wrote_point _ c.before.before.before.before.before.before.before.before.before.before.before.before.before.before.before.before.before.before.openlr-write-point.ensures c.before.before.before.before.before.before.before.before.before.before.before.before.before.before.if1.false) c.before.before.before.before.before.before.before.before.before.before.before.before.before.before.before.before.before.before.openlr-write-point.auto.1.1.1.1.1.0))
+slice-aggregate-openlr-read-point : tie.Need-slice_bounds-openlr_read_point-end-2
+slice-aggregate-openlr-read-point c = sym (length-take-le _ _ (point_fits (wrote_point _ c.openlr_write_point-one.ensures c.if-one-ne0.false) c.openlr_write_point-one.auto.bytes))
 
-openlr-read-point-requires : tie.Need-openlr-read-point-requires
+openlr-read-point-requires : tie.Need-openlr_read_point-requires
 openlr-read-point-requires c κs = search rules
 
-same-length-6 : tie.Need-same-length-6
+same-length-6 : tie.Need-shape_of-bytes
 same-length-6 c = search rules
 
-same-length-7 : tie.Need-same-length-7
+same-length-7 : tie.Need-shape_of-others
 same-length-7 c = search rules
 
-same-length-8 : tie.Need-same-length-8
+same-length-8 : tie.Need-shape_of-lines
 same-length-8 c = search rules
 
-returns-4 : tie.Need-returns-4
+returns-4 : tie.Need-returns
 returns-4 c =
-    let first = wrote_point _ c.before.before.before.before.before.before.before.before.before.before.before.before.before.before.before.before.before.before.before.before.before.before.openlr-write-point.ensures c.before.before.before.before.before.before.before.before.before.before.before.before.before.before.before.before.before.before.if1.false in
-    let second = wrote_point _ c.before.before.before.before.before.before.before.before.before.before.before.before.before.before.before.before.openlr-write-point2.ensures c.before.before.before.before.before.before.before.before.before.before.before.before.if2.false in
-    let same = rw (not-false c.before.before.before.before.before.before.before.same_bytes.result c.before.before.before.before.before.before.if3.false) at c.before.before.before.before.before.before.before.same_bytes.ensures in
-    let size = same_size _ _ _ _ (point_fits first c.before.before.before.before.before.before.before.before.before.before.before.before.before.before.before.before.before.before.before.before.before.before.openlr-write-point.auto.1.1.1.1.1.0) (point_fits second c.before.before.before.before.before.before.before.before.before.before.before.before.before.before.before.before.openlr-write-point2.auto.1.1.1.1.1.0) same in
-    let call = c.before.before.openlr-read-point.ensures in (
+    let first = wrote_point _ c.openlr_write_point-one.ensures c.if-one-ne0.false in
+    let second = wrote_point _ c.openlr_write_point-other.ensures c.if-other-ne0.false in
+    let same = rw (c.if-not-same_bytes.false) at c.same_bytes.ensures in
+    let size = same_size _ _ _ _ (point_fits first c.openlr_write_point-one.auto.bytes) (point_fits second c.openlr_write_point-other.auto.bytes) same in
+    let call = c.openlr_read_point.ensures in (
       first,
       rw size at second,
       rw size at same,

@@ -14,46 +14,46 @@ use Rattle.message.proofs.frame.length_bytes.Reads as length-bytes-reads
 use Rattle.message.proofs.frame.make_room.Reads as make-room-reads
 use Rattle.message.proofs.frame.put_length.Reads as put-length-reads
 
-add-count : tie.Need-overflow-add-count
+add-count : tie.Need-overflow_add-count
 add-count c = search rules
 
-make-room-requires : tie.Need-make-room-requires
+make-room-requires : tie.Need-make_room-requires
 make-room-requires c κs = search rules
 
-length-bytes-requires : tie.Need-length-bytes-requires
+length-bytes-requires : tie.Need-length_bytes-requires
 length-bytes-requires c κs = search rules
 
-add_at : tie.Need-overflow-add-at
+add_at : tie.Need-overflow_add-at
 add_at c = search rules
 
-sub-copy : tie.Need-overflow-sub-copy
+sub-copy : tie.Need-slice_bounds-copy-count
 sub-copy c = search rules
 
-part-copy-start : tie.Need-slice-bounds-copy-start
+part-copy-start : tie.Need-slice_bounds-copy-start
 part-copy-start c = search rules
 
-part-copy-end : tie.Need-slice-bounds-copy-end
+part-copy-end : tie.Need-slice_bounds-copy-end
 part-copy-end c = search rules
 
 copy-requires : tie.Need-copy-requires
 copy-requires c κs = search rules
 
-put-length-requires : tie.Need-put-length-requires
+put-length-requires : tie.Need-put_length-requires
 put-length-requires c κs = search rules
 
-same_length : tie.Need-same-length
+same_length : tie.Need-shape_of-part
 same_length c = search rules
 
 returns : tie.Need-returns
 returns c =
-    let a = c.before.before.before.before.before.before.before.before.before.before.before.before.before.before.before.args in
-    let r = c.before.before.before.before.before.before.before.before.before.before.before.make-room in
-    let w = c.before.before.before.before.before.before.before.before.length-bytes in
-    let o = c.before.before.before.before.before.before.copy in
-    c.before.before.put_length.ensures
-    ∙ put_together a.added a.portion.now a.part.now r.new.0 o.new.1.0 w.result w.ensures.0 (omega (arith, w.ensures.0)) r.auto.0
-    (ap (λ (n : ℕ). take a.added (drop n r.new.0)) w.ensures.0 ∙ r.ensures.0)
-    (ap (λ (n : ℕ). drop (n + a.added) r.new.0) w.ensures.0 ∙ r.ensures.1
+    let a = c.args in
+    let r = c.make_room in
+    let w = c.length_bytes in
+    let o = c.copy in
+    c.put_length.ensures
+    ∙ put_together a.added a.portion.now a.part.now r.new.part o.new.into w.result w.ensures.0 (omega (arith, w.ensures.0)) r.auto.part
+    (ap (λ (n : ℕ). take a.added (drop n r.new.part)) w.ensures.0 ∙ r.ensures.0)
+    (ap (λ (n : ℕ). drop (n + a.added) r.new.part) w.ensures.0 ∙ r.ensures.1
     ∙ sym (ap (λ (n : ℕ). drop (n + a.added) a.part.now) w.ensures.0))
     o.ensures
 

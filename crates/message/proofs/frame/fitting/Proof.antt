@@ -11,32 +11,32 @@ use Rattle.message.proofs.frame.fitting.Reads as reads
 use Rattle.message.proofs.frame.fitting.Lts as lts
 use Rattle.message.proofs.frame.end_of.Reads as end-of-reads
 
-returns : tie.Need-returns
+returns : tie.Need-returns-then-added-gt-LONGEST_REFERENCE
 returns c = sym (long_reference _ _ _ (omega arith))
 
-returns-2 : tie.Need-returns-2
+returns-2 : tie.Need-returns-then-added-more
 returns-2 c = sym (long_reference _ _ _ (omega arith))
 
-returns-3 : tie.Need-returns-3
-returns-3 c = let a = c.before.before.before.args in sym (past_room _ _ _ (omega (arith, behind_finished a.finished (a.added + a.more))))
+returns-3 : tie.Need-returns-then-room-finished
+returns-3 c = let a = c.args in sym (past_room _ _ _ (omega (arith, behind_finished a.finished (a.added + a.more))))
 
-returns-4 : tie.Need-returns-4
-returns-4 c = let a = c.before.before.before.before.args in sym (past_room _ _ _ (omega (arith, behind_finished a.finished (a.added + a.more))))
+returns-4 : tie.Need-returns-then-finished-gt-LONGEST_MESSAGE
+returns-4 c = let a = c.args in sym (past_room _ _ _ (omega (arith, behind_finished a.finished (a.added + a.more))))
 
-add-end-of : tie.Need-overflow-add-end-of
+add-end-of : tie.Need-overflow_add-added
 add-end-of c = search rules
 
-end-of-requires : tie.Need-end-of-requires
+end-of-requires : tie.Need-end_of-end-requires
 end-of-requires c κs = search rules
 
-returns-5 : tie.Need-returns-5
-returns-5 c = sym (past_room _ _ _ (omega (arith, c.before.end_of.ensures)))
+returns-5 : tie.Need-returns-then-room-end
+returns-5 c = sym (past_room _ _ _ (omega (arith, c.end_of-end.ensures)))
 
-returns-6 : tie.Need-returns-6
+returns-6 : tie.Need-returns
 returns-6 c =
-    let a = c.before.before.before.before.before.before.args in
-    let e : c.before.end_of.result ≡ end_of a.finished (a.added + a.more) = c.before.end_of.ensures in
-    ends a.finished (a.added + a.more) a.room c.before.end_of.result e (omega arith) (omega arith)
+    let a = c.args in
+    let e : c.end_of-end.result ≡ end_of a.finished (a.added + a.more) = c.end_of-end.ensures in
+    ends a.finished (a.added + a.more) a.room c.end_of-end.result e (omega arith) (omega arith)
 
 pub fitting_spec : {M : Type 1} → statement M
 fitting_spec =

@@ -13,46 +13,46 @@ use Rattle.message.proofs.frame.put_length.Tie as tie
 use Rattle.message.proofs.frame.put_length.Reads as reads
 use Rattle.message.proofs.frame.put_length.Lts as lts
 
-cast-part : tie.Need-overflow-cast-part
+cast-part : tie.Need-overflow_cast-part
 cast-part c = search rules
 
-slice-write-part : tie.Need-slice-write-part
+slice-write-part : tie.Need-bounds-part-0
 slice-write-part c =
-    let a = c.before.args in omega (arith, ap length (short_length a.count (omega arith) c.if1.true))
+    let a = c.args in omega (arith, ap length (short_length a.count (omega arith) c.if-count-lt-GROUP.true))
 
-add-part : tie.Need-overflow-add-part
+add-part : tie.Need-overflow_add-part
 add-part c = search rules
 
-cast-part-2 : tie.Need-overflow-cast-part-2
+cast-part-2 : tie.Need-overflow_cast-part-else-count-lt-GROUP
 cast-part-2 c = search rules
 
-slice-write-part-2 : tie.Need-slice-write-part-2
+slice-write-part-2 : tie.Need-bounds-part-0-else-count-lt-GROUP
 slice-write-part-2 c =
-    let a = c.before.args in omega (arith, ap length (long_length a.count c.if1.false (omega arith)))
+    let a = c.args in omega (arith, ap length (long_length a.count c.if-count-lt-GROUP.false (omega arith)))
 
-cast-part-3 : tie.Need-overflow-cast-part-3
+cast-part-3 : tie.Need-overflow_cast-part-else-count-lt-GROUP-2
 cast-part-3 c = search rules
 
-slice-write-part-3 : tie.Need-slice-write-part-3
+slice-write-part-3 : tie.Need-bounds-part-1
 slice-write-part-3 c =
-    let a = c.before.args in simp length-set (omega (arith, ap length (long_length a.count c.if1.false (omega arith))))
+    let a = c.args in simp length-set (omega (arith, ap length (long_length a.count c.if-count-lt-GROUP.false (omega arith))))
 
-same_length : tie.Need-same-length
+same_length : tie.Need-shape_of-part-then-count-lt-GROUP
 same_length c = search rules
 
-returns : tie.Need-returns
+returns : tie.Need-returns-then-count-lt-GROUP
 returns c =
-    let a = c.before.args in
-    let e = short_length a.count (omega arith) c.if1.true in
+    let a = c.args in
+    let e = short_length a.count (omega arith) c.if-count-lt-GROUP.true in
     put_one a.count a.part.now (omega (arith, ap length e)) ∙ ap (λ (l : List ℕ). placed l a.part.now) (sym e)
 
-same-length-2 : tie.Need-same-length-2
+same-length-2 : tie.Need-shape_of-part-else-count-lt-GROUP
 same-length-2 c = search rules
 
-returns-2 : tie.Need-returns-2
+returns-2 : tie.Need-returns-else-count-lt-GROUP
 returns-2 c =
-    let a = c.before.args in
-    let e = long_length a.count c.if1.false (omega arith) in
+    let a = c.args in
+    let e = long_length a.count c.if-count-lt-GROUP.false (omega arith) in
     put_two (a.count % 128 + 128) (a.count / 128) a.part.now (omega (arith, ap length e)) ∙ ap (λ (l : List ℕ). placed l a.part.now) (sym e)
 
 pub put_length_spec : {M : Type 1} → statement M

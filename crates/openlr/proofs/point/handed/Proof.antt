@@ -16,42 +16,41 @@ use Rattle.buffers.proofs.words.put_words.Reads as put-words-reads
 use Rattle.openlr.proofs.point.no_point.Reads as no-point-reads
 
 -- There is room for the lines that were read.
-there : (h : tie.After-answer) →
-    let a = h.before.before.before.before.args in
-    let count = h.answer.given.0.0 in
+there : (h : tie.In-Read) →
+    let a = h.args in
+    let count = h.in-Read.count in
     (count ≤ length a.numbers.now) × (count * 4 ≤ length a.lines.now) × (count ≤ greatest_host_lines)
-there h = let g = h.answer.given in h.before.before.before.before.requires g.0.0 g.0.1.0 g.0.1.1.0 g.0.1.1.1.0 g.1
+there h = h.requires h.in-Read.count h.in-Read.span h.in-Read.orientation h.in-Read.side h.in-Read.is
 
-enum-known-answer : tie.Need-enum-known-answer
+enum-known-answer : tie.Need-enum_known-answer
 enum-known-answer c = search rules
 
-slice-aggregate-put-words : tie.Need-slice-aggregate-put-words
-slice-aggregate-put-words c = sym (length-take-le _ _ (there c.before.before).0)
+slice-aggregate-put-words : tie.Need-slice_bounds-put_words-end
+slice-aggregate-put-words c = sym (length-take-le _ _ (there c).0)
 
-put-words-requires : tie.Need-put-words-requires
+put-words-requires : tie.Need-put_words-requires
 put-words-requires c κs =
-    let h = c.before.before.before in
-    omega (arith, (there h).1, length-take-le _ h.before.before.before.before.args.numbers.now (there h).0)
+    omega (arith, (there c.before).1, length-take-le _ c.args.numbers.now (there c.before).0)
 
-cast-t15 : tie.Need-overflow-cast-t15
-cast-t15 c = search (rules, there c.before.before.before.before.before.before)
+cast-t15 : tie.Need-overflow_cast-result
+cast-t15 c = search (rules, there c.before.before.before.before)
 
-enum-known-answer-2 : tie.Need-enum-known-answer-2
+enum-known-answer-2 : tie.Need-enum_known-answer-in-Refused-1
 enum-known-answer-2 c = search rules
 
-no-point-requires : tie.Need-no-point-requires
+no-point-requires : tie.Need-no_point-requires
 no-point-requires c κs = search rules
 
-same_length : tie.Need-same-length
+same_length : tie.Need-shape_of-lines
 same_length c = search rules
 
-returns : tie.Need-returns
+returns : tie.Need-returns-in-Read
 unfolding as_point
 returns c o before t stand =
-    handed_read before c.before.before.before.before.before.before.before.before.before.before.args.lines.now t c.before.before.before.before.before.before.answer.given.1 stand c.before.before.put-words.ensures
+    handed_read before c.args.lines.now t c.in-Read.is stand c.put_words.ensures
 
-returns-2 : tie.Need-returns-2
-returns-2 c o before t stand = handed_refused t c.before.before.answer2.given.1 c.no_point.ensures
+returns-2 : tie.Need-returns-in-Refused
+returns-2 c o before t stand = handed_refused t c.in-Refused.is c.no_point.ensures
 
 pub handed_spec : {M : Type 1} → statement M
 handed_spec =

@@ -19,67 +19,68 @@ use Rattle.buffers.proofs.lesser.Reads as lesser-reads
 use Rattle.openlr.proofs.point.handed.Reads as handed-reads
 use Rattle.openlr.proofs.point.read_point_of_message_into.Reads as read-point-of-message-into-reads
 
-lesser-requires : tie.Need-lesser-requires
+lesser-requires : tie.Need-lesser-room-requires
 lesser-requires c κs = search rules
 
 slice-relend-prefix-read-point-of-message-into :
-    tie.Need-slice-relend-prefix-read-point-of-message-into
+    tie.Need-slice_bounds-read_point_of_message_into-end
 slice-relend-prefix-read-point-of-message-into c = search rules
 
-slice-aggregate-read-point-of-message-into : tie.Need-slice-aggregate-read-point-of-message-into
-slice-aggregate-read-point-of-message-into c = sym (length-take-le c.before.lesser.result c.before.before.before.before.before.before.before.args.numbers.now (omega (arith, c.before.lesser.ensures)))
+slice-aggregate-read-point-of-message-into : tie.Need-slice_bounds-read_point_of_message_into-end-2
+slice-aggregate-read-point-of-message-into c = sym (length-take-le c.lesser-room.result c.args.numbers.now (omega (arith, c.lesser-room.ensures)))
 
-read-point-of-message-into-requires : tie.Need-read-point-of-message-into-requires
+read-point-of-message-into-requires : tie.Need-read_point_of_message_into-answer-requires
 read-point-of-message-into-requires c κs = search rules
 
-slice-reshare-prefix-handed : tie.Need-slice-reshare-prefix-handed
+slice-reshare-prefix-handed : tie.Need-slice_bounds-handed-end
 slice-reshare-prefix-handed c = search rules
 
-slice-aggregate-handed : tie.Need-slice-aggregate-handed
+slice-aggregate-handed : tie.Need-slice_bounds-handed-end-2
 slice-aggregate-handed c =
-    let a = c.before.before.before.before.before.before.before.before.before.before.before.args in
-    let room = c.before.before.before.before.before.lesser in
-    let call = c.before.before.before.read-point-of-message-into in
-    sym (length-take-le room.result (call.new.1.1.1.0 ++ drop room.result a.numbers.now)
-    (omega (arith, room.ensures, length_front a.numbers.now call.new.1.1.1.0 room.result call.auto.1.1.1.0)))
+    let a = c.args in
+    let room = c.lesser-room in
+    let call = c.read_point_of_message_into-answer in
+    sym (length-take-le room.result (call.new.numbers ++ drop room.result a.numbers.now)
+    (omega (arith, room.ensures, length_front a.numbers.now call.new.numbers room.result call.auto.numbers)))
 
 handed-requires : tie.Need-handed-requires
 handed-requires c κs count span orientation side e =
-    let start = c.before.before.before.before.before.before.before.before.before.before.before.before in
-    let room = c.before.before.before.before.before.before.lesser in
-    let call = c.before.before.before.before.read-point-of-message-into in
-    lent_room start.args.numbers.now start.args.lines.now call.new.1.1.1.0 room.result room.ensures start.requires call.auto.1.1.1.0 count
-    (count_fits call.ensures e call.auto.1.1.1.0)
+    let room = c.lesser-room in
+    let call = c.read_point_of_message_into-answer in
+    lent_room c.args.numbers.now c.args.lines.now call.new.numbers room.result room.ensures c.requires call.auto.numbers count
+    (count_fits call.ensures e call.auto.numbers)
 
-same_length : tie.Need-same-length
+same_length : tie.Need-shape_of-numbers
 same_length c = search rules
 
-same-length-2 : tie.Need-same-length-2
+same-length-2 : tie.Need-shape_of-lines
 same-length-2 c = search rules
 
 returns : tie.Need-returns
 returns c =
-    let start = c.before.before.before.before.before.before.before.before.before.before.before.before.before.before.before in
-    let a = start.args in
-    let room = c.before.before.before.before.before.before.before.before.before.lesser in
-    let call = c.before.before.before.before.before.before.before.read-point-of-message-into in
+    let a = c.args in
+    let room = c.lesser-room in
+    let call = c.read_point_of_message_into-answer in
     record {
       answered =
           answered_by
           (λ o h.
           subst (λ (n : ℕ). PointReadsOfMessage a.map.now a.message.now a.reference.now work_length n o)
-          (room_is a.numbers.now a.lines.now room.result room.ensures start.requires) h)
+          (room_is a.numbers.now a.lines.now room.result room.ensures c.requires) h)
           (host_answered call.ensures
-          (lent_is a.numbers.now a.lines.now call.new.1.1.1.0 room.result room.ensures start.requires call.auto.1.1.1.0)
-          c.before.before.handed.ensures);
+          (lent_is a.numbers.now a.lines.now call.new.numbers room.result room.ensures c.requires call.auto.numbers)
+          c.handed.ensures);
     }
+
+slice_bounds-read_point_of_message_into-end : tie.Need-slice_bounds-read_point_of_message_into-end
+slice_bounds-read_point_of_message_into-end c = search rules
 
 pub read_point_lines_of_message_spec : {M : Type 1} → statement M
 read_point_lines_of_message_spec =
     tie.close
     (tie.spec
     lesser-requires
-    slice-relend-prefix-read-point-of-message-into
+    slice_bounds-read_point_of_message_into-end
     slice-aggregate-read-point-of-message-into
     read-point-of-message-into-requires
     slice-reshare-prefix-handed

@@ -5,25 +5,25 @@ use Rattle.openlr.proofs.PointWriting.{host_wrote_point, host_wrote_no_point}
 use Rattle.openlr.proofs.point.told.Statement.{statement}
 use Rattle.openlr.proofs.point.told.Tie as tie
 
-enum-known-answer : tie.Need-enum-known-answer
+enum-known-answer : tie.Need-enum_known-answer
 enum-known-answer c = search rules
 
-cast-t6 : tie.Need-overflow-cast-t6
-cast-t6 c = search (rules, c.before.before.before.requires _ c.before.answer.given.1)
+cast-t6 : tie.Need-overflow_cast-result
+cast-t6 c = search (rules, c.requires _ c.in-Written.is)
 
-enum-known-answer-2 : tie.Need-enum-known-answer-2
+enum-known-answer-2 : tie.Need-enum_known-answer-in-Refused-1
 enum-known-answer-2 c = search rules
 
-number-of-requires : tie.Need-number-of-requires
+number-of-requires : tie.Need-number_of-number-requires
 number-of-requires c κs = search rules
 
-returns : tie.Need-returns
+returns : tie.Need-returns-in-Written
 unfolding as_point_written
-returns c o h = host_wrote_point c.before.answer.given.1 h
+returns c o h = host_wrote_point c.in-Written.is h
 
-returns-2 : tie.Need-returns-2
+returns-2 : tie.Need-returns-in-Refused
 unfolding as_point_written
-returns-2 c o h = host_wrote_no_point c.before.before.answer2.given.1 c.number_of_lem.ensures h
+returns-2 c o h = host_wrote_no_point c.in-Refused.is c.number_of-number.ensures h
 
 pub told_spec : {M : Type 1} → statement M
 told_spec =
