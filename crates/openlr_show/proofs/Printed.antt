@@ -1,15 +1,15 @@
 -- What is put for an answer of the reader is what is printed for the map and the reference.
-use Prim.Native.Nat.{ℕ, ◌+◌, ◌*◌, ◌≤◌}
-use mathlib.Core.Path.{◌≡◌, sym, ◌∙◌, ap, ap₂, subst}
+use Prim.Native.Nat.{ℕ, ◌≤◌}
+use mathlib.Core.Path.{◌≡◌, sym, ◌∙◌, ap, subst}
 use mathlib.Core.List.{List}
 use native.Mathlib.Omega.{arith}
 use lib.ListN.{length, take, drop, replicate, length-replicate}
 use lib.Seq.{take_at}
 use Rattle.model.specs.declared.ReadAnswer.{ReadAnswer}
 use Rattle.model.specs.Work.{work_length, placed}
-use Rattle.model.specs.Outcome.{ReadOutcome, Reads}
+use Rattle.model.specs.Outcome.{Reads}
 use Rattle.model.specs.Call.{ReadCall}
-use Rattle.model.specs.Text.{text, told, printed_lines, Prints}
+use Rattle.model.specs.Text.{text, told, printed_lines}
 use Rattle.model.proofs.Text.{told_most, told_outcome}
 use Rattle.answer_text.specs.Put.{Put}
 use Rattle.answer_text.proofs.Putting.{put_whole}

@@ -1,6 +1,6 @@
 -- The text that the program makes and hands to the system.
 use Rattle.std.specs.Prelude.{ℕ, List, take}
-use Rattle.io.specs.Counts.{IsPrefixLen}
+use Rattle.std.specs.Counts.{IsPrefixLen}
 use Rattle.model.specs.Text.{Prints}
 use Rattle.console.specs.Handed.{Handed}
 

@@ -9,6 +9,9 @@ use console::{hand_over, load};
 use model::limits::WORK_LENGTH;
 use reader::read;
 
+// How many bytes the buffers of a map and of the text have.
+const LARGE: usize = 65_536;
+
 // How many numbers the line buffer has.
 const PRINTED_LINES: usize = 1_024;
 
@@ -24,20 +27,20 @@ fn make_text(map: &[u8], reference: &[u8], text: &mut [u8]) -> usize
 }
 
 // Hands what is printed for a map and a reference to the system, whole and once: how many bytes it is known to have taken.
-fn show(map: &[u8], reference: &[u8]) -> usize
+fn show(rt: &impl Print, map: &[u8], reference: &[u8]) -> usize
     ensures { Shown map.now reference.now result }
 {
-    let mut text = io::large_buffer();
+    let mut text = [0; LARGE];
     let length = make_text(map, reference, &mut text);
-    hand_over(&text[..length])
+    hand_over(rt, &text[..length])
 }
 
 // A file that is longer than its buffer is cut, and still gets the answer of its whole contents: a map's bytes may be cut anywhere behind the first 46,095,
 // a reference's anywhere behind the first 459 (`map_cut` and `reference_cut` in model/proofs/Cut.antt).
-fn main() {
-    let mut map = io::large_buffer();
+fn main(rt: HostRuntime) {
+    let mut map = [0; LARGE];
     let mut reference = [0; 512];
-    let map_length = load(b"map.bin", &mut map);
-    let reference_length = load(b"ref.bin", &mut reference);
-    show(&map[..map_length], &reference[..reference_length]);
+    let map_length = load(&rt, b"map.bin", &mut map);
+    let reference_length = load(&rt, b"ref.bin", &mut reference);
+    show(&rt, &map[..map_length], &reference[..reference_length]);
 }

@@ -2,7 +2,7 @@
 // the line buffer is as it was.
 #![tactic(auto)]
 
-ghost use Rattle.io.specs.Counts.{IsPrefixLen};
+ghost use Rattle.std.specs.Counts.{IsPrefixLen};
 
 use answer_text::{put, put_head, put_number};
 use buffers::lesser;
@@ -33,14 +33,14 @@ fn put_sum(answer: ReadAnswer, lines: &[u32], row: &mut [u8]) -> usize {
 }
 
 // Prints the row of a reading of lines.
-pub fn show_lines(answer: ReadAnswer, work: &[u32], lines: &[u32]) {
+pub fn show_lines(rt: &impl Print, answer: ReadAnswer, work: &[u32], lines: &[u32]) {
     let mut row = [0; ROW];
     let count = lesser(count_of(answer), lines.len());
     let sum = put_sum(answer, lines, &mut row);
     let state = put_work(work, &mut row, sum);
     let rest = put_rest(is_kept(lines, count), &mut row, state);
     let end = put(b"\n", &mut row, rest);
-    hand_over(&row[..end]);
+    hand_over(rt, &row[..end]);
 }
 
 // Puts a count of lines and the span of an offset.
@@ -84,12 +84,12 @@ fn point_line_count(answer: PointReadAnswer) -> usize {
 }
 
 // Prints the row of a reading of a point.
-pub fn show_point(answer: PointReadAnswer, work: &[u32], lines: &[u32]) {
+pub fn show_point(rt: &impl Print, answer: PointReadAnswer, work: &[u32], lines: &[u32]) {
     let mut row = [0; ROW];
     let count = lesser(point_line_count(answer), lines.len());
     let told = put_point(answer, lines, &mut row, 0);
     let state = put_work(work, &mut row, told);
     let rest = put_rest(is_kept(lines, count), &mut row, state);
     let end = put(b"\n", &mut row, rest);
-    hand_over(&row[..end]);
+    hand_over(rt, &row[..end]);
 }

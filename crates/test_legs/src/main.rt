@@ -54,19 +54,19 @@ fn leg_of(words: &[u8]) -> Leg {
     }
 }
 
-fn print_verdict(found: Verdict) {
+fn print_verdict(rt: &impl Print, found: Verdict) {
     match found {
         Verdict::Unread => {
-            hand_over(b"none");
+            hand_over(rt, b"none");
         }
         Verdict::One(reading) => {
-            print(b"one ", reading.first as u64);
-            print(b" ", reading.last as u64);
-            print(b" ", reading.length as u64);
-            print(b" ", reading.count as u64);
+            print(rt, b"one ", reading.first as u64);
+            print(rt, b" ", reading.last as u64);
+            print(rt, b" ", reading.length as u64);
+            print(rt, b" ", reading.count as u64);
         }
         Verdict::Several => {
-            hand_over(b"several");
+            hand_over(rt, b"several");
         }
     }
 }
@@ -144,34 +144,34 @@ fn write_reading(
 }
 
 // Prints the verdict on a leg, and the lines of its reading where there is one.
-fn show_leg(work: &mut [u32], nodes: u32, lines: usize, leg: Leg)
+fn show_leg(rt: &impl Print, work: &mut [u32], nodes: u32, lines: usize, leg: Leg)
     requires { (m : Map) × Set m lines work.old × (length m.nodes ≡ nodes) }
 {
     let found = judge(work, nodes, lines, leg);
-    print_verdict(found);
+    print_verdict(rt, found);
     let Verdict::One(reading) = found else {
         return;
     };
     let mut out = [0; MAP_LINES];
     let n = write_reading(work, nodes, lines, leg, reading, &mut out);
-    hand_over(b":");
-    print_each(b" ", &out[..n]);
+    hand_over(rt, b":");
+    print_each(rt, b" ", &out[..n]);
 }
 
 // Prints what is found of a leg, or why its map is refused.
-fn show(map: &[u8], words: &[u8], work: &mut [u32])
+fn show(rt: &impl Print, map: &[u8], words: &[u8], work: &mut [u32])
     requires { work_length ≤ length work.old }
 {
     match open_map(map, work) {
-        Opened::Ready(nodes, lines) => show_leg(work, nodes, lines, leg_of(words)),
+        Opened::Ready(nodes, lines) => show_leg(rt, work, nodes, lines, leg_of(words)),
         Opened::Refused(why) => {
-            print(b"refused ", number_of(why) as u64);
+            print(rt, b"refused ", number_of(why) as u64);
         }
     }
 }
 
 // Each case has two parts, a map and a leg. An empty map stands for the one before it.
-fn run(bytes: &[u8], work: &mut [u32])
+fn run(rt: &impl Print, bytes: &[u8], work: &mut [u32])
     requires { work_length ≤ length work.old }
 {
     let mut at: usize = 0;
@@ -189,14 +189,14 @@ fn run(bytes: &[u8], work: &mut [u32])
             map_from = from;
             map_to = middle;
         }
-        show(&bytes[map_from..map_to], &bytes[start..to], work);
-        hand_over(b"\n");
+        show(rt, &bytes[map_from..map_to], &bytes[start..to], work);
+        hand_over(rt, b"\n");
     }
 }
 
-fn main() {
+fn main(rt: HostRuntime) {
     let mut bytes = cases::megabyte();
     let mut work = [0; WORK_LENGTH];
-    let n = console::load(b"cases.bin", &mut bytes);
-    run(&bytes[..n], &mut work);
+    let n = console::load(&rt, b"cases.bin", &mut bytes);
+    run(&rt, &bytes[..n], &mut work);
 }

@@ -56,7 +56,7 @@ fn put_chains(work: &[u32], lines: usize, turns: &mut [u32]) -> usize
     n
 }
 
-fn show(map: &[u8], work: &mut [u32])
+fn show(rt: &impl Print, map: &[u8], work: &mut [u32])
     requires { work_length ≤ length work.old }
 {
     match read_map(map, work) {
@@ -66,19 +66,19 @@ fn show(map: &[u8], work: &mut [u32])
             let n = put_chains(work, count, &mut turns);
             let of_nodes = sum_of(work, 0, NODE_NUMBERS * nodes as usize, 0);
             let of_lines = sum_of(work, LINES, LINES + LINE_NUMBERS * count, of_nodes);
-            print(b"nodes ", nodes as u64);
-            print(b" lines ", lines as u64);
-            print(b" bans ", (n / 2) as u64);
-            print(b" sum ", sum_of(&turns, 0, n, of_lines));
+            print(rt, b"nodes ", nodes as u64);
+            print(rt, b" lines ", lines as u64);
+            print(rt, b" bans ", (n / 2) as u64);
+            print(rt, b" sum ", sum_of(&turns, 0, n, of_lines));
         }
         MapRead::Refused(why) => {
-            print(b"refused ", number_of(why) as u64);
+            print(rt, b"refused ", number_of(why) as u64);
         }
     }
-    hand_over(b"\n");
+    hand_over(rt, b"\n");
 }
 
-fn run(bytes: &[u8], work: &mut [u32])
+fn run(rt: &impl Print, bytes: &[u8], work: &mut [u32])
     requires { work_length ≤ length work.old }
 {
     let mut at = 0;
@@ -86,14 +86,14 @@ fn run(bytes: &[u8], work: &mut [u32])
         let Part::At(from, to) = cases::part_at(bytes, at) else {
             return;
         };
-        show(&bytes[from..to], work);
+        show(rt, &bytes[from..to], work);
         at = to;
     }
 }
 
-fn main() {
+fn main(rt: HostRuntime) {
     let mut bytes = cases::megabyte();
     let mut work = [0; WORK_LENGTH];
-    let n = console::load(b"cases.bin", &mut bytes);
-    run(&bytes[..n], &mut work);
+    let n = console::load(&rt, b"cases.bin", &mut bytes);
+    run(&rt, &bytes[..n], &mut work);
 }

@@ -3,7 +3,7 @@
 // message what test_reads and test_points print. What it prints is held to what the unrelated implementation says (oracle/pack.py).
 #![tactic(auto)]
 
-ghost use Rattle.io.specs.Counts.{IsPrefixLen};
+ghost use Rattle.std.specs.Counts.{IsPrefixLen};
 
 use answer_text::{put, put_number};
 use buffers::lesser;
@@ -58,22 +58,22 @@ fn put_told(answer: MessageAnswer, row: &mut [u8]) -> usize
 }
 
 // Prints the row of a call that starts a message.
-fn show_start(answer: MessageAnswer, buffer: &[u8], work: &[u32]) {
+fn show_start(rt: &impl Print, answer: MessageAnswer, buffer: &[u8], work: &[u32]) {
     let mut row = [0; ROW];
     let told = put_told(answer, &mut row);
     let summed = put_number(b" sum ", sum_of_bytes(buffer, buffer.len()), &mut row, told);
     let state = put_work(work, &mut row, summed);
     let end = put(b"\n", &mut row, state);
-    hand_over(&row[..end]);
+    hand_over(rt, &row[..end]);
 }
 
 // Prints the row of a call that writes.
-fn show(answer: MessageAnswer, buffer: &[u8]) {
+fn show(rt: &impl Print, answer: MessageAnswer, buffer: &[u8]) {
     let mut row = [0; ROW];
     let told = put_told(answer, &mut row);
     let summed = put_number(b" sum ", sum_of_bytes(buffer, buffer.len()), &mut row, told);
     let end = put(b"\n", &mut row, summed);
-    hand_over(&row[..end]);
+    hand_over(rt, &row[..end]);
 }
 
 // The message that the calls go on with.
@@ -85,67 +85,95 @@ fn going_on(answer: MessageAnswer, m: Message) -> Message {
 }
 
 // The same, with the row printed.
-fn shown(answer: MessageAnswer, m: Message, buffer: &[u8]) -> Message {
-    show(answer, buffer);
+fn shown(rt: &impl Print, answer: MessageAnswer, m: Message, buffer: &[u8]) -> Message {
+    show(rt, answer, buffer);
     going_on(answer, m)
 }
 
 // Prints the rest of the row of a reference that was asked for.
-fn show_part(part: &[u8]) {
+fn show_part(rt: &impl Print, part: &[u8]) {
     let mut row = [0; ROW];
     let counted = put_number(b"bytes ", part.len() as u64, &mut row, 0);
     let summed = put_number(b" sum ", sum_of_bytes(part, part.len()), &mut row, counted);
     let end = put(b"\n", &mut row, summed);
-    hand_over(&row[..end]);
+    hand_over(rt, &row[..end]);
 }
 
 // Asks for a reference of a message that is being written.
-fn ask_finished(m: Message, buffer: &[u8], n: u32) {
-    show_part(reference(m, buffer, n as usize));
+fn ask_finished(rt: &impl Print, m: Message, buffer: &[u8], n: u32) {
+    show_part(rt, reference(m, buffer, n as usize));
 }
 
 // Asks for a reference of a received message: first where it stands, then the part itself.
-fn ask_received(message: &[u8], n: u32) {
+fn ask_received(rt: &impl Print, message: &[u8], n: u32) {
     let mut row = [0; ROW];
     let part = place(message, n as usize);
     let placed = put_number(b"from ", part.0 as u64, &mut row, 0);
     let end = put(b" ", &mut row, placed);
-    hand_over(&row[..end]);
-    show_part(received(message, n as usize));
+    hand_over(rt, &row[..end]);
+    show_part(rt, received(message, n as usize));
 }
 
 // Starts a message with this work area and prints the row. A refusal leaves the message that was under way.
-fn start_with(map: &[u8], m: Message, buffer: &mut [u8], work: &mut [u32]) -> Message {
+fn start_with(
+    rt: &impl Print,
+    map: &[u8],
+    m: Message,
+    buffer: &mut [u8],
+    work: &mut [u32],
+) -> Message {
     fill(work);
     let answer = start(map, work, buffer);
-    show_start(answer, buffer, work);
+    show_start(rt, answer, buffer, work);
     going_on(answer, m)
 }
 
 // Starts a message with a work area of the length that the part's number says.
-fn run_start(map: &[u8], rest: &[u8], m: Message, buffer: &mut [u8], work: &mut [u32]) -> Message {
+fn run_start(
+    rt: &impl Print,
+    map: &[u8],
+    rest: &[u8],
+    m: Message,
+    buffer: &mut [u8],
+    work: &mut [u32],
+) -> Message {
     let length = lesser(word_at(rest, 0) as usize, work.len());
-    start_with(map, m, buffer, &mut work[..length])
+    start_with(rt, map, m, buffer, &mut work[..length])
 }
 
 // Reads lines out of a message and prints the row.
-fn read_lines(map: &[u8], message: &[u8], reference: &[u8], work: &mut [u32], lines: &mut [u32]) {
+fn read_lines(
+    rt: &impl Print,
+    map: &[u8],
+    message: &[u8],
+    reference: &[u8],
+    work: &mut [u32],
+    lines: &mut [u32],
+) {
     fill(work);
     fill(lines);
     let answer = read_of_message(map, message, reference, work, lines);
-    show_lines(answer, work, lines);
+    show_lines(rt, answer, work, lines);
 }
 
 // Reads a point out of a message and prints the row.
-fn read_point(map: &[u8], message: &[u8], reference: &[u8], work: &mut [u32], lines: &mut [u32]) {
+fn read_point(
+    rt: &impl Print,
+    map: &[u8],
+    message: &[u8],
+    reference: &[u8],
+    work: &mut [u32],
+    lines: &mut [u32],
+) {
     fill(work);
     fill(lines);
     let answer = read_point_of_message(map, message, reference, work, lines);
-    show_point(answer, work, lines);
+    show_point(rt, answer, work, lines);
 }
 
 // Reads a reference out of a message, by its kind: 8 for lines, else a point.
 fn run_kind(
+    rt: &impl Print,
     kind: u8,
     map: &[u8],
     message: &[u8],
@@ -154,20 +182,28 @@ fn run_kind(
     lines: &mut [u32],
 ) {
     if kind == 8 {
-        read_lines(map, message, reference, work, lines);
+        read_lines(rt, map, message, reference, work, lines);
         return;
     }
-    read_point(map, message, reference, work, lines);
+    read_point(rt, map, message, reference, work, lines);
 }
 
 // Reads with a work area and a line buffer of the lengths that the part's first two numbers say. The third is the message's count of bytes; behind them stands the
 // reference.
-fn run_read(kind: u8, map: &[u8], rest: &[u8], work: &mut [u32], lines: &mut [u32]) {
+fn run_read(
+    rt: &impl Print,
+    kind: u8,
+    map: &[u8],
+    rest: &[u8],
+    work: &mut [u32],
+    lines: &mut [u32],
+) {
     let length = lesser(word_at(rest, 0) as usize, work.len());
     let room = lesser(word_at(rest, 4) as usize, lines.len());
     let from = lesser(12, rest.len());
     let to = lesser(from + word_at(rest, 8) as usize, rest.len());
     run_kind(
+        rt,
         kind,
         map,
         &rest[from..to],
@@ -179,28 +215,29 @@ fn run_read(kind: u8, map: &[u8], rest: &[u8], work: &mut [u32], lines: &mut [u3
 
 // The message after a call: 1 opens, 2 adds the rest of the part, 3 closes, 4 asks for the reference whose number is the rest, and 5 for that of a message
 // that stands behind the number.
-fn run_call(kind: u8, rest: &[u8], m: Message, buffer: &mut [u8]) -> Message {
+fn run_call(rt: &impl Print, kind: u8, rest: &[u8], m: Message, buffer: &mut [u8]) -> Message {
     if kind == 1 {
-        return shown(open_reference(m), m, buffer);
+        return shown(rt, open_reference(m), m, buffer);
     }
     if kind == 2 {
         let answer = add_bytes(m, buffer, rest);
-        return shown(answer, m, buffer);
+        return shown(rt, answer, m, buffer);
     }
     if kind == 3 {
-        return shown(close_reference(m), m, buffer);
+        return shown(rt, close_reference(m), m, buffer);
     }
     if kind == 4 {
-        ask_finished(m, buffer, word_at(rest, 0));
+        ask_finished(rt, m, buffer, word_at(rest, 0));
         return m;
     }
     let number = lesser(4, rest.len());
-    ask_received(&rest[number..], word_at(rest, 0));
+    ask_received(rt, &rest[number..], word_at(rest, 0));
     m
 }
 
 // The message after a call on the map at hand: 6 starts one, 8 and 9 read out of one, and the others are calls without a map.
 fn run_on_map(
+    rt: &impl Print,
     kind: u8,
     map: &[u8],
     rest: &[u8],
@@ -210,13 +247,13 @@ fn run_on_map(
     lines: &mut [u32],
 ) -> Message {
     if kind == 6 {
-        return run_start(map, rest, m, buffer, work);
+        return run_start(rt, map, rest, m, buffer, work);
     }
     if 8 <= kind {
-        run_read(kind, map, rest, work, lines);
+        run_read(rt, kind, map, rest, work, lines);
         return m;
     }
-    run_call(kind, rest, m, buffer)
+    run_call(rt, kind, rest, m, buffer)
 }
 
 // A buffer of as many bytes as the part's number says, filled with marks, and no message in it.
@@ -245,6 +282,7 @@ fn behind_kind(part: &[u8]) -> &[u8] {
 
 // The message after a part, with the part that is the map at hand.
 fn run_part(
+    rt: &impl Print,
     part: &[u8],
     map: &[u8],
     written: Written,
@@ -262,6 +300,7 @@ fn run_part(
     let room = lesser(written.room, buffer.len());
     let m = written.message;
     let message = run_on_map(
+        rt,
         kind,
         behind_kind(map),
         behind_kind(part),
@@ -273,7 +312,7 @@ fn run_part(
     Written { message, room }
 }
 
-fn run(bytes: &[u8], buffer: &mut [u8], work: &mut [u32], lines: &mut [u32]) {
+fn run(rt: &impl Print, bytes: &[u8], buffer: &mut [u8], work: &mut [u32], lines: &mut [u32]) {
     let mut at: usize = 0;
     let mut map_from: usize = 0;
     let mut map_to: usize = 0;
@@ -291,6 +330,7 @@ fn run(bytes: &[u8], buffer: &mut [u8], work: &mut [u32], lines: &mut [u32]) {
             map_to = to;
         }
         written = run_part(
+            rt,
             &bytes[from..to],
             &bytes[map_from..map_to],
             written,
@@ -301,11 +341,11 @@ fn run(bytes: &[u8], buffer: &mut [u8], work: &mut [u32], lines: &mut [u32]) {
     }
 }
 
-fn main() {
+fn main(rt: HostRuntime) {
     let mut bytes = cases::megabyte();
     let mut buffer = [0; BUFFER];
     let mut work = [0; 14_340];
     let mut lines = [0; 1_100];
-    let n = console::load(b"cases.bin", &mut bytes);
-    run(&bytes[..n], &mut buffer, &mut work, &mut lines);
+    let n = console::load(&rt, b"cases.bin", &mut bytes);
+    run(&rt, &bytes[..n], &mut buffer, &mut work, &mut lines);
 }

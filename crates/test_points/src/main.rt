@@ -28,34 +28,35 @@ fn byte_count(answer: PointWriteAnswer) -> usize {
 }
 
 // Fills the buffers, reads a point into them and prints the row.
-fn read_case(map: &[u8], reference: &[u8], work: &mut [u32], lines: &mut [u32]) {
+fn read_case(rt: &impl Print, map: &[u8], reference: &[u8], work: &mut [u32], lines: &mut [u32]) {
     fill(work);
     fill(lines);
     let answer = read_point(map, reference, work, lines);
-    show_point(answer, work, lines);
+    show_point(rt, answer, work, lines);
 }
 
 // Prints a row's second part: what the reader answers to bytes that the writer wrote.
-fn show_read(map: &[u8], reference: &[u8], work: &mut [u32], lines: &mut [u32]) {
+fn show_read(rt: &impl Print, map: &[u8], reference: &[u8], work: &mut [u32], lines: &mut [u32]) {
     let mut row = [0; ROW];
     let answer = read_point(map, reference, work, lines);
     let start = put(b" read ", &mut row, 0);
     let end = put_point(answer, lines, &mut row, start);
-    hand_over(&row[..end]);
+    hand_over(rt, &row[..end]);
 }
 
 // Prints a row's first part.
-fn show_written(answer: PointWriteAnswer, work: &[u32], bytes: &[u8]) {
+fn show_written(rt: &impl Print, answer: PointWriteAnswer, work: &[u32], bytes: &[u8]) {
     let mut row = [0; ROW];
     let count = lesser(byte_count(answer), bytes.len());
     let written = put_point_written(answer, bytes, &mut row);
     let state = put_work(work, &mut row, written);
     let end = put_rest(bytes_kept(bytes, count), &mut row, state);
-    hand_over(&row[..end]);
+    hand_over(rt, &row[..end]);
 }
 
 // Where the writer wrote bytes: reads exactly those.
 fn read_back(
+    rt: &impl Print,
     map: &[u8],
     answer: PointWriteAnswer,
     bytes: &[u8],
@@ -66,7 +67,7 @@ fn read_back(
         return;
     };
     let written = lesser(count, bytes.len());
-    show_read(map, &bytes[..written], work, lines);
+    show_read(rt, map, &bytes[..written], work, lines);
 }
 
 // Writes the point that the numbers of the case say.
@@ -83,41 +84,62 @@ fn write_given(map: &[u8], words: &[u8], work: &mut [u32], bytes: &mut [u8]) -> 
 }
 
 // Fills the buffers, writes a point into them and prints the row.
-fn write_case(map: &[u8], words: &[u8], work: &mut [u32], bytes: &mut [u8], lines: &mut [u32]) {
+fn write_case(
+    rt: &impl Print,
+    map: &[u8],
+    words: &[u8],
+    work: &mut [u32],
+    bytes: &mut [u8],
+    lines: &mut [u32],
+) {
     fill(work);
     fill_bytes(bytes);
     let answer = write_given(map, words, work, bytes);
-    show_written(answer, work, bytes);
-    read_back(map, answer, bytes, work, lines);
-    hand_over(b"\n");
+    show_written(rt, answer, work, bytes);
+    read_back(rt, map, answer, bytes, work, lines);
+    hand_over(rt, b"\n");
 }
 
 // Writes with a work area and a byte buffer of the lengths that the numbers of the case say.
-fn run_write(map: &[u8], words: &[u8], work: &mut [u32], lines: &mut [u32]) {
+fn run_write(rt: &impl Print, map: &[u8], words: &[u8], work: &mut [u32], lines: &mut [u32]) {
     let mut buffer = [0; BYTES];
     let room = lesser(word_at(words, 8) as usize, BYTES);
-    write_case(map, words, work, &mut buffer[..room], lines);
+    write_case(rt, map, words, work, &mut buffer[..room], lines);
 }
 
 // Reads with a line buffer of the length that the numbers of the case say.
-fn run_read(map: &[u8], reference: &[u8], words: &[u8], work: &mut [u32], lines: &mut [u32]) {
+fn run_read(
+    rt: &impl Print,
+    map: &[u8],
+    reference: &[u8],
+    words: &[u8],
+    work: &mut [u32],
+    lines: &mut [u32],
+) {
     let room = lesser(word_at(words, 8) as usize, lines.len());
-    read_case(map, reference, work, &mut lines[..room]);
+    read_case(rt, map, reference, work, &mut lines[..room]);
 }
 
 // A case on its map: reads, or writes where its first number is 1, with a work area of the length that its numbers say.
-fn run_case(map: &[u8], reference: &[u8], words: &[u8], work: &mut [u32], lines: &mut [u32]) {
+fn run_case(
+    rt: &impl Print,
+    map: &[u8],
+    reference: &[u8],
+    words: &[u8],
+    work: &mut [u32],
+    lines: &mut [u32],
+) {
     let length = lesser(word_at(words, 4) as usize, work.len());
     if word_at(words, 0) == 1 {
-        run_write(map, words, &mut work[..length], lines);
+        run_write(rt, map, words, &mut work[..length], lines);
         return;
     }
-    run_read(map, reference, words, &mut work[..length], lines);
+    run_read(rt, map, reference, words, &mut work[..length], lines);
 }
 
 // Each case has three parts: a map, a reference, and eight numbers of four bytes each. These are 1 where the case writes, the length of the work area, the
 // room of the line or byte buffer, the line, the offset, the orientation and the side that are written, and 1 where the map is that of the case before.
-fn run(bytes: &[u8], work: &mut [u32], lines: &mut [u32]) {
+fn run(rt: &impl Print, bytes: &[u8], work: &mut [u32], lines: &mut [u32]) {
     let mut at: usize = 0;
     let mut map_from: usize = 0;
     let mut map_to: usize = 0;
@@ -137,6 +159,7 @@ fn run(bytes: &[u8], work: &mut [u32], lines: &mut [u32]) {
             map_to = middle;
         }
         run_case(
+            rt,
             &bytes[map_from..map_to],
             &bytes[start..end],
             &bytes[words..to],
@@ -146,10 +169,10 @@ fn run(bytes: &[u8], work: &mut [u32], lines: &mut [u32]) {
     }
 }
 
-fn main() {
+fn main(rt: HostRuntime) {
     let mut bytes = cases::megabyte();
     let mut work = [0; 14_340];
     let mut lines = [0; 1_100];
-    let n = console::load(b"cases.bin", &mut bytes);
-    run(&bytes[..n], &mut work, &mut lines);
+    let n = console::load(&rt, b"cases.bin", &mut bytes);
+    run(&rt, &bytes[..n], &mut work, &mut lines);
 }

@@ -9,18 +9,26 @@ use reader::read;
 use reading_rows::show_lines;
 
 // Fills the buffers, reads into them and prints the row.
-fn call(map: &[u8], reference: &[u8], work: &mut [u32], lines: &mut [u32]) {
+fn call(rt: &impl Print, map: &[u8], reference: &[u8], work: &mut [u32], lines: &mut [u32]) {
     fill(work);
     fill(lines);
     let answer = read(map, reference, work, lines);
-    show_lines(answer, work, lines);
+    show_lines(rt, answer, work, lines);
 }
 
 // Makes the call with a work area and a line buffer of the lengths that the numbers of the case say.
-fn run_case(map: &[u8], reference: &[u8], words: &[u8], work: &mut [u32], lines: &mut [u32]) {
+fn run_case(
+    rt: &impl Print,
+    map: &[u8],
+    reference: &[u8],
+    words: &[u8],
+    work: &mut [u32],
+    lines: &mut [u32],
+) {
     let work_length = lesser(word_at(words, 0) as usize, work.len());
     let line_room = lesser(word_at(words, 4) as usize, lines.len());
     call(
+        rt,
         map,
         reference,
         &mut work[..work_length],
@@ -30,7 +38,7 @@ fn run_case(map: &[u8], reference: &[u8], words: &[u8], work: &mut [u32], lines:
 
 // Each case has three parts: a map, a reference, and three numbers of four bytes each. These are the lengths of the work area and of the line buffer,
 // and 1 where the map is that of the case before.
-fn run(bytes: &[u8], work: &mut [u32], lines: &mut [u32]) {
+fn run(rt: &impl Print, bytes: &[u8], work: &mut [u32], lines: &mut [u32]) {
     let mut at: usize = 0;
     let mut map_from: usize = 0;
     let mut map_to: usize = 0;
@@ -50,6 +58,7 @@ fn run(bytes: &[u8], work: &mut [u32], lines: &mut [u32]) {
             map_to = middle;
         }
         run_case(
+            rt,
             &bytes[map_from..map_to],
             &bytes[start..end],
             &bytes[words..to],
@@ -60,10 +69,10 @@ fn run(bytes: &[u8], work: &mut [u32], lines: &mut [u32]) {
 }
 
 // The line buffer holds the longest reading of the cases, of 65,473 lines, and some numbers more.
-fn main() {
+fn main(rt: HostRuntime) {
     let mut bytes = cases::megabyte();
     let mut work = [0; 14_340];
     let mut lines = [0; 65_480];
-    let n = console::load(b"cases.bin", &mut bytes);
-    run(&bytes[..n], &mut work, &mut lines);
+    let n = console::load(&rt, b"cases.bin", &mut bytes);
+    run(&rt, &bytes[..n], &mut work, &mut lines);
 }

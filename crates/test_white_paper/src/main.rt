@@ -29,29 +29,29 @@ const LATITUDE_2: u32 = 9_000_000 + 4_960_398;
 
 const LATITUDE_3: u32 = 9_000_000 + 4_960_305;
 
-fn write(word: &[u8]) {
-    hand_over(word);
+fn write(rt: &impl Print, word: &[u8]) {
+    hand_over(rt, word);
 }
 
-fn print_tenths(word: &[u8], n: u64) {
-    print(word, n / 10);
-    print(b".", n % 10);
+fn print_tenths(rt: &impl Print, word: &[u8], n: u64) {
+    print(rt, word, n / 10);
+    print(rt, b".", n % 10);
 }
 
-fn print_hundredths(word: &[u8], n: u64) {
-    print_tenths(word, n / 10);
-    print(b"", n % 10);
+fn print_hundredths(rt: &impl Print, word: &[u8], n: u64) {
+    print_tenths(rt, word, n / 10);
+    print(rt, b"", n % 10);
 }
 
 // A difference of 16 bits with its sign.
-fn print_signed(word: &[u8], by: u32)
+fn print_signed(rt: &impl Print, word: &[u8], by: u32)
     requires { by < 65_536 }
 {
-    write(word);
+    write(rt, word);
     if by < 32_768 {
-        print(b"", by as u64);
+        print(rt, b"", by as u64);
     } else {
-        print(b"-", (65_536 - by) as u64);
+        print(rt, b"-", (65_536 - by) as u64);
     }
 }
 
@@ -65,53 +65,53 @@ fn reached(k: usize, by_lon: u32, by_lat: u32) -> bool {
 }
 
 // The coordinates of each point, the differences to it from the second on.
-fn show_coordinates(bytes: &[u8], points: usize)
+fn show_coordinates(rt: &impl Print, bytes: &[u8], points: usize)
     requires { SoundBytes bytes.now points }
 {
-    print(b"Table 72: 1 code ", at3(bytes, 1) as u64);
-    print(b" code ", at3(bytes, 4) as u64);
+    print(rt, b"Table 72: 1 code ", at3(bytes, 1) as u64);
+    print(rt, b" code ", at3(bytes, 4) as u64);
     let mut k: usize = 0;
     while k < points {
         let by_lon = at2(bytes, 10 + 7 * k);
         let by_lat = at2(bytes, 12 + 7 * k);
-        print(b"\nTable 72: ", (k + 2) as u64);
-        print_signed(b" ", by_lon);
-        print_signed(b" ", by_lat);
+        print(rt, b"\nTable 72: ", (k + 2) as u64);
+        print_signed(rt, b" ", by_lon);
+        print_signed(rt, b" ", by_lat);
         if reached(k, by_lon, by_lat) {
-            write(b" reached");
+            write(rt, b" reached");
         }
         k += 1;
     }
 }
 
-fn print_form_of_way(fow: u32) {
+fn print_form_of_way(rt: &impl Print, fow: u32) {
     if fow == 2 {
-        write(b" MULTIPLE_CARRIAGEWAY");
+        write(rt, b" MULTIPLE_CARRIAGEWAY");
     } else if fow == 3 {
-        write(b" SINGLE_CARRIAGEWAY");
+        write(rt, b" SINGLE_CARRIAGEWAY");
     } else {
-        print(b" FOW ", fow as u64);
+        print(rt, b" FOW ", fow as u64);
     }
 }
 
 // A point's number, and what it says of its line. A sector has 11.25 degrees.
-fn show_point(number: usize, a: Attributes) {
-    print(b"\nTable 92: ", number as u64);
-    print(b" FRC", a.frc as u64);
-    print_form_of_way(a.fow);
-    print_hundredths(b" ", a.sector as u64 * 1_125);
-    print_hundredths(b" - ", a.sector as u64 * 1_125 + 1_125);
+fn show_point(rt: &impl Print, number: usize, a: Attributes) {
+    print(rt, b"\nTable 92: ", number as u64);
+    print(rt, b" FRC", a.frc as u64);
+    print_form_of_way(rt, a.fow);
+    print_hundredths(rt, b" ", a.sector as u64 * 1_125);
+    print_hundredths(rt, b" - ", a.sector as u64 * 1_125 + 1_125);
 }
 
 // The lengths that give a byte D, in metres and tenths as the table has them. They are in centimetres here.
-fn print_distance(d: u32) {
+fn print_distance(rt: &impl Print, d: u32) {
     let from = d as u64 * DISTANCE_STEP as u64;
-    print_tenths(b" ", from / 10);
-    print_tenths(b" - ", (from + DISTANCE_STEP as u64) / 10);
+    print_tenths(rt, b" ", from / 10);
+    print_tenths(rt, b" - ", (from + DISTANCE_STEP as u64) / 10);
 }
 
 // What the bytes say of the lines at each point and of the legs between them.
-fn show_points(bytes: &[u8], points: usize)
+fn show_points(rt: &impl Print, bytes: &[u8], points: usize)
     requires { SoundBytes bytes.now points }
 {
     let places = [0; 65];
@@ -120,66 +120,69 @@ fn show_points(bytes: &[u8], points: usize)
         let leg = leg_at(bytes, points, &places, k);
         let arrival = leg.arrival;
         k += 1;
-        show_point(k, leg.leaves);
-        print(b" FRC", leg.lowest as u64);
-        print_distance(leg.distance);
+        show_point(rt, k, leg.leaves);
+        print(rt, b" FRC", leg.lowest as u64);
+        print_distance(rt, leg.distance);
         if let Arrival::Matching(a) = arrival {
-            show_point(k + 1, a);
+            show_point(rt, k + 1, a);
         }
     }
 }
 
-fn show_offset(word: &[u8], offset: Offset) {
-    write(word);
+fn show_offset(rt: &impl Print, word: &[u8], offset: Offset) {
+    write(rt, word);
     match offset {
-        Offset::Absent => write(b" no offset available"),
+        Offset::Absent => write(rt, b" no offset available"),
         Offset::Byte(byte) => {
-            print(b" byte ", byte as u64);
+            print(rt, b" byte ", byte as u64);
         }
     }
 }
 
 // The fields that the values of Tables 72 to 74 give: the tables named are those that print their bits.
 // Its bearings of 135, 227 and 290 degrees are drawn, as a map has them: 20 m along, east and north in decimetres.
-fn show_fields() {
-    print(b"\nTable 76: ", longitude_code(LONGITUDE_1) as u64);
-    print(b"\nTable 77: ", latitude_code(LATITUDE_1) as u64);
+fn show_fields(rt: &impl Print) {
+    print(rt, b"\nTable 76: ", longitude_code(LONGITUDE_1) as u64);
+    print(rt, b"\nTable 77: ", latitude_code(LATITUDE_1) as u64);
     print(
+        rt,
         b"\nTable 79: ",
         sector(STEP_ADDED + 141, STEP_ADDED - 141) as u64,
     );
-    print(b"\nTable 80: ", distance(56_100) as u64);
+    print(rt, b"\nTable 80: ", distance(56_100) as u64);
     print(
+        rt,
         b"\nTable 84: ",
         sector(STEP_ADDED - 146, STEP_ADDED - 136) as u64,
     );
-    print(b"\nTable 85: ", distance(27_400) as u64);
+    print(rt, b"\nTable 85: ", distance(27_400) as u64);
     print(
+        rt,
         b"\nTable 89: ",
         sector(STEP_ADDED - 188, STEP_ADDED + 68) as u64,
     );
-    print(b"\nTable 90: ", offset_byte(56_100, 15_000) as u64);
-    write(b"\n");
+    print(rt, b"\nTable 90: ", offset_byte(56_100, 15_000) as u64);
+    write(rt, b"\n");
 }
 
-fn show(bytes: &[u8]) {
+fn show(rt: &impl Print, bytes: &[u8]) {
     match Reference::of(bytes) {
         Form::Sound(reference) => {
             let points = reference.points;
-            show_coordinates(bytes, points);
-            show_points(bytes, points);
-            show_offset(b"\nTable 93: positive", positive_offset(bytes, points));
-            show_offset(b"\nTable 93: negative", negative_offset(bytes, points));
+            show_coordinates(rt, bytes, points);
+            show_points(rt, bytes, points);
+            show_offset(rt, b"\nTable 93: positive", positive_offset(bytes, points));
+            show_offset(rt, b"\nTable 93: negative", negative_offset(bytes, points));
         }
         Form::Refused(why) => {
-            print(b"refused ", number_of(why) as u64);
+            print(rt, b"refused ", number_of(why) as u64);
         }
     }
 }
 
-fn main() {
+fn main(rt: HostRuntime) {
     let mut bytes = [0; 512];
-    let n = load(b"example.bin", &mut bytes);
-    show(&bytes[..n]);
-    show_fields();
+    let n = load(&rt, b"example.bin", &mut bytes);
+    show(&rt, &bytes[..n]);
+    show_fields(&rt);
 }

@@ -3,7 +3,7 @@
 // those. What it prints is held to what the unrelated implementation says (oracle/pack.py).
 #![tactic(auto)]
 
-ghost use Rattle.io.specs.Counts.{IsPrefixLen};
+ghost use Rattle.std.specs.Counts.{IsPrefixLen};
 
 use answer_text::{put, put_head, put_number};
 use buffers::lesser;
@@ -27,13 +27,13 @@ fn count_of(answer: WriteAnswer) -> usize {
 }
 
 // Prints a row's first part.
-fn show_call(answer: WriteAnswer, work: &[u32], bytes: &[u8]) {
+fn show_call(rt: &impl Print, answer: WriteAnswer, work: &[u32], bytes: &[u8]) {
     let mut row = [0; ROW];
     let count = lesser(count_of(answer), bytes.len());
     let written = put_written(answer, bytes, &mut row);
     let state = put_work(work, &mut row, written);
     let end = put_rest(bytes_kept(bytes, count), &mut row, state);
-    hand_over(&row[..end]);
+    hand_over(rt, &row[..end]);
 }
 
 // Puts what the reader answers to bytes that the writer wrote and, where it hands back lines, a sum over them.
@@ -50,24 +50,32 @@ fn put_read(answer: ReadAnswer, lines: &[u32], row: &mut [u8]) -> usize
 }
 
 // Prints a row's second part: what the reader answers to bytes that the writer wrote.
-fn show_read(map: &[u8], reference: &[u8], work: &mut [u32], lines: &mut [u32]) {
+fn show_read(rt: &impl Print, map: &[u8], reference: &[u8], work: &mut [u32], lines: &mut [u32]) {
     let mut row = [0; ROW];
     let answer = read(map, reference, work, lines);
     let end = put_read(answer, lines, &mut row);
-    hand_over(&row[..end]);
+    hand_over(rt, &row[..end]);
 }
 
 // Where the writer wrote bytes: reads exactly those.
-fn read_back(map: &[u8], answer: WriteAnswer, bytes: &[u8], work: &mut [u32], lines: &mut [u32]) {
+fn read_back(
+    rt: &impl Print,
+    map: &[u8],
+    answer: WriteAnswer,
+    bytes: &[u8],
+    work: &mut [u32],
+    lines: &mut [u32],
+) {
     let WriteAnswer::Written(count, _, _) = answer else {
         return;
     };
     let written = lesser(count, bytes.len());
-    show_read(map, &bytes[..written], work, lines);
+    show_read(rt, map, &bytes[..written], work, lines);
 }
 
 // Fills the buffers, writes into them and prints the row.
 fn call(
+    rt: &impl Print,
     map: &[u8],
     stretch: &[u32],
     pos: u32,
@@ -80,13 +88,14 @@ fn call(
     fill(work);
     fill_bytes(bytes);
     let answer = write(map, stretch, pos, neg, tests, work, bytes);
-    show_call(answer, work, bytes);
-    read_back(map, answer, bytes, work, lines);
-    hand_over(b"\n");
+    show_call(rt, answer, work, bytes);
+    read_back(rt, map, answer, bytes, work, lines);
+    hand_over(rt, b"\n");
 }
 
 // Makes the call with the offsets and the number of leg tests that the numbers of the case say, and with a work area and a byte buffer of the lengths that they say.
 fn run_case(
+    rt: &impl Print,
     map: &[u8],
     stretch: &[u32],
     words: &[u8],
@@ -97,6 +106,7 @@ fn run_case(
     let work_length = lesser(word_at(words, 12) as usize, work.len());
     let byte_room = lesser(word_at(words, 16) as usize, bytes.len());
     call(
+        rt,
         map,
         stretch,
         word_at(words, 0),
@@ -109,17 +119,25 @@ fn run_case(
 }
 
 // A case on its map: the stretch is taken out of its part, and the call made.
-fn run_parts(map: &[u8], part: &[u8], words: &[u8], work: &mut [u32]) {
+fn run_parts(rt: &impl Print, map: &[u8], part: &[u8], words: &[u8], work: &mut [u32]) {
     let mut stretch = [0; 80];
     let mut bytes = [0; 480];
     let mut lines = [0; 80];
     let count = take_words(part, &mut stretch);
-    run_case(map, &stretch[..count], words, work, &mut bytes, &mut lines);
+    run_case(
+        rt,
+        map,
+        &stretch[..count],
+        words,
+        work,
+        &mut bytes,
+        &mut lines,
+    );
 }
 
 // Each case has three parts: a map, a stretch, and six numbers of four bytes each. These are the two offsets, the leg tests, the lengths of the work area
 // and of the byte buffer, and 1 where the map is that of the case before.
-fn run(file: &[u8], work: &mut [u32]) {
+fn run(rt: &impl Print, file: &[u8], work: &mut [u32]) {
     let mut at: usize = 0;
     let mut map_from: usize = 0;
     let mut map_to: usize = 0;
@@ -139,6 +157,7 @@ fn run(file: &[u8], work: &mut [u32]) {
             map_to = middle;
         }
         run_parts(
+            rt,
             &file[map_from..map_to],
             &file[start..end],
             &file[words..to],
@@ -147,9 +166,9 @@ fn run(file: &[u8], work: &mut [u32]) {
     }
 }
 
-fn main() {
+fn main(rt: HostRuntime) {
     let mut file = cases::megabyte();
     let mut work = [0; 14_340];
-    let n = console::load(b"cases.bin", &mut file);
-    run(&file[..n], &mut work);
+    let n = console::load(&rt, b"cases.bin", &mut file);
+    run(&rt, &file[..n], &mut work);
 }

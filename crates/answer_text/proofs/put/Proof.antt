@@ -11,65 +11,65 @@ use borrow.Author.Rules.{rules}
 use Rattle.answer_text.proofs.put.Statement.{statement}
 use Rattle.answer_text.proofs.put.Tie as tie
 
-abbrev invariant-loop : tie.invariant-loop
+abbrev invariant-loop : tie.invariant-loop-i
 invariant-loop bytes buffer₀ at from count i₀ buffer i =
     (i ≤ count) × (from ≡ min at (length buffer₀)) × (count ≡ min (length bytes) (length buffer₀ - from)) × (length buffer ≡ length buffer₀)
     × (buffer ≡ put_at from (take i bytes) buffer₀)
 
-abbrev decreases-loop : tie.decreases-loop
+abbrev decreases-loop : tie.decreases-loop-i
 decreases-loop bytes buffer₀ at from count i₀ buffer i = count - i
 
-lesser-requires : tie.Need-lesser-requires invariant-loop decreases-loop
+lesser-requires : tie.Need-lesser-from-requires invariant-loop decreases-loop
 lesser-requires c κs = search rules
 
-sub-lesser : tie.Need-overflow-sub-lesser invariant-loop decreases-loop
+sub-lesser : tie.Need-overflow_sub-buffer invariant-loop decreases-loop
 sub-lesser c = search rules
 
-lesser-requires-2 : tie.Need-lesser-requires-2 invariant-loop decreases-loop
+lesser-requires-2 : tie.Need-lesser-count-requires invariant-loop decreases-loop
 lesser-requires-2 c κs = search rules
 
-loop-holds : tie.Need-loop-init invariant-loop decreases-loop
+loop-holds : tie.Need-loop-i-init invariant-loop decreases-loop
 loop-holds c =
-    let a = c.before.before.before.before.args in
-    (omega arith, c.before.lesser.ensures, c.lesser2.ensures, refl, sym (put_none c.before.lesser.result a.buffer.now))
+    let a = c.args in
+    (omega arith, c.lesser-from.ensures, c.lesser-count.ensures, refl, sym (put_none c.lesser-from.result a.buffer.now))
 
-shared-slice-read-buffer : tie.Need-shared-slice-read-buffer invariant-loop decreases-loop
+shared-slice-read-buffer : tie.Need-bounds-bytes-i invariant-loop decreases-loop
 shared-slice-read-buffer c = search rules
 
-add-buffer : tie.Need-overflow-add-buffer invariant-loop decreases-loop
+add-buffer : tie.Need-overflow_add-buffer invariant-loop decreases-loop
 add-buffer c = search rules
 
-slice-write-buffer : tie.Need-slice-write-buffer invariant-loop decreases-loop
+slice-write-buffer : tie.Need-bounds-buffer-from invariant-loop decreases-loop
 slice-write-buffer c = search rules
 
-add-i : tie.Need-overflow-add-i invariant-loop decreases-loop
+add-i : tie.Need-overflow_add-i invariant-loop decreases-loop
 add-i c = search rules
 
-loop-less : tie.Need-loop-smaller invariant-loop decreases-loop
+loop-less : tie.Need-loop-i-smaller invariant-loop decreases-loop
 loop-less c = search rules
 
-loop-again : tie.Need-loop-preserved invariant-loop decreases-loop
+loop-again : tie.Need-loop-i-preserved invariant-loop decreases-loop
 loop-again c =
-    let l = c.before.before.loop in
-    let a = c.before.before.before.before.before.before.before.args in
-    let from = c.before.before.before.before.lesser.result in
+    let l = c.loop-i in
+    let a = c.args in
+    let from = c.lesser-from.result in
     let before = a.buffer.now in
     let stored = ap (λ (d : List ℕ). set d (from + l.i) (get_or a.bytes.now l.i 0)) l.invariant.4 in
     let more = put_more from l.i a.bytes.now before (omega (arith, l.invariant.2)) (omega (arith, l.invariant.1, l.invariant.2)) in
     (omega arith, l.invariant.1, l.invariant.2, simp length-set l.invariant.3, stored ∙ more)
 
-add-result : tie.Need-overflow-add-result invariant-loop decreases-loop
+add-result : tie.Need-overflow_add-result invariant-loop decreases-loop
 add-result c = search rules
 
-same_length : tie.Need-same-length invariant-loop decreases-loop
+same_length : tie.Need-shape_of-buffer invariant-loop decreases-loop
 same_length c = search rules
 
 returns : tie.Need-returns invariant-loop decreases-loop
 returns c =
-    let l = c.before.loop in
-    let a = c.before.before.before.before.before.before.args in
-    let from = c.before.before.before.lesser.result in
-    let count = c.before.before.lesser2.result in
+    let l = c.loop-i in
+    let a = c.args in
+    let from = c.lesser-from.result in
+    let count = c.lesser-count.result in
     let all : l.i ≡ count = omega arith in
     let whole = l.invariant.4 ∙ ap (λ (k : ℕ). put_at from (take k a.bytes.now) a.buffer.now) all in
     put_fitting a.at from count a.bytes.now a.buffer.now l.buffer l.invariant.1 l.invariant.2 whole

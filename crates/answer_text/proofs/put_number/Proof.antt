@@ -5,18 +5,18 @@ use borrow.Author.Rules.{rules}
 use Rattle.answer_text.proofs.put_number.Statement.{statement}
 use Rattle.answer_text.proofs.put_number.Tie as tie
 
-put-requires : tie.Need-put-requires
+put-requires : tie.Need-put-next-requires
 put-requires c κs = search rules
 
-put-decimal-requires : tie.Need-put-decimal-requires
+put-decimal-requires : tie.Need-put_decimal-requires
 put-decimal-requires c κs = search rules
 
-same_length : tie.Need-same-length
+same_length : tie.Need-shape_of-buffer
 same_length c = search rules
 
 returns : tie.Need-returns
 unfolding numbered
-returns c = put_both c.before.before.before.before.before.before.put.ensures c.before.before.put-decimal.ensures
+returns c = put_both c.put-next.ensures c.put_decimal.ensures
 
 pub put_number_spec : {M : Type 1} → statement M
 put_number_spec = tie.close (tie.spec put-requires put-decimal-requires same_length returns)

@@ -6,10 +6,10 @@ use Rattle.cases.specs.Sum.{added_to}
 use Rattle.cases.proofs.added.Statement.{statement}
 use Rattle.cases.proofs.added.Tie as tie
 
-mul-result : tie.Need-overflow-mul-result
+mul-result : tie.Need-overflow_mul-result
 mul-result c = search rules
 
-add-result : tie.Need-overflow-add-result
+add-result : tie.Need-overflow_add-result
 add-result c = search rules
 
 returns : tie.Need-returns

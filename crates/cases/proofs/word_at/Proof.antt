@@ -24,19 +24,19 @@ module _ (bytes : List ℕ) (at : ℕ) where
       ap (λ (l : List ℕ). get_or l 0 0) (sym e ∙ word_of bytes at h) in
       rw (le-ltb (length bytes) (at + 4) h) (omega (arith, same))
 
-returns : tie.Need-returns
+returns : tie.Need-returns-then-bytes-at
 returns c = short _ _ (omega arith)
 
-sub-if2 : tie.Need-overflow-sub-if2
+sub-if2 : tie.Need-overflow_sub-bytes
 sub-if2 c = search rules
 
-returns-2 : tie.Need-returns-2
+returns-2 : tie.Need-returns-then-bytes-at-lt4
 returns-2 c = short _ _ (omega arith)
 
-word-at-requires : tie.Need-word-at-requires
+word-at-requires : tie.Need-word_at-requires
 word-at-requires c κs = search rules
 
-returns-3 : tie.Need-returns-3
+returns-3 : tie.Need-returns
 returns-3 c = whole _ _ _ (omega arith) c.word_at.ensures
 
 pub word_at_spec : {M : Type 1} → statement M

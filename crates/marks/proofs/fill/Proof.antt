@@ -9,38 +9,38 @@ use Rattle.marks.proofs.Marks.{marked_set}
 use Rattle.marks.proofs.fill.Statement.{statement}
 use Rattle.marks.proofs.fill.Tie as tie
 
-abbrev invariant-loop : tie.invariant-loop
+abbrev invariant-loop : tie.invariant-loop-i
 invariant-loop buffer₀ i₀ buffer i = (i ≤ length buffer₀) × (length buffer ≡ length buffer₀) × Marked mark_of buffer 0 i
 
-abbrev decreases-loop : tie.decreases-loop
+abbrev decreases-loop : tie.decreases-loop-i
 decreases-loop buffer₀ i₀ buffer i = length buffer₀ - i
 
-loop-holds : tie.Need-loop-init invariant-loop decreases-loop
+loop-holds : tie.Need-loop-i-init invariant-loop decreases-loop
 loop-holds c = (search rules, search rules, λ k b f. absurd (omega arith))
 
 mark-requires : tie.Need-mark-requires invariant-loop decreases-loop
 mark-requires c κs = search rules
 
-mul-buffer : tie.Need-overflow-mul-buffer invariant-loop decreases-loop
+mul-buffer : tie.Need-offset_bounds-buffer-i invariant-loop decreases-loop
 mul-buffer c = search rules
 
-slice-write-buffer : tie.Need-slice-write-buffer invariant-loop decreases-loop
+slice-write-buffer : tie.Need-bounds-buffer-i invariant-loop decreases-loop
 slice-write-buffer c = search rules
 
-add-i : tie.Need-overflow-add-i invariant-loop decreases-loop
+add-i : tie.Need-overflow_add-i invariant-loop decreases-loop
 add-i c = search rules
 
-loop-less : tie.Need-loop-smaller invariant-loop decreases-loop
+loop-less : tie.Need-loop-i-smaller invariant-loop decreases-loop
 loop-less c = search rules
 
-loop-again : tie.Need-loop-preserved invariant-loop decreases-loop
-loop-again c = (search rules, search rules, marked_set mark_of c.before.before.loop.buffer _ _ (omega arith) c.mark.ensures c.before.before.loop.invariant.2)
+loop-again : tie.Need-loop-i-preserved invariant-loop decreases-loop
+loop-again c = (search rules, search rules, marked_set mark_of c.loop-i.buffer _ _ (omega arith) c.mark.ensures c.loop-i.invariant.2)
 
-same_length : tie.Need-same-length invariant-loop decreases-loop
+same_length : tie.Need-shape_of-buffer invariant-loop decreases-loop
 same_length c = search rules
 
 returns : tie.Need-returns invariant-loop decreases-loop
-returns c = λ k b f. c.before.loop.invariant.2 k (omega arith) f
+returns c = λ k b f. c.loop-i.invariant.2 k (omega arith) f
 
 pub fill_spec : {M : Type 1} → statement M
 fill_spec =

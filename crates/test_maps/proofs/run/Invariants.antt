@@ -1,0 +1,10 @@
+-- Each part lies inside the bytes and behind the one before it.
+use Rattle.std.proofs.Common.{◌-◌, ◌≤◌, length}
+use Rattle.model.specs.Work.{work_length}
+use Rattle.test_maps.proofs.run.Given as goal
+
+abbrev pub invariant-loop-from : goal.invariant-loop-from
+invariant-loop-from g l = (l.at ≤ length l.bytes) × (work_length ≤ length l.work)
+
+abbrev pub decreases-loop-from : goal.decreases-loop-from
+decreases-loop-from g l = length l.bytes - l.at
