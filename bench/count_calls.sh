@@ -18,8 +18,10 @@ rm "$copy/$clang"
 printf '#!/bin/sh\nexec "%s" "$@" -O0\n' "$toolchain/bin/clang" >"$copy/$clang"
 chmod +x "$copy/$clang"
 
-# The benchmark links the archive for C too. Nothing of it is counted. After this every library that `measured` is built on stands in its out/.
-make --no-print-directory target/staticlib/libmeasured.a archive >/dev/null
+# The benchmark links the archive for C too. Nothing of it is counted.
+make --no-print-directory archive >/dev/null
+# This builds the libraries that `measured` stands on. Over these its archive is made once more.
+(cd crates/measured && rt lib >/dev/null)
 python3 tools/archive.py measured target/staticlib/libmeasured.a --toolchain "$copy/toolchain" >/dev/null
 cargo build --release --offline --quiet --manifest-path bench/Cargo.toml --target-dir target/count --features measured --bin bench
 cat >"$copy/count.py" <<'END'

@@ -1,10 +1,10 @@
-"""Makes the archive of a static library over the libraries that stand in the crates' out/, whether `rt ci` built them or `rt lib`.
+"""Makes the archive of a static library over the libraries that stand in the crates' out/, which must be of the sources as they are.
 
 Usage: python3 tools/archive.py CRATE FILE [--toolchain DIR]   FILE is made, as target/staticlib/libopenlr.a
 
 `rt ci` proves a static library and makes no archive of it. `rt lib` makes one, but passes over each library that `rt ci` built, and proves it once more: in a
 fresh clone that takes about as long as `rt ci`. So the compiler is called here, with the words that `rt lib` has for it. It proves CRATE before it makes FILE.
-With --toolchain another clang compiles it than the toolchain's own.
+Right after `rt ci` in a clean clone the libraries are those that it proved. With --toolchain another clang compiles FILE than the toolchain's own.
 """
 
 import argparse
