@@ -1,4 +1,4 @@
-//! Says where the archives are that the features ask for: `rt staticlib NAME` makes
+//! Says where the archives are that the features ask for: `make` puts them there, as
 //! target/staticlib/libNAME.a.
 
 use std::env;

@@ -5,22 +5,24 @@
 # A leg test is counted where it asks a search, for a sole way or for other first and last lines; one that the table answers is not.
 #
 # In the archive that is measured, search and leg test stand inside the functions that call them. Here the same proved functions are compiled with no
-# optimization, so that each is called: by a copy of the toolchain (links to it) whose clang gets -O0 as its last word. No archive is left behind.
+# optimization, so that each is called: by a copy of the toolchain (links to it) whose clang gets -O0 as its last word. The archive is not left behind.
 set -euo pipefail
 cd "$(dirname "$0")/.."
 
-toolchain=$(dirname "$(dirname "$(readlink -f "$(command -v rt)")")")
+toolchain=$(dirname "$(dirname "$(readlink -f "$(command -v rt)")")")/toolchain
 copy=$(mktemp -d)
 trap 'rm -rf "$copy" target/staticlib/libmeasured.a' EXIT
-cp -rs "$toolchain/." "$copy"
-clang=on/$(uname -m)/toolchain/bin/clang
+cp -rs "$toolchain" "$copy"
+clang=toolchain/bin/clang
 rm "$copy/$clang"
-printf '#!/bin/sh\nexec "%s" "$@" -O0\n' "$toolchain/$clang" >"$copy/$clang"
+printf '#!/bin/sh\nexec "%s" "$@" -O0\n' "$toolchain/bin/clang" >"$copy/$clang"
 chmod +x "$copy/$clang"
 
 # The benchmark links the archive for C too. Nothing of it is counted.
 make --no-print-directory archive >/dev/null
-RATTLE_HOME=$copy rt staticlib measured >/dev/null
+# This builds the libraries that `measured` stands on. Over these its archive is made once more.
+(cd crates/measured && rt lib >/dev/null)
+python3 tools/archive.py measured target/staticlib/libmeasured.a --toolchain "$copy/toolchain" >/dev/null
 cargo build --release --offline --quiet --manifest-path bench/Cargo.toml --target-dir target/count --features measured --bin bench
 cat >"$copy/count.py" <<'END'
 import os

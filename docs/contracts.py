@@ -1,7 +1,8 @@
 """Prints every function of the crates with its contract, a line for each clause, or which of these lines have changed since a revision.
 Usage: python3 docs/contracts.py [--signatures] [--since REVISION]   (make contracts, make contracts SINCE=REVISION)
 
-With --signatures a function's line has its parameters and its result as well."""
+With --signatures a function's line has its parameters and its result as well. Of a revision in an older spelling every clause is told as changed that was
+respelled since."""
 
 import argparse
 import difflib
@@ -10,7 +11,8 @@ import subprocess
 from pathlib import Path
 
 ROOT = Path(__file__).parent.parent
-FUNCTION = re.compile(r"^\s*(?:#\[no_mangle\] )?(pub )?(?:extern \"C\" )?fn (\w+)")
+FUNCTION = re.compile(r"^\s*(?:#\[[^]]*\] )*(pub )?(?:extern \"C\" )?fn (\w+)")
+CLAUSE = re.compile(r"\s*(requires|ensures)\*? ")
 
 
 def sources(revision):
@@ -40,7 +42,7 @@ def functions(text):
             continue
         heads, clauses = [], []
         while not re.search(r"(^|\s)\{$", row):
-            if re.match(r"\s*(requires|ensures) ", row):
+            if CLAUSE.match(row):
                 clauses.append(row.strip())
             elif clauses:
                 clauses[-1] += " " + row.strip()
@@ -48,7 +50,9 @@ def functions(text):
                 heads.append(row.strip())
             row = next(rows)
         heads.append(row.strip().removesuffix("{"))
-        yield (found[1] or "") + found[2], " ".join(heads).strip(), clauses
+        # A signature is told alike whether the layout has it in one line or in several.
+        signature = re.sub(r"\( | (?=\))", lambda found: found[0].strip(), " ".join(heads)).replace(",)", ")")
+        yield (found[1] or "") + found[2], signature.strip(), clauses
 
 
 def contracts(revision, signatures):

@@ -67,8 +67,8 @@ more.
 GATE = f"""\
 {GATE_HEADING}
 
-`make figures GATE=FILE` puts the seconds of the gate's parts here, from what `time make test` printed into FILE. Parts run two at a time, and `rt ci` after
-them.
+`make figures GATE=FILE` puts the seconds of the gate's parts here, from what `time make test` printed into FILE. `rt ci` runs first, and the other parts after
+it, two at a time.
 """
 
 

@@ -70,8 +70,8 @@ class Contracts(unittest.TestCase):
     def test_every_function_and_every_clause_is_listed(self):
         code = [path.read_text() for path in ROOT.glob("crates/*/src/**/*.rt")]
         rows = list(contracts.contracts(None, False))
-        clauses = [row for row in rows if re.search(r": (requires|ensures) \{ .* \}$", row)]
-        self.assertEqual(len(clauses), sum(len(re.findall(r"\b(?:requires|ensures) \{", text)) for text in code))
+        clauses = [row for row in rows if re.search(r": (requires|ensures) (\w+ )?\{ .* \}$", row)]
+        self.assertEqual(len(clauses), sum(len(re.findall(r"\b(?:requires|ensures) (?:\w+ )?\{", text)) for text in code))
         self.assertEqual(len(rows) - len(clauses), sum(len(re.findall(r"^[^/\n]*\bfn \w", text, re.MULTILINE)) for text in code))
 
 

@@ -20,7 +20,7 @@ use buffers::words::{WORD_BYTES, put_words, take_words};
 use model::limits::{GREATEST_HOST_LINES, GREATEST_STRETCH, WORK_LENGTH};
 use model::{ReadAnswer, Refusal, WriteAnswer, number_of, row_of};
 
-pub mod message;
+pub mod messages;
 pub mod point;
 
 // How many line numbers are taken from a stretch: one more than it may have, so that a longer one is refused.

@@ -7,35 +7,35 @@ use Rattle.measured.proofs.Refused.{short, full}
 use Rattle.measured.proofs.measured_read_map.Statement.{statement}
 use Rattle.measured.proofs.measured_read_map.Tie as tie
 
-returns : tie.Need-returns
-returns c = short _ _ c.if1.true
+returns : tie.Need-returns-then-work-lt-WORK_LENGTH
+returns c = short _ _ c.if-work-lt-WORK_LENGTH.true
 
-read-map-requires : tie.Need-read-map-requires
+read-map-requires : tie.Need-read_map-requires
 read-map-requires c κs = search rules
 
-enum_told : tie.Need-enum-told
+enum_told : tie.Need-enum_told-1
 enum_told c = search rules
 
-enum-known-why : tie.Need-enum-known-why
+enum-known-why : tie.Need-enum_known-why
 enum-known-why c = search rules
 
-number-of-requires : tie.Need-number-of-requires
+number-of-requires : tie.Need-number_of-requires
 number-of-requires c κs = search rules
 
-same_length : tie.Need-same-length
+same_length : tie.Need-shape_of-work-in-Whole
 same_length c = search rules
 
-returns-2 : tie.Need-returns-2
+returns-2 : tie.Need-returns-in-Whole
 unfolding refused_by
-returns-2 c = full _ _ c.before.before.before.before.before.before.if1.false (read_whole c.before.before.before.before.read-map.ensures c.enum_told.given.1).decodes
+returns-2 c = full _ _ c.if-work-lt-WORK_LENGTH.false (read_whole c.read_map.ensures c.in-Whole.is).decodes
 
-same-length-2 : tie.Need-same-length-2
+same-length-2 : tie.Need-shape_of-work-in-Refused
 same-length-2 c = search rules
 
-returns-3 : tie.Need-returns-3
+returns-3 : tie.Need-returns-in-Refused
 unfolding refused_by
 returns-3 c =
-    c.number_of_lem.ensures ∙ full _ _ c.before.before.before.before.before.before.before.before.if1.false (read_refused c.before.before.before.before.before.before.read-map.ensures c.before.before.why.given.1)
+    c.number_of.ensures ∙ full _ _ c.if-work-lt-WORK_LENGTH.false (read_refused c.read_map.ensures c.in-Refused.is)
 
 pub measured_read_map_spec : {M : Type 1} → statement M
 measured_read_map_spec =

@@ -7,40 +7,40 @@ use Rattle.measured.proofs.Refused.{short, full}
 use Rattle.measured.proofs.measured_search.Statement.{statement}
 use Rattle.measured.proofs.measured_search.Tie as tie
 
-returns : tie.Need-returns
-returns c = short _ _ c.if1.true
+returns : tie.Need-returns-then-work-lt-WORK_LENGTH
+returns c = short _ _ c.if-work-lt-WORK_LENGTH.true
 
-open-map-requires : tie.Need-open-map-requires
+open-map-requires : tie.Need-open_map-requires
 open-map-requires c κs = search rules
 
-enum-known-lines : tie.Need-enum-known-lines
+enum-known-lines : tie.Need-enum_known-lines
 enum-known-lines c = search rules
 
-search-again-requires : tie.Need-search-again-requires
+search-again-requires : tie.Need-search_again-requires
 search-again-requires c κs =
-    let w = opened_ready c.before.before.before.before.before.before.open-map.ensures c.before.before.lines.given.1 in
+    let w = opened_ready c.open_map.ensures c.in-Ready.is in
     (w.map, w.set)
 
-enum-known-why : tie.Need-enum-known-why
+enum-known-why : tie.Need-enum_known-why
 enum-known-why c = search rules
 
-number-of-requires : tie.Need-number-of-requires
+number-of-requires : tie.Need-number_of-requires
 number-of-requires c κs = search rules
 
-same_length : tie.Need-same-length
+same_length : tie.Need-shape_of-work-in-Ready
 same_length c = search rules
 
-returns-2 : tie.Need-returns-2
+returns-2 : tie.Need-returns-in-Ready
 unfolding refused_by
-returns-2 c = full _ _ c.before.before.before.before.before.before.before.before.before.before.before.if1.false (opened_ready c.before.before.before.before.before.before.before.before.before.open-map.ensures c.before.before.before.before.before.lines.given.1).decodes
+returns-2 c = full _ _ c.if-work-lt-WORK_LENGTH.false (opened_ready c.open_map.ensures c.in-Ready.is).decodes
 
-same-length-2 : tie.Need-same-length-2
+same-length-2 : tie.Need-shape_of-work-in-Refused
 same-length-2 c = search rules
 
-returns-3 : tie.Need-returns-3
+returns-3 : tie.Need-returns-in-Refused
 unfolding refused_by
 returns-3 c =
-    c.number_of_lem.ensures ∙ full _ _ c.before.before.before.before.before.before.before.before.if1.false (opened_refused c.before.before.before.before.before.before.open-map.ensures c.before.before.why.given.1)
+    c.number_of.ensures ∙ full _ _ c.if-work-lt-WORK_LENGTH.false (opened_refused c.open_map.ensures c.in-Refused.is)
 
 pub measured_search_spec : {M : Type 1} → statement M
 measured_search_spec =

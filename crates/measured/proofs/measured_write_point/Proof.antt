@@ -5,41 +5,41 @@ use Rattle.measured.specs.Refusal.{point_written_number}
 use Rattle.measured.proofs.measured_write_point.Statement.{statement}
 use Rattle.measured.proofs.measured_write_point.Tie as tie
 
-write-point-requires : tie.Need-write-point-requires
+write-point-requires : tie.Need-write_point-requires
 write-point-requires c κs = search rules
 
-enum-known-count : tie.Need-enum-known-count
+enum-known-count : tie.Need-enum_known-count
 enum-known-count c = search rules
 
-enum-known-why : tie.Need-enum-known-why
+enum-known-why : tie.Need-enum_known-why
 enum-known-why c = search rules
 
-number-of-requires : tie.Need-number-of-requires
+number-of-requires : tie.Need-number_of-requires
 number-of-requires c κs = search rules
 
-cast-result : tie.Need-overflow-cast-result
+cast-result : tie.Need-overflow_cast-result
 cast-result c = search rules
 
-same_length : tie.Need-same-length
+same_length : tie.Need-shape_of-work-in-Written
 same_length c = search rules
 
-same-length-2 : tie.Need-same-length-2
+same-length-2 : tie.Need-shape_of-bytes-in-Written
 same-length-2 c = search rules
 
-returns : tie.Need-returns
+returns : tie.Need-returns-in-Written
 unfolding point_written_number
-returns c = record { answer = c.before.before.before.before.before.before.before.write-point.result; call = c.before.before.before.before.before.before.before.write-point.ensures; same = sym (ap point_written_number c.before.count.given.1) }
+returns c = record { answer = c.write_point.result; call = c.write_point.ensures; same = sym (ap point_written_number c.in-Written.is) }
 
-same-length-3 : tie.Need-same-length-3
+same-length-3 : tie.Need-shape_of-work-in-Refused
 same-length-3 c = search rules
 
-same-length-4 : tie.Need-same-length-4
+same-length-4 : tie.Need-shape_of-bytes-in-Refused
 same-length-4 c = search rules
 
-returns-2 : tie.Need-returns-2
+returns-2 : tie.Need-returns-in-Refused
 unfolding point_written_number
 returns-2 c =
-    record { answer = c.before.before.before.before.before.before.before.before.write-point.result; call = c.before.before.before.before.before.before.before.before.write-point.ensures; same = c.number_of_lem.ensures ∙ sym (ap point_written_number c.before.before.why.given.1) }
+    record { answer = c.write_point.result; call = c.write_point.ensures; same = c.number_of.ensures ∙ sym (ap point_written_number c.in-Refused.is) }
 
 pub measured_write_point_spec : {M : Type 1} → statement M
 measured_write_point_spec =
