@@ -14,6 +14,8 @@ import os
 import re
 import sys
 
+# Files that have another name today.
+MOVED = {"crates/openlr/src/message.rt": "crates/openlr/src/messages.rt"}
 # Words of the library that have another name today.
 TODAY = {"getd": "getor", "listmem": "mem"}
 
@@ -90,11 +92,12 @@ def newer(clause):
 def of_functions(old, new):
     count = 0
     for path in files(old, "src", ".rt"):
-        if not os.path.exists(os.path.join(new, path)):
+        now = os.path.join(new, MOVED.get(path, path))
+        if not os.path.exists(now):
             print(f"{path}: gone")
             continue
         today = {}
-        for name, head, clauses in functions(read(os.path.join(new, path))):
+        for name, head, clauses in functions(read(now)):
             today.setdefault(name, []).append((head, clauses))
         for name, head, clauses in functions(read(os.path.join(old, path))):
             count += 1
