@@ -82,8 +82,8 @@ fn put_told(answer: MessageAnswer, row: &mut [u8]) -> usize
     ensures { IsPrefixLen result row.new }
 {
     match answer {
-        MessageAnswer::Now(m) => put_message(m, row),
-        MessageAnswer::Refused(why) => put_number(b"refused ", number_of(why) as u64, row, 0),
+        Ok(m) => put_message(m, row),
+        Err(why) => put_number(b"refused ", number_of(why) as u64, row, 0),
     }
 }
 
@@ -108,10 +108,7 @@ fn show(rt: &impl Print, answer: MessageAnswer, buffer: &[u8]) {
 
 // The message that the calls go on with.
 fn going_on(answer: MessageAnswer, m: Message) -> Message {
-    match answer {
-        MessageAnswer::Now(next) => next,
-        MessageAnswer::Refused(_) => m,
-    }
+    answer.unwrap_or(m)
 }
 
 // The same, with the row printed.
