@@ -45,16 +45,14 @@ pub fn put_number(bytes: &mut [u8], number: u32) -> usize
     requires { 5 ≤ length bytes.old }
     ensures { (result ≡ length (number_bytes number)) × (result ≤ 5) × (bytes.new ≡ placed (number_bytes number) bytes.old) }
 {
-    let mut rest = number as u64;
-    let mut i: usize = 0;
-    while i < MOST_GROUPS {
+    let mut rest = u64::from(number);
+    for i in 0..MOST_GROUPS {
         if rest < GROUP {
             bytes[i] = rest as u8;
             return i + 1;
         }
         bytes[i] = (rest % GROUP + GROUP) as u8;
         rest /= GROUP;
-        i += 1;
     }
     MOST_GROUPS
 }
