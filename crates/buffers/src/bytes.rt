@@ -1,7 +1,6 @@
-// Bytes copied, and numbers of 16 and of 24 bits in bytes, high byte first.
+// Numbers of 16 and of 24 bits in bytes, high byte first.
 ghost use Rattle.std.specs.Prelude.{◌≡◌, ◌+◌, ◌≤◌, ◌<◌, ◌*◌, ◌-◌, ◌++◌, [], ◌∷◌, length, take, drop};
 ghost use Rattle.model.specs.Reference.{at2, at3, bytes2, bytes3};
-ghost use Rattle.model.specs.Work.{placed};
 ghost use Rattle.buffers.specs.Placed.{put_at};
 
 // A byte as a number. Its contract spares its callers the bound on an element.
@@ -57,13 +56,4 @@ pub fn put1(bytes: &mut [u8], at: usize, x: u32)
     ensures { bytes.new ≡ put_at at (x ∷ []) bytes.old }
 {
     bytes[at] = x as u8;
-}
-
-// Copies bytes to the start of a buffer.
-#[tactic(auto, unfolding(model::specs::Work::placed))]
-pub fn copy(from: &[u8], into: &mut [u8])
-    requires { length from.now ≤ length into.old }
-    ensures { into.new ≡ placed from.now into.old }
-{
-    into[..from.len()].copy_from_slice(from);
 }

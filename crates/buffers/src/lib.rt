@@ -33,7 +33,7 @@ pub fn fill(buffer: &mut [u32], base: usize, count: usize, x: u32)
 
 // Writes `from` into `into`, from its start on.
 #[tactic(auto, unfolding(model::specs::Work::placed))]
-pub fn copy(from: &[u32], into: &mut [u32])
+pub fn copy<T: Copy>(from: &[T], into: &mut [T])
     requires { length from.now ≤ length into.old }
     ensures { into.new ≡ placed from.now into.old }
 {
