@@ -6,8 +6,7 @@ ghost use Rattle.model.specs.Work.{placed};
 ghost use Rattle.model.specs.Front.{front_bytes, same_map};
 ghost use Rattle.front.specs.Front.{FrontIs, FrontPut};
 
-use buffers::bytes::copy;
-use buffers::lesser;
+use buffers::{copy, lesser};
 use buffers::number::{Number, number_at, put_number};
 use map_sum::map_sum;
 
