@@ -5,7 +5,8 @@ use mathlib.Core.Logic.{◌≢◌}
 use mathlib.Core.List.{List, ◌∷◌}
 use native.Mathlib.Omega.{arith}
 use lib.ListN.{length, get_or, drop, replicate, get_or-append}
-use Rattle.model.specs.declared.WriteAnswer.TheVariants.{Written, Refused}
+use Rattle.std.specs.Prelude.{Option, Some, None, Ok, Err}
+use Rattle.model.specs.Answer.{bytes_written}
 use Rattle.model.specs.Map.{Map}
 use Rattle.model.specs.Lines.{Connected}
 use Rattle.model.specs.Refusal.{row, refusal_of}
@@ -24,7 +25,6 @@ use Rattle.point_choice.specs.NotTested.{GoodOrNotTested}
 use Rattle.point_choice.proofs.Routes.{wider}
 use Rattle.point_choice.proofs.Choosing.{legs_count}
 use Rattle.point_choice.proofs.TestedLegs.{AllSaid, tested_sound, tested_chosen, none_tested, untested_fewest, none_untested, no_fewer}
-use Rattle.reference_bytes.specs.declared.Stored.TheVariants.{Bytes, Short}
 use Rattle.reference_bytes.specs.Put.{CutInto, Inside, Puts}
 use Rattle.leg_tests.proofs.Trials.{connected_lines}
 use Rattle.writer.specs.Found.{FoundLegs}
@@ -87,18 +87,18 @@ module _ (m : Map) (ls : List ℕ) (made : ℕ) (table : List ℕ) (joint : Conn
 
 module _ {m : Map} {ls : List ℕ} {made : ℕ} (pos neg : ℕ) (before : List ℕ) where
   pub nowhere_written : NoChoice (good_or_untested (good m) ls made) ls →
-      WriteAnswered (WriteOn m (stretch_of ls pos neg) made (length before)) before before (Refused why.NoChoice)
+      WriteAnswered (WriteOn m (stretch_of ls pos neg) made (length before)) before before (Err why.NoChoice)
   unfolding refusal_of
   nowhere_written none = refused_write why.NoChoice (no_choice none)
 
   pub unfinished_written : {lss : List (List ℕ)} → NoChoice (tested_good (good m) ls made) ls → Choice (good_or_untested (good m) ls made) ls lss →
-      WriteAnswered (WriteOn m (stretch_of ls pos neg) made (length before)) before before (Refused why.Unfinished)
+      WriteAnswered (WriteOn m (stretch_of ls pos neg) made (length before)) before before (Err why.Unfinished)
   unfolding refusal_of
   unfinished_written none later = refused_write why.Unfinished (unfinished none later)
 
   module _ {table : List ℕ} {legs tests excess : ℕ} (f : FoundLegs m ls made table legs tests excess) {after : List ℕ} where
-    pub put_written : {n : ℕ} → Puts (stretch_bytes m (cut_legs ls 0 f.ends) (stretch_of ls pos neg)) before after (Bytes n) →
-        WriteAnswered (WriteOn m (stretch_of ls pos neg) made (length before)) before after (Written n tests excess)
+    pub put_written : {n : ℕ} → Puts (stretch_bytes m (cut_legs ls 0 f.ends) (stretch_of ls pos neg)) before after (Some n) →
+        WriteAnswered (WriteOn m (stretch_of ls pos neg) made (length before)) before after (Ok (bytes_written n tests excess))
     unfolding bytes_after
     put_written {n} (size, room, e) =
         let lss = cut_legs ls 0 f.ends in
@@ -110,8 +110,8 @@ module _ {m : Map} {ls : List ℕ} {made : ℕ} (pos neg : ℕ) (before : List �
           buffer_after = e;
         }
 
-    pub short_written : Puts (stretch_bytes m (cut_legs ls 0 f.ends) (stretch_of ls pos neg)) before after Short →
-        WriteAnswered (WriteOn m (stretch_of ls pos neg) made (length before)) before after (Refused why.BytesShort)
+    pub short_written : Puts (stretch_bytes m (cut_legs ls 0 f.ends) (stretch_of ls pos neg)) before after None →
+        WriteAnswered (WriteOn m (stretch_of ls pos neg) made (length before)) before after (Err why.BytesShort)
     unfolding bytes_after refusal_of
     short_written (room, e) =
         record { outcome = WriteOutcome.refused (row 11); asked = no_room f.chosen room; answers = WriteAnswers.refusal; buffer_after = e }
