@@ -2,12 +2,12 @@
 use Prim.Native.Nat.{ℕ, suc, ◌+◌, ◌≤◌, ◌<◌}
 use mathlib.Core.Path.{◌≡◌, refl, ◌∙◌}
 use mathlib.Core.Logic.{inl, inr}
+use Rattle.std.proofs.Common.{Some}
 use mathlib.Core.List.{List, [], ◌∷◌, ◌++◌, append_assoc, append-nil}
 use native.Mathlib.Numerals.{add-one}
 use native.Mathlib.Omega.{arith}
 use lib.ListN.{length, get_or, set, drop, length-append}
 use lib.Seq.{set_at, drop-cons, append_snoc, drop-set-lt}
-use Rattle.point_choice.specs.declared.Cut.TheVariants.{Legs}
 use Rattle.point_choice.specs.Cuts.{Best, FirstCut, CutAnswers}
 use Rattle.point_choice.proofs.Routes.{short, first_leg_lem, arrived, unique, rest_best}
 
@@ -27,9 +27,9 @@ overwrite p before k v e l =
     rw (drop-cons before k 0, set_at p (get_or before k 0) (drop (suc k) before) v k e, append_snoc p v (drop (k + 1) before), add-one)
 
 module _ {good : ℕ → ℕ → Type 0} {n : ℕ} where
-  pub set_off : (cuts : List ℕ) → 0 < length cuts → (cs : List ℕ) × Best good n 0 cs → Walked good n (set cuts 0 0) (set cuts 0 0) 0 0
+  pub set_off : (cuts : List ℕ) → 0 < length cuts → {cs : List ℕ} → Best good n 0 cs → Walked good n (set cuts 0 0) (set cuts 0 0) 0 0
   set_off [] l b = absurd (omega arith)
-  set_off (x ∷ xs) l b = record { done = []; rest = b.0; count = refl; enough = omega arith; written = refl; whole = b.1; left = b.1 }
+  set_off (x ∷ xs) l {cs = cs} b = record { done = []; rest = cs; count = refl; enough = omega arith; written = refl; whole = b; left = b }
 
   -- What is left begins with the first cut.
   pub next : {before cuts : List ℕ} {i k to legs : ℕ} → FirstCut good n i to legs → Walked good n before cuts i k → (cs : List ℕ) × Best good n i (to ∷ cs)
@@ -52,7 +52,7 @@ module _ {good : ℕ → ℕ → Type 0} {n : ℕ} where
         left = rest_best f.1;
       }
 
-  pub come_home : (before : List ℕ) {cuts : List ℕ} {i k : ℕ} → i ≡ n → Walked good n (set before 0 0) cuts i k → CutAnswers good n (Legs k) before cuts
+  pub come_home : (before : List ℕ) {cuts : List ℕ} {i k : ℕ} → i ≡ n → Walked good n (set before 0 0) cuts i k → CutAnswers good n (Some k) before cuts
   come_home before {i = i} {k = k} e w =
       let end : Best good n i [] = rw e arrived in (
         w.done,
