@@ -6,7 +6,7 @@ ghost use Rattle.fields.specs.Leg.{arrival_in, leg_in};
 ghost use Rattle.legs.specs.Verdict.{ReadingTo, StandsIn, Judged};
 ghost use Rattle.reference_legs.specs.TerminusAt.{first_at, next_at, terminus_at, Standing};
 
-use fields::leg::{Arrival, Leg, Verdict};
+use fields::leg::{Leg, Verdict};
 use legs::attributes::arrives_as;
 use legs::read_to;
 use search_cells::adjacency::{first_leaving, next_leaving};
@@ -18,10 +18,9 @@ pub fn first_terminus(work: &[u32], lines: usize, leg: Leg) -> usize
     ensures { (m : Map) → Set m lines work.now → leg.to < length m.nodes
         → result ≡ first_at m lines (arrival_in leg.arrival) leg.to }
 {
-    let arrival = leg.arrival;
-    match arrival {
-        Arrival::Any => lines,
-        Arrival::Matching(_) => first_leaving(work, lines, leg.to),
+    match leg.arrival {
+        None => lines,
+        Some(_) => first_leaving(work, lines, leg.to),
     }
 }
 
@@ -31,10 +30,9 @@ pub fn next_terminus(work: &[u32], lines: usize, at: usize, leg: Leg) -> usize
     requires set { (m : Map) × Set m lines work.now }
     ensures { (m : Map) → Set m lines work.now → result ≡ next_at m (arrival_in leg.arrival) at }
 {
-    let arrival = leg.arrival;
-    match arrival {
-        Arrival::Any => 0,
-        Arrival::Matching(_) => next_leaving(work, lines, at),
+    match leg.arrival {
+        None => 0,
+        Some(_) => next_leaving(work, lines, at),
     }
 }
 
@@ -46,10 +44,9 @@ pub fn read_terminus(work: &mut [u32], lines: usize, at: usize, leg: Leg) -> Ver
         → Judged m lines (ReadingTo m (leg_in leg) (terminus_at (arrival_in leg.arrival) leg.to at)) (StandsIn work.new)
         work.old work.new result }
 {
-    let arrival = leg.arrival;
-    match arrival {
-        Arrival::Any => read_to(work, lines, Terminus::Node(leg.to), leg),
-        Arrival::Matching(a) => {
+    match leg.arrival {
+        None => read_to(work, lines, Terminus::Node(leg.to), leg),
+        Some(a) => {
             if !arrives_as(work, lines, at - 1, a) {
                 return Verdict::Unread;
             }

@@ -8,7 +8,7 @@ ghost use Rattle.references.specs.Form.{SoundBytes};
 use buffers::bytes::{at2, at3};
 use console::{hand_over, load, print};
 use fields::coordinate::{latitude_code, longitude_code, longitude_sum, moved};
-use fields::leg::{Arrival, Attributes, distance};
+use fields::leg::{Attributes, distance};
 use fields::offset::offset_byte;
 use fields::sector::sector;
 use model::limits::{DISTANCE_STEP, STEP_ADDED};
@@ -118,12 +118,11 @@ fn show_points(rt: &impl Print, bytes: &[u8], points: usize)
     let mut k: usize = 0;
     while k < points {
         let leg = leg_at(bytes, points, &places, k);
-        let arrival = leg.arrival;
         k += 1;
         show_point(rt, k, leg.leaves);
         print(rt, b" FRC", leg.lowest as u64);
         print_distance(rt, leg.distance);
-        if let Arrival::Matching(a) = arrival {
+        if let Some(a) = leg.arrival {
             show_point(rt, k + 1, a);
         }
     }

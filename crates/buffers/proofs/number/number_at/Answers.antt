@@ -1,5 +1,5 @@
 -- A group more, and the last one, by the lemmas of proofs/Groups.antt.
-use Rattle.std.proofs.Common.{arith, refl, sym, ap, ◌∙◌, ◌≡◌, ◌≤◌, ◌⊎◌, length, drop, List, ℕ, suc, ◌+◌, ◌-◌, ◌*◌, ◌<◌, ◌^◌, get_or, add-one, subst, Option, Some, None, Result, Ok, Err}
+use Rattle.std.proofs.Common.{arith, refl, sym, ap, ◌∙◌, ◌≡◌, ◌≤◌, ◌⊎◌, length, drop, List, ℕ, suc, ◌+◌, ◌-◌, ◌*◌, ◌<◌, ◌^◌, get_or, add-one, subst, Some, None, Result, Ok, Err}
 use Rattle.std.proofs.Math.Nat.{mul-le-mul_right, pow-suc}
 use Rattle.std.proofs.lemmas.Grind.{get_or_default_zero}
 use borrow.Author.Tests.{true-ltb, false-ltb}

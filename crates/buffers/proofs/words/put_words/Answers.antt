@@ -1,5 +1,5 @@
 -- One number more, and all of them.
-use Rattle.std.proofs.Common.{arith, refl, ◌≡◌, ◌∙◌, ap, ℕ, ◌+◌, ◌*◌, List, [], ◌∷◌, ◌++◌, take, drop, get_or}
+use Rattle.std.proofs.Common.{arith, refl, ◌∙◌, ap, ℕ, ◌+◌, ◌*◌, List, [], ◌∷◌, ◌++◌, take, drop, get_or}
 use Rattle.model.specs.Host.{word_bytes}
 use Rattle.buffers.proofs.LineBytes.{put_more, put_all}
 use Rattle.buffers.proofs.words.put_words.Goals as goal
