@@ -44,13 +44,11 @@ pub fn read_terminus(work: &mut [u32], lines: usize, at: usize, leg: Leg) -> Ver
         → Judged m lines (ReadingTo m (leg_in leg) (terminus_at (arrival_in leg.arrival) leg.to at)) (StandsIn work.new)
         work.old work.new result }
 {
-    match leg.arrival {
-        None => read_to(work, lines, Terminus::Node(leg.to), leg),
-        Some(a) => {
-            if !arrives_as(work, lines, at - 1, a) {
-                return Verdict::Unread;
-            }
-            read_to(work, lines, Terminus::Line(at - 1), leg)
-        }
+    let Some(attributes) = leg.arrival else {
+        return read_to(work, lines, Terminus::Node(leg.to), leg);
+    };
+    if !arrives_as(work, lines, at - 1, attributes) {
+        return Verdict::Unread;
     }
+    read_to(work, lines, Terminus::Line(at - 1), leg)
 }
