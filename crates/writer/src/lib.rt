@@ -16,9 +16,9 @@ ghost use Rattle.writer.specs.Found.{Finds};
 use leg_tests::test_legs;
 use model::limits::WORK_LENGTH;
 use model::{Refusal, WriteAnswer, WrittenBytes};
-use opening::{Opened, open_map};
+use opening::open_map;
 use point_choice::untested::hoped_legs;
-use point_choice::{Cut, NO_ROUTE, choose};
+use point_choice::choose;
 use reference_bytes::put;
 use stretches::stretch::check;
 use work_area::clear;
@@ -53,13 +53,8 @@ fn find(
     let mut table = [0u8; LEG_TESTS];
     let made = test_legs(work, lines, part, tests as usize, &mut table);
     let chosen = choose(&table, part.len(), cuts);
-    let hoped = hoped_legs(&mut table, part.len(), made);
-    if hoped == NO_ROUTE {
-        return Err(Refusal::NoChoice);
-    }
-    let Cut::Legs(legs) = chosen else {
-        return Err(Refusal::Unfinished);
-    };
+    let hoped = hoped_legs(&mut table, part.len(), made).ok_or(Refusal::NoChoice)?;
+    let legs = chosen.ok_or(Refusal::Unfinished)?;
     let excess = (legs - hoped) as u32;
     Ok(Found {
         legs,
@@ -137,10 +132,8 @@ fn on_area(
     ensures { WriteAnswered (WriteMap (decode map.now) (stretch_of stretch.now pos neg) tests (length bytes.old))
         bytes.old bytes.new result }
 {
-    match open_map(map, work) {
-        Opened::Ready(_, lines) => on_map(work, lines, stretch, pos, neg, tests, bytes),
-        Opened::Refused(why) => Err(why),
-    }
+    let opened = open_map(map, work)?;
+    on_map(work, opened.lines, stretch, pos, neg, tests, bytes)
 }
 
 // Writes a stretch of lines with its offsets, in centimetres, on a map, by `tests` leg tests at most. An answer that it is written has the count of bytes,
