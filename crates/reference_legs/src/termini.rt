@@ -13,6 +13,7 @@ use search_cells::adjacency::{first_leaving, next_leaving};
 use way_lengths::Terminus;
 
 // Where the first terminus of a leg is: 1 + the line, for a leg that any line may end the count of lines, which stands for its end node, or 0 for none.
+#[tactic(auto, unfolding(fields::specs::Leg::arrival_in))]
 pub fn first_terminus(work: &[u32], lines: usize, leg: Leg) -> usize
     requires { (m : Map) × Set m lines work.now × (leg.to < length m.nodes) }
     ensures { (m : Map) → Set m lines work.now → leg.to < length m.nodes
@@ -25,6 +26,7 @@ pub fn first_terminus(work: &[u32], lines: usize, leg: Leg) -> usize
 }
 
 // Where the next one is.
+#[tactic(auto, unfolding(fields::specs::Leg::arrival_in))]
 pub fn next_terminus(work: &[u32], lines: usize, at: usize, leg: Leg) -> usize
     requires at_nonzero { (0 < at) × (at ≤ lines) }
     requires set { (m : Map) × Set m lines work.now }

@@ -9,6 +9,7 @@ use buffers::wide;
 use fields::leg::{Attributes, Leg};
 
 // The attributes that leg `k` ends with: the last one has those of the last P and R, no other has any.
+#[tactic(auto, unfolding(fields::specs::Leg::arrival_in, crate::specs::Legs::arrival_at))]
 fn arrival_at(bytes: &[u8], points: usize, k: usize) -> Option<Attributes>
     requires { SoundBytes bytes.now points × (k < points) }
     ensures { arrival_in result ≡ arrival_at bytes.now points k }
