@@ -4,7 +4,6 @@ pub mod Decides
 pub mod Kept
 pub mod Stored
 pub mod Stores
-pub mod Copying
 pub mod Placing
 pub mod Groups
 pub mod Numbers

@@ -11,15 +11,13 @@ use Rattle.model.proofs.Opened.{area_full}
 use mathlib.Core.List.{List}
 use Rattle.model.specs.declared.Refusal.{Refusal}
 use Rattle.model.specs.Refusal.{Refused, row, refusal_of}
-use Rattle.model.specs.declared.WriteAnswer.{WriteAnswer}
-use Rattle.model.specs.declared.PointWriteAnswer.{PointWriteAnswer}
+use Rattle.model.specs.Answer.{WriteAnswer, PointWriteAnswer, bytes_written}
 use Rattle.model.specs.Outcome.{ReadOutcome, WriteOutcome, written}
 use Rattle.model.specs.PointAlong.{PointWriteOutcome, PointWriteAnswers}
 use Rattle.model.specs.Call.{lines_after, bytes_after, ReadAnswers, WriteAnswers, Answered, Called, ReadAnswered, WriteAnswered}
 use Rattle.model.proofs.Opened as Opened
-use Rattle.model.specs.declared.ReadAnswer.TheVariants as Reader
-use Rattle.model.specs.declared.WriteAnswer.TheVariants as Writer
-use Rattle.model.specs.declared.PointWriteAnswer.TheVariants as PointWriter
+use Rattle.std.specs.Prelude.{Err, Ok}
+use Rattle.model.proofs.Answers.{same_bytes}
 
 pub answered_by : {Outcome Answer : Type 0} {Tells : Answer → Outcome → Type 0} {left : Outcome → List ℕ → List ℕ} {Asks Asks' : Outcome → Type 0}
     {before after : List ℕ} {a : Answer} → ((o : Outcome) → Asks o → Asks' o) → Answered Tells left Asks before after a →
@@ -27,27 +25,25 @@ pub answered_by : {Outcome Answer : Type 0} {Tells : Answer → Outcome → Type
 answered_by f d = record { outcome = d.outcome; asked = f d.outcome d.asked; answers = d.answers; buffer_after = d.buffer_after }
 
 pub refused_read : {Asks : ReadOutcome → Type 0} {lines : List ℕ} (r : Refusal) → Asks (ReadOutcome.refused (refusal_of r)) →
-    ReadAnswered Asks lines lines (Reader.Refused r)
+    ReadAnswered Asks lines lines (Err r)
 unfolding lines_after
 refused_read r h = record { outcome = ReadOutcome.refused (refusal_of r); asked = h; answers = ReadAnswers.refusal; buffer_after = refl }
 
 pub refused_write : {Asks : WriteOutcome → Type 0} {bytes : List ℕ} (r : Refusal) → Asks (WriteOutcome.refused (refusal_of r)) →
-    WriteAnswered Asks bytes bytes (Writer.Refused r)
+    WriteAnswered Asks bytes bytes (Err r)
 unfolding bytes_after
 refused_write r h = record { outcome = WriteOutcome.refused (refusal_of r); asked = h; answers = WriteAnswers.refusal; buffer_after = refl }
 
 -- ---- an answer of so many bytes tells its outcome
 
-pub told_written : {a : WriteAnswer} {o : WriteOutcome} {count made excess : ℕ} → WriteAnswers a o → a ≡ Writer.Written count made excess →
+pub told_written : {a : WriteAnswer} {o : WriteOutcome} {count made excess : ℕ} → WriteAnswers a o → a ≡ Ok (bytes_written count made excess) →
     (bs : List ℕ) × (o ≡ written bs made excess) × (length bs ≡ count)
 told_written {count = count} {made = made} {excess = excess} (WriteAnswers.bytes {bs = bs} {made = made'} {excess = excess'}) e =
-    let size : length bs ≡ count = cc in
-    let same : made' ≡ made = cc in
-    let over : excess' ≡ excess = cc in
+    let (size, same, over) = same_bytes e in
     (bs, rw (same, over) refl, size)
 told_written WriteAnswers.refusal e = absurd (let z : ◌≡◌ {A = ℕ} 0 1 = cc in omega arith)
 
-pub told_point : {a : PointWriteAnswer} {o : PointWriteOutcome} {count : ℕ} → PointWriteAnswers a o → a ≡ PointWriter.Written count →
+pub told_point : {a : PointWriteAnswer} {o : PointWriteOutcome} {count : ℕ} → PointWriteAnswers a o → a ≡ Ok count →
     (bs : List ℕ) × (o ≡ PointWriteOutcome.written bs) × (length bs ≡ count)
 told_point {count = count} (PointWriteAnswers.bytes {bs = bs}) e = let size : length bs ≡ count = cc in (bs, refl, size)
 told_point PointWriteAnswers.refusal e = absurd (let z : ◌≡◌ {A = ℕ} 0 1 = cc in omega arith)

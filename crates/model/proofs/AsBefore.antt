@@ -4,7 +4,7 @@ use mathlib.Core.Path.{◌≡◌, refl, sym, ap, ap₂, subst}
 use mathlib.Core.List.Memᴰ
 use mathlib.Core.List.{List, [], ◌∷◌, Memᴰ}
 use native.Mathlib.Omega.{arith}
-use Rattle.model.specs.Map.{Map, whole}
+use Rattle.model.specs.Map.{Map}
 use Rattle.model.specs.Difference.{Near, difference, half_circle, brought, lon_difference, DifferencesFit, differences}
 use Rattle.model.specs.Lines.{node_at, Connected, single, linked, first_of, last_of}
 use Rattle.model.specs.Reading.{joined}

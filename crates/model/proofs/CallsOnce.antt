@@ -9,10 +9,7 @@ use lib.ListN.{length}
 use lib.Dec.{eqb}
 use Rattle.model.specs.declared.Refusal.{Refusal}
 use Rattle.model.specs.declared.Refusal.TheVariants.{WorkAreaShort, MapNumber, MapCount, MapCoordinate, MapLine, EqualCodes, StretchLines, StretchGap, StretchOffsets, NoChoice, BytesShort, ReferenceLength, ReferenceStatus, ReferenceBits, ReferenceFlags, NoNode, NoReading, SeveralReadings, NoOffset, LinesShort, StretchBan, JoinedBan, MapBan, MapStep, PointMarks, Unfinished, MessageOrder, MessageFull, OtherMap}
-use Rattle.model.specs.declared.ReadAnswer.{ReadAnswer}
-use Rattle.model.specs.declared.WriteAnswer.{WriteAnswer}
-use Rattle.model.specs.declared.PointReadAnswer.{PointReadAnswer}
-use Rattle.model.specs.declared.PointWriteAnswer.{PointWriteAnswer}
+use Rattle.model.specs.Answer.{ReadAnswer, WriteAnswer, PointReadAnswer, PointWriteAnswer}
 use Rattle.model.specs.Refusal.{number_of, place_of, refusal_of}
 use Rattle.model.specs.Stretch.{Stretch}
 use Rattle.model.specs.Work.{work_length}

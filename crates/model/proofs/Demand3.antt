@@ -6,7 +6,7 @@ use mathlib.Core.List.{List}
 use native.Mathlib.Omega.{arith}
 use lib.ListN.{length}
 use Rattle.model.specs.declared.Span.{Span}
-use Rattle.model.specs.Map.{Map, whole}
+use Rattle.model.specs.Map.{Map}
 use Rattle.model.specs.Lines.{total}
 use Rattle.model.specs.Reference.{Reference, bytes_of, parsed, parse, shortest_reference, longest_reference}
 use Rattle.model.specs.Reading.{Readings, joined, banned_meeting}

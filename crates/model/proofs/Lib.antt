@@ -33,6 +33,7 @@ pub mod Opened
 pub mod Rows
 pub mod Once
 pub mod Calls
+pub mod Answers
 pub mod Answering
 pub mod Text
 pub mod Demand3

@@ -7,8 +7,7 @@ use mathlib.Core.List.{List}
 use native.Mathlib.Omega.{arith}
 use lib.ListN.{length}
 use borrow.Author.Tests.{le-ltb}
-use Rattle.model.specs.declared.ReadAnswer.{ReadAnswer}
-use Rattle.model.specs.declared.PointReadAnswer.{PointReadAnswer}
+use Rattle.model.specs.Answer.{ReadAnswer, PointReadAnswer}
 use Rattle.model.specs.Refusal.{Refused, row, number_of}
 use Rattle.model.specs.Map.{Map, MapAnswer, whole, decode}
 use Rattle.model.specs.Work.{work_length}

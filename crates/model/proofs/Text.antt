@@ -12,14 +12,14 @@ use lib.Dec.{ltb}
 use borrow.Author.Tests.{ltb-true, ltb-false, lt-ltb, le-ltb}
 use mathlib.Core.Logic.{◌⊎◌, inl, inr, ⊎_elim}
 use Rattle.model.specs.declared.Span.{Span}
-use Rattle.model.specs.declared.ReadAnswer.{ReadAnswer}
+use Rattle.model.specs.Answer.{ReadAnswer}
 use Rattle.model.specs.Work.{work_length, placed}
 use Rattle.model.specs.Call.{ReadAnswers, lines_after}
 use Rattle.model.specs.Refusal.{Refused, row, row_at}
 use Rattle.model.specs.Outcome.{ReadOutcome, read}
 use Rattle.model.proofs.Once.{reads_once}
 use Rattle.model.specs.Text.{digits, decimal, numbered, each, acceptance, refusal, text, lines_word, pos_word, neg_word, refused_word, space, row_end, told, printed_lines, Prints}
-use Rattle.model.specs.declared.ReadAnswer.TheVariants as Reader
+use Rattle.std.specs.Prelude.{Err, Ok}
 
 -- The two cases of a number: its last digit alone, or the digits of its tens before it.
 module _ (most x : ℕ) where
@@ -126,9 +126,9 @@ text_most (ReadOutcome.refused r) = omega (arith, length-append (refusal r) row_
 -- What an answer tells with a line buffer has no more lines than the buffer.
 pub told_most : (a : ReadAnswer) (lines : List ℕ) → length (text (told a lines)) ≤ 119 + 21 * length lines
 unfolding told
-told_most (Reader.Read count pos neg) lines =
-    omega (arith, text_most (read (take count lines) pos neg), length-take count lines)
-told_most (Reader.Refused why) lines = omega (arith, text_most (told (Reader.Refused why) lines))
+told_most (Ok a) lines =
+    omega (arith, text_most (read (take a.count lines) a.positive a.negative), length-take a.count lines)
+told_most (Err why) lines = omega (arith, text_most (told (Err why) lines))
 
 -- An answer and the line buffer after the call tell the outcome.
 pub told_outcome : {a : ReadAnswer} {o : ReadOutcome} (before after : List ℕ) → ReadAnswers a o → after ≡ lines_after o before → told a after ≡ o

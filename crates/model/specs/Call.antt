@@ -1,15 +1,12 @@
 -- Calls: the answer, and what each call leaves in what it was lent (paper 01, "Refused, by place", last paragraph).
-use Rattle.std.specs.Prelude.{ℕ, ◌≡◌, List, length}
+use Rattle.std.specs.Prelude.{ℕ, ◌≡◌, List, length, Err, Ok}
 use Rattle.model.specs.declared.Refusal.{Refusal}
 use Rattle.model.specs.declared.Span.{Span}
-use Rattle.model.specs.declared.ReadAnswer.{ReadAnswer}
-use Rattle.model.specs.declared.WriteAnswer.{WriteAnswer}
+use Rattle.model.specs.Answer.{ReadAnswer, WriteAnswer, bytes_written, lines_read}
 use Rattle.model.specs.Refusal.{refusal_of}
 use Rattle.model.specs.Stretch.{Stretch}
 use Rattle.model.specs.Outcome.{ReadOutcome, read, Reads, WriteOutcome, written, Writes}
 use Rattle.model.specs.Work.{cleared, placed}
-use Rattle.model.specs.declared.ReadAnswer.TheVariants as Reader
-use Rattle.model.specs.declared.WriteAnswer.TheVariants as Writer
 
 -- "A refusal leaves the byte and line buffers unchanged."
 unfoldable pub lines_after : ReadOutcome → List ℕ → List ℕ
@@ -22,13 +19,13 @@ bytes_after (WriteOutcome.refused r) bytes = bytes
 
 -- "The reader answers the count of lines and, for each offset, its span."
 pub data ReadAnswers : ReadAnswer → ReadOutcome → Type 0 where
-  lines : {ls : List ℕ} {pos neg : Span} → ReadAnswers (Reader.Read (length ls) pos neg) (read ls pos neg)
-  refusal : {why : Refusal} → ReadAnswers (Reader.Refused why) (ReadOutcome.refused (refusal_of why))
+  lines : {ls : List ℕ} {pos neg : Span} → ReadAnswers (Ok (lines_read (length ls) pos neg)) (read ls pos neg)
+  refusal : {why : Refusal} → ReadAnswers (Err why) (ReadOutcome.refused (refusal_of why))
 
 -- "The writer answers the count of bytes", and the tests made and the excess (W7).
 pub data WriteAnswers : WriteAnswer → WriteOutcome → Type 0 where
-  bytes : {bs : List ℕ} {made excess : ℕ} → WriteAnswers (Writer.Written (length bs) made excess) (written bs made excess)
-  refusal : {why : Refusal} → WriteAnswers (Writer.Refused why) (WriteOutcome.refused (refusal_of why))
+  bytes : {bs : List ℕ} {made excess : ℕ} → WriteAnswers (Ok (bytes_written (length bs) made excess)) (written bs made excess)
+  refusal : {why : Refusal} → WriteAnswers (Err why) (WriteOutcome.refused (refusal_of why))
 
 -- An answer to a part of the definitions' question: an outcome that the part allows, the answer that tells it, and the buffer before and after. The
 -- parts of a call promise it; a whole call has the work area besides.

@@ -1,9 +1,8 @@
 -- Messages for a C host (paper 02, W9 and W10): what it holds of one is four numbers by value, and a part is a place and a count.
-use Rattle.std.specs.Prelude.{ℕ, ◌≡◌, cond, List, [], ◌∷◌, length, take, drop, get_or, eqb}
+use Rattle.std.specs.Prelude.{ℕ, ◌≡◌, cond, List, [], ◌∷◌, length, take, drop, get_or, eqb, Err, Ok}
 use Rattle.model.specs.declared.Message.{Message}
 use Rattle.model.specs.declared.Message.TheVariants.{Closed, Open}
-use Rattle.model.specs.declared.MessageAnswer.{MessageAnswer}
-use Rattle.model.specs.declared.MessageAnswer.TheVariants.{Now, Refused}
+use Rattle.model.specs.Answer.{MessageAnswer}
 use Rattle.model.specs.Refusal.{number_of, refusal_of}
 use Rattle.model.specs.Message.{reference_number, start_of_number}
 use Rattle.model.specs.Work.{work_length}
@@ -25,9 +24,9 @@ message_of h = cond (eqb h.is_open 0) (Closed h.bytes) (Open h.bytes h.added)
 
 -- What the host gets for an answer. On a refusal the rest is as it was given.
 unfoldable pub host_message : HostMessage → MessageAnswer → HostMessage
-host_message given (Now (Closed finished)) = record { refusal = 0; bytes = finished; is_open = 0; added = 0 }
-host_message given (Now (Open finished added)) = record { refusal = 0; bytes = finished; is_open = 1; added = added }
-host_message given (Refused why) =
+host_message given (Ok (Closed finished)) = record { refusal = 0; bytes = finished; is_open = 0; added = 0 }
+host_message given (Ok (Open finished added)) = record { refusal = 0; bytes = finished; is_open = 1; added = added }
+host_message given (Err why) =
     record { refusal = number_of (refusal_of why); bytes = given.bytes; is_open = given.is_open; added = given.added }
 
 -- What the host gets for starting one: the front's count of bytes, or the refusal and nothing else. "The entry points hold the work area themselves."

@@ -16,6 +16,7 @@ pub mod Refusal
 pub mod Locate
 pub mod Span
 pub mod Work
+pub mod Answer
 pub mod Opening
 pub mod Outcome
 pub mod Call

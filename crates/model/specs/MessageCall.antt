@@ -1,11 +1,10 @@
 -- What each call on a message promises, for every message that it can be given, also one that no calls made (paper 02, W9). Starting one is in MessageStart;
 -- what all this comes to over several calls is in MessageHistory.
-use Rattle.std.specs.Prelude.{ℕ, ◌+◌, min, ◌≡◌, Bool, cond, ◌&&◌, List, ◌++◌, length, take, drop, leb, eqb}
+use Rattle.std.specs.Prelude.{ℕ, ◌+◌, min, ◌≡◌, Bool, cond, ◌&&◌, List, ◌++◌, length, take, drop, leb, eqb, Err, Ok}
 use Rattle.model.specs.declared.Refusal.TheVariants.{MessageOrder, MessageFull}
 use Rattle.model.specs.declared.Message.{Message}
 use Rattle.model.specs.declared.Message.TheVariants.{Closed, Open}
-use Rattle.model.specs.declared.MessageAnswer.{MessageAnswer}
-use Rattle.model.specs.declared.MessageAnswer.TheVariants.{Now, Refused}
+use Rattle.model.specs.Answer.{MessageAnswer}
 use Rattle.model.specs.Work.{placed}
 use Rattle.model.specs.Reference.{longest_reference}
 use Rattle.model.specs.Message.{longest_message, length_bytes, framed, reference_number}
@@ -25,23 +24,23 @@ fits finished count room = leb count longest_reference && leb (end_of finished c
 
 -- Refusal 27: "opening when one is open".
 unfoldable pub opening : Message → MessageAnswer
-opening (Closed finished) = Now (Open finished 0)
-opening (Open finished added) = Refused MessageOrder
+opening (Closed finished) = Ok (Open finished 0)
+opening (Open finished added) = Err MessageOrder
 
 -- "Closing answers the message's byte count." Refusal 27: "closing when none is, closing with nothing added". 28 is for numbers that no calls give.
 unfoldable pub closing : Message → MessageAnswer
-closing (Closed finished) = Refused MessageOrder
+closing (Closed finished) = Err MessageOrder
 closing (Open finished added) =
-    cond (eqb added 0) (Refused MessageOrder)
-    (cond (fits finished added longest_message) (Now (Closed (end_of finished added))) (Refused MessageFull))
+    cond (eqb added 0) (Err MessageOrder)
+    (cond (fits finished added longest_message) (Ok (Closed (end_of finished added))) (Err MessageFull))
 
 -- Adding `portion` in a buffer of `room` bytes. Refusal 27: "adding when none is". 28 (after 27): "an addition would take the message, lengths counted, past
 -- the buffer or 16,384 bytes, or a reference past 459".
 unfoldable pub adding : Message → ℕ → List ℕ → MessageAnswer
-adding (Closed finished) room portion = Refused MessageOrder
+adding (Closed finished) room portion = Err MessageOrder
 adding (Open finished added) room portion =
-    cond (eqb (length portion) 0) (Now (Open finished added))
-    (cond (fits finished (added + length portion) room) (Now (Open finished (added + length portion))) (Refused MessageFull))
+    cond (eqb (length portion) 0) (Ok (Open finished added))
+    (cond (fits finished (added + length portion) room) (Ok (Open finished (added + length portion))) (Err MessageFull))
 
 -- The bytes that an open reference has so far, in the part of the buffer that starts where its length stands.
 unfoldable pub so_far : ℕ → List ℕ → List ℕ

@@ -1,11 +1,10 @@
 -- The promise over several calls: "Promises over several calls run from an empty start with these calls only and nothing else writing" (paper 02, W9), from a
 -- start on a map (W10).
-use Rattle.std.specs.Prelude.{ℕ, ◌≤◌, ◌<◌, min, ◌≡◌, true, cond, ◌&&◌, List, [], ◌∷◌, ◌++◌, length, take, get_or, leb}
+use Rattle.std.specs.Prelude.{ℕ, ◌≤◌, ◌<◌, min, ◌≡◌, true, cond, ◌&&◌, List, [], ◌∷◌, ◌++◌, length, take, get_or, leb, Err, Ok}
 use Rattle.model.specs.declared.Refusal.{Refusal}
 use Rattle.model.specs.declared.Message.{Message}
 use Rattle.model.specs.declared.Message.TheVariants.{Closed, Open}
-use Rattle.model.specs.declared.MessageAnswer.{MessageAnswer}
-use Rattle.model.specs.declared.MessageAnswer.TheVariants.{Now, Refused}
+use Rattle.model.specs.Answer.{MessageAnswer}
 use Rattle.model.specs.Refusal.{number_of, refusal_of}
 use Rattle.model.specs.Work.{placed}
 use Rattle.model.specs.Reference.{longest_reference}
@@ -73,8 +72,8 @@ after mb room (call ∷ earlier) = left (after mb room earlier) (outcome mb room
 
 -- The message that the caller goes on with.
 abbrev pub stays : Message → MessageAnswer → Message
-stays m (Now m') = m'
-stays m (Refused why) = m
+stays m (Ok m') = m'
+stays m (Err why) = m
 
 -- One call, its answer, and the buffer before and after it: what the functions promise, and nothing else.
 pub data Made : Message → List ℕ → Call → MessageAnswer → List ℕ → Type 0 where
@@ -90,7 +89,7 @@ pub data History (m₀ : Message) (b₀ : List ℕ) : List Call → Message → 
   then : {earlier : List Call} {m : Message} {buffer : List ℕ} {call : Call} {a : MessageAnswer} {buffer' : List ℕ} →
       History m₀ b₀ earlier m buffer → Made m buffer call a buffer' → History m₀ b₀ (call ∷ earlier) (stays m a) buffer'
   not_started : {earlier : List Call} {m : Message} {buffer mb work work' buffer' : List ℕ} {why : Refusal} →
-      History m₀ b₀ earlier m buffer → StartCall mb work buffer (Refused why) work' buffer' → History m₀ b₀ earlier m buffer'
+      History m₀ b₀ earlier m buffer → StartCall mb work buffer (Err why) work' buffer' → History m₀ b₀ earlier m buffer'
 
 -- A message was started on the map of the bytes `mb` in a buffer that held `b₀`, and these calls were made since. Whatever was in the buffer before, a start
 -- that is not refused begins afresh: so this is said of each such start, also of one while another message was under way.
@@ -99,7 +98,7 @@ pub record Begun (mb b₀ : List ℕ) (calls : List Call) (m : Message) (buffer 
   pub work' : List ℕ
   pub m₀ : Message
   pub b₁ : List ℕ
-  pub start : StartCall mb work b₀ (Now m₀) work' b₁
+  pub start : StartCall mb work b₀ (Ok m₀) work' b₁
   pub since : History m₀ b₁ calls m buffer
 
 -- ---- what holds after them
@@ -115,8 +114,8 @@ state_of mb (partial rs bs) = Open (length (finished_of mb rs)) (length bs)
 
 -- An answer tells an outcome: the number of the refusal, or the message, which after closing is its count of bytes.
 pub data AnswerTells (mb : List ℕ) : MessageAnswer → CallOutcome → Type 0 where
-  now : {c : Content} → AnswerTells mb (Now (state_of mb c)) (done c)
-  refusal : {why : Refusal} → AnswerTells mb (Refused why) (refused (number_of (refusal_of why)))
+  now : {c : Content} → AnswerTells mb (Ok (state_of mb c)) (done c)
+  refusal : {why : Refusal} → AnswerTells mb (Err why) (refused (number_of (refusal_of why)))
 
 -- After any calls the buffer holds what they make of the message that was started, and all behind it is as it was. It keeps within its room, and the next
 -- call answers what it comes to. Reference n is the n-th that was closed, and a later call does not change it. The finished bytes, received, give what was

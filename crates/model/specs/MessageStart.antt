@@ -1,14 +1,13 @@
 -- Starting a message: its front (paper 02, W10).
-use Rattle.std.specs.Prelude.{ℕ, ◌≡◌, cond, List, length, leb}
+use Rattle.std.specs.Prelude.{ℕ, ◌≡◌, cond, List, length, leb, Err, Ok}
 use Rattle.model.specs.declared.Refusal.{Refusal}
 use Rattle.model.specs.declared.Message.TheVariants.{Closed}
-use Rattle.model.specs.declared.MessageAnswer.{MessageAnswer}
+use Rattle.model.specs.Answer.{MessageAnswer}
 use Rattle.model.specs.Refusal.{Refused, row, refusal_of}
 use Rattle.model.specs.Work.{placed}
 use Rattle.model.specs.Opening.{Opens}
 use Rattle.model.specs.Call.{Answered, Called}
 use Rattle.model.specs.Front.{front_bytes}
-use Rattle.model.specs.declared.MessageAnswer.TheVariants as Answer
 
 -- What starting comes to: the front's bytes, or a refusal.
 pub data StartOutcome : Type 0 where
@@ -24,8 +23,8 @@ Starts mb work room o = Opens refused (λ m. λ o. o ≡ start_on mb room) mb wo
 
 -- A message that was started has its front and no reference. What was in the buffer does not count: no message is given to the call.
 pub data StartAnswers : MessageAnswer → StartOutcome → Type 0 where
-  now : {bs : List ℕ} → StartAnswers (Answer.Now (Closed (length bs))) (started bs)
-  refusal : {why : Refusal} → StartAnswers (Answer.Refused why) (refused (refusal_of why))
+  now : {bs : List ℕ} → StartAnswers (Ok (Closed (length bs))) (started bs)
+  refusal : {why : Refusal} → StartAnswers (Err why) (refused (refusal_of why))
 
 -- The buffer after starting. A refusal changes nothing, and so a message under way goes on.
 unfoldable pub buffer_started : StartOutcome → List ℕ → List ℕ

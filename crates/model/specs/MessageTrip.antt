@@ -1,9 +1,8 @@
 -- The claim of W10 (paper 02): "what is promised on reading back" holds for references out of a message "where the maps are the same bytes". A message is
 -- started on a map, references are written on that map, added and closed, asked for and read out of the message.
-use Rattle.std.specs.Prelude.{ℕ, ◌≤◌, ◌<◌, ◌≡◌, List, [], ◌∷◌, length, take, get_or}
+use Rattle.std.specs.Prelude.{ℕ, ◌≤◌, ◌<◌, ◌≡◌, List, [], ◌∷◌, length, take, get_or, Ok}
 use Rattle.model.specs.declared.Span.{Span}
 use Rattle.model.specs.declared.Message.{Message}
-use Rattle.model.specs.declared.MessageAnswer.TheVariants.{Now}
 use Rattle.model.specs.Stretch.{Stretch, remaining}
 use Rattle.model.specs.Work.{work_length}
 use Rattle.model.specs.Outcome.{ReadOutcome, read}
@@ -15,8 +14,7 @@ use Rattle.model.specs.Message.{reference_number}
 use Rattle.model.specs.MessageCall.{finished_bytes}
 use Rattle.model.specs.MessageHistory.{whole, finished, Call, opens, adds, closes, after, Made, Begun, room}
 use Rattle.model.specs.OfMessage.{ReadsOfMessage, PointReadsOfMessage}
-use Rattle.model.specs.declared.WriteAnswer.TheVariants as Writer
-use Rattle.model.specs.declared.PointWriteAnswer.TheVariants as PointWriter
+use Rattle.model.specs.Answer.{bytes_written}
 
 -- As `ReadAs` of demand 3 and `PointReadAs` of W5, with the message beside the reference's bytes.
 pub record ReadOutAs (mb message bytes lines : List ℕ) (pos neg : Span) : Type 0 where
@@ -55,17 +53,17 @@ pub record Sent (mb bytes : List ℕ) (n : ℕ) (message : List ℕ) : Type 0 wh
 pub record MessageTrip : Type 0 where
   pub put : (mb b₀ : List ℕ) (calls : List Call) (m : Message) (buffer : List ℕ) (rs : List (List ℕ)) (bytes : List ℕ) →
       Begun mb b₀ (adds bytes ∷ opens ∷ calls) m buffer → after mb (room b₀) calls ≡ whole rs → (m' : Message) (buffer' : List ℕ) →
-      Made m buffer closes (Now m') buffer' → Sent mb bytes (length rs) (take (finished_bytes m') buffer')
+      Made m buffer closes (Ok m') buffer' → Sent mb bytes (length rs) (take (finished_bytes m') buffer')
   pub back : (mb message : List ℕ) (n : ℕ) (s : Stretch) (tests : ℕ) (work before work' bytes : List ℕ) (count made excess : ℕ) →
-      WriteCall mb s tests work before (Writer.Written count made excess) work' bytes → Sent mb (take count bytes) n message → OutOf mb s tests message n
+      WriteCall mb s tests work before (Ok (bytes_written count made excess)) work' bytes → Sent mb (take count bytes) n message → OutOf mb s tests message n
   pub alike : (mb message message' : List ℕ) (n n' : ℕ) (s t : Stretch) (tests tests' : ℕ) (w b w' bytes v c v' bytes' : List ℕ)
-      (count made excess count' made' excess' : ℕ) → WriteCall mb s tests w b (Writer.Written count made excess) w' bytes →
-      WriteCall mb t tests' v c (Writer.Written count' made' excess') v' bytes' → Sent mb (take count bytes) n message →
+      (count made excess count' made' excess' : ℕ) → WriteCall mb s tests w b (Ok (bytes_written count made excess)) w' bytes →
+      WriteCall mb t tests' v c (Ok (bytes_written count' made' excess')) v' bytes' → Sent mb (take count bytes) n message →
       Sent mb (take count' bytes') n' message' → reference_number n message ≡ reference_number n' message' →
       Alike mb (reference_number n message) s t tests tests'
   pub point_back : (mb message : List ℕ) (n : ℕ) (p : GivenPoint) (work before work' bytes : List ℕ) (count : ℕ) →
-      PointWriteCall mb p work before (PointWriter.Written count) work' bytes → Sent mb (take count bytes) n message → PointOutOf mb p message n
+      PointWriteCall mb p work before (Ok count) work' bytes → Sent mb (take count bytes) n message → PointOutOf mb p message n
   pub point_alike : (mb message message' : List ℕ) (n n' : ℕ) (p q : GivenPoint) (w b w' bytes v c v' bytes' : List ℕ) (count count' : ℕ) →
-      PointWriteCall mb p w b (PointWriter.Written count) w' bytes → PointWriteCall mb q v c (PointWriter.Written count') v' bytes' →
+      PointWriteCall mb p w b (Ok count) w' bytes → PointWriteCall mb q v c (Ok count') v' bytes' →
       Sent mb (take count bytes) n message → Sent mb (take count' bytes') n' message' → reference_number n message ≡ reference_number n' message' →
       PointsAlike mb (reference_number n message) p q

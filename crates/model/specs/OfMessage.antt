@@ -1,8 +1,7 @@
 -- Reading out of a message: the readers "get, beside the reference's own bytes, the message, and look only at its front; a reference read by itself has no
 -- such numbers and never gets 30" (paper 02, W10).
 use Rattle.std.specs.Prelude.{ℕ, ◌≡◌, Bool, true, false, List, length}
-use Rattle.model.specs.declared.ReadAnswer.{ReadAnswer}
-use Rattle.model.specs.declared.PointReadAnswer.{PointReadAnswer}
+use Rattle.model.specs.Answer.{ReadAnswer, PointReadAnswer}
 use Rattle.model.specs.Refusal.{Refused, row}
 use Rattle.model.specs.Map.{Map}
 use Rattle.model.specs.Reference.{parse}

@@ -1,10 +1,9 @@
 -- Signs and hydrants (paper 02, W5): the white paper's point along line (document 000, 8.2.2), its bytes, what reading and writing one come to, and the two
 -- calls. What it has in common with a line reference stands with that: a point's bytes, its node, a leg and its readings, an offset's span.
-use Rattle.std.specs.Prelude.{ℕ, ◌+◌, ◌*◌, ◌-◌, ◌/◌, ◌%◌, ◌≤◌, ◌<◌, ◌≡◌, true, cond, ◌||◌, List, [], ◌∷◌, length, get_or, ltb, leb, eqb}
+use Rattle.std.specs.Prelude.{ℕ, ◌+◌, ◌*◌, ◌-◌, ◌/◌, ◌%◌, ◌≤◌, ◌<◌, ◌≡◌, true, cond, ◌||◌, List, [], ◌∷◌, length, get_or, ltb, leb, eqb, Err, Ok}
 use Rattle.model.specs.declared.Span.{Span}
 use Rattle.model.specs.declared.Refusal.{Refusal}
-use Rattle.model.specs.declared.PointReadAnswer.{PointReadAnswer}
-use Rattle.model.specs.declared.PointWriteAnswer.{PointWriteAnswer}
+use Rattle.model.specs.Answer.{PointReadAnswer, PointWriteAnswer, point_read}
 use Rattle.model.specs.Refusal.{Refused, row, refusal_of}
 use Rattle.model.specs.Map.{Map, MapAnswer, lon_code, lat_code}
 use Rattle.model.specs.Lines.{LineAttributes, line_at, node_at, arriving}
@@ -14,8 +13,6 @@ use Rattle.model.specs.Opening.{OnMap, Opens}
 use Rattle.model.specs.Outcome.{ReadOutcome, ReadOn}
 use Rattle.model.specs.Work.{placed}
 use Rattle.model.specs.Call.{Answered, Called}
-use Rattle.model.specs.declared.PointReadAnswer.TheVariants as Reader
-use Rattle.model.specs.declared.PointWriteAnswer.TheVariants as Writer
 
 -- ---- the bytes
 
@@ -240,12 +237,12 @@ point_bytes_after (PointWriteOutcome.refused r) bytes = bytes
 -- The reader answers the count of lines, the span, the orientation and the side, or the refusal; the writer the count of bytes, or the refusal.
 pub data PointReadAnswers : PointReadAnswer → PointReadOutcome → Type 0 where
   lines : {ls : List ℕ} {span : Span} {orientation side : ℕ} →
-      PointReadAnswers (Reader.Read (length ls) span orientation side) (read ls span orientation side)
-  refusal : {why : Refusal} → PointReadAnswers (Reader.Refused why) (PointReadOutcome.refused (refusal_of why))
+      PointReadAnswers (Ok (point_read (length ls) span orientation side)) (read ls span orientation side)
+  refusal : {why : Refusal} → PointReadAnswers (Err why) (PointReadOutcome.refused (refusal_of why))
 
 pub data PointWriteAnswers : PointWriteAnswer → PointWriteOutcome → Type 0 where
-  bytes : {bs : List ℕ} → PointWriteAnswers (Writer.Written (length bs)) (PointWriteOutcome.written bs)
-  refusal : {why : Refusal} → PointWriteAnswers (Writer.Refused why) (PointWriteOutcome.refused (refusal_of why))
+  bytes : {bs : List ℕ} → PointWriteAnswers (Ok (length bs)) (PointWriteOutcome.written bs)
+  refusal : {why : Refusal} → PointWriteAnswers (Err why) (PointWriteOutcome.refused (refusal_of why))
 
 abbrev pub PointReadAnswered : (PointReadOutcome → Type 0) → List ℕ → List ℕ → PointReadAnswer → Type 0
 PointReadAnswered Asks before after a = Answered PointReadAnswers point_lines_after Asks before after a

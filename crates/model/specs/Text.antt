@@ -1,11 +1,10 @@
 -- The text that the program prints for an outcome of the reader, byte by byte (paper 01, "The tie at the ridge").
-use Rattle.std.specs.Prelude.{ℕ, zero, suc, ◌+◌, ◌/◌, ◌%◌, ◌≡◌, true, false, List, [], ◌∷◌, ◌++◌, length, take, ltb}
+use Rattle.std.specs.Prelude.{ℕ, zero, suc, ◌+◌, ◌/◌, ◌%◌, ◌≡◌, true, false, List, [], ◌∷◌, ◌++◌, length, take, ltb, Err, Ok}
 use Rattle.model.specs.declared.Span.{Span}
-use Rattle.model.specs.declared.ReadAnswer.{ReadAnswer}
+use Rattle.model.specs.Answer.{ReadAnswer}
 use Rattle.model.specs.Refusal.{Refused, row, row_at, refusal_of}
 use Rattle.model.specs.Work.{work_length}
 use Rattle.model.specs.Outcome.{ReadOutcome, read, Reads}
-use Rattle.model.specs.declared.ReadAnswer.TheVariants as Reader
 
 -- A number in decimal digits, at most `most` of them: those of its tens, then the last. The digit 0 is byte 48.
 unfoldable pub digits : ℕ → ℕ → List ℕ
@@ -81,5 +80,5 @@ pub record Prints (mb ref bytes : List ℕ) : Type 0 where
 
 -- The outcome that an answer of the reader tells, with the line buffer as the call left it.
 unfoldable pub told : ReadAnswer → List ℕ → ReadOutcome
-told (Reader.Read count pos neg) lines = read (take count lines) pos neg
-told (Reader.Refused why) lines = ReadOutcome.refused (refusal_of why)
+told (Ok found) lines = read (take found.count lines) found.positive found.negative
+told (Err why) lines = ReadOutcome.refused (refusal_of why)

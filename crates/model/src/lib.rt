@@ -48,33 +48,42 @@ pub struct Span {
     pub greatest: u32,
 }
 
-// What the reader answers: the count of lines and the spans of the positive and the negative offset, or why not.
+// What the reader found: the count of lines, and the spans of the positive and the negative offset.
 #[derive(Clone, Copy)]
-pub enum ReadAnswer {
-    Read(usize, Span, Span),
-    Refused(Refusal),
+pub struct ReadLines {
+    pub count: usize,
+    pub positive: Span,
+    pub negative: Span,
 }
 
-// What the reader of points along a line answers: the count of lines, the span of the offset, the orientation and the side of road, or why not.
+// What the reader answers, or why not.
+pub type ReadAnswer = Result<ReadLines, Refusal>;
+
+// What the reader of points along a line found: the count of lines, the span of the offset, the orientation and the side of road.
 #[derive(Clone, Copy)]
-pub enum PointReadAnswer {
-    Read(usize, Span, u32, u32),
-    Refused(Refusal),
+pub struct ReadPoint {
+    pub count: usize,
+    pub offset: Span,
+    pub orientation: u32,
+    pub side: u32,
 }
 
-// What the writer answers: the count of bytes, the leg tests made and the excess, or why not.
+// What the reader of points along a line answers, or why not.
+pub type PointReadAnswer = Result<ReadPoint, Refusal>;
+
+// What the writer made: the count of bytes, the leg tests made and the excess.
 #[derive(Clone, Copy)]
-pub enum WriteAnswer {
-    Written(usize, u32, u32),
-    Refused(Refusal),
+pub struct WrittenBytes {
+    pub bytes: usize,
+    pub tests: u32,
+    pub excess: u32,
 }
+
+// What the writer answers, or why not.
+pub type WriteAnswer = Result<WrittenBytes, Refusal>;
 
 // What the writer of points along a line answers: the count of bytes, or why not.
-#[derive(Clone, Copy)]
-pub enum PointWriteAnswer {
-    Written(usize),
-    Refused(Refusal),
-}
+pub type PointWriteAnswer = Result<usize, Refusal>;
 
 // A message that is being written, as far as its buffer does not say it.
 #[derive(Clone, Copy)]
@@ -86,51 +95,49 @@ pub enum Message {
 }
 
 // What a call on a message answers: the message as it is now, or why not; then it is as it was.
-#[derive(Clone, Copy)]
-pub enum MessageAnswer {
-    Now(Message),
-    Refused(Refusal),
-}
+pub type MessageAnswer = Result<Message, Refusal>;
 
-// A refusal as the table has it: its number, and the point or leg that it carries, 0 where it carries none.
+// A refusal as the table has it: its number, and the point or leg that it carries, 0 where it carries none. C and the printed rows give a refusal so.
 #[derive(Clone, Copy)]
 pub struct Row(pub u32, pub u32);
 
 // The row of a refusal in the table.
-#[tactic(auto, unfolding(crate::specs::Refusal::number_of, crate::specs::Refusal::place_of, crate::specs::Refusal::refusal_of))]
-pub fn row_of(why: Refusal) -> Row
-    ensures { (result.0 ≡ number_of (refusal_of why)) × (result.1 ≡ place_of (refusal_of why)) }
-{
-    match why {
-        Refusal::WorkAreaShort => Row(1, 0),
-        Refusal::MapNumber => Row(2, 0),
-        Refusal::MapCount => Row(3, 0),
-        Refusal::MapCoordinate => Row(4, 0),
-        Refusal::MapLine => Row(5, 0),
-        Refusal::EqualCodes => Row(6, 0),
-        Refusal::StretchLines => Row(7, 0),
-        Refusal::StretchGap => Row(8, 0),
-        Refusal::StretchOffsets => Row(9, 0),
-        Refusal::NoChoice => Row(10, 0),
-        Refusal::BytesShort => Row(11, 0),
-        Refusal::ReferenceLength => Row(12, 0),
-        Refusal::ReferenceStatus => Row(13, 0),
-        Refusal::ReferenceBits => Row(14, 0),
-        Refusal::ReferenceFlags => Row(15, 0),
-        Refusal::NoNode(place) => Row(16, place),
-        Refusal::NoReading(place) => Row(17, place),
-        Refusal::SeveralReadings(place) => Row(18, place),
-        Refusal::NoOffset => Row(19, 0),
-        Refusal::LinesShort => Row(20, 0),
-        Refusal::StretchBan => Row(21, 0),
-        Refusal::JoinedBan => Row(22, 0),
-        Refusal::MapBan => Row(23, 0),
-        Refusal::MapStep => Row(24, 0),
-        Refusal::PointMarks => Row(25, 0),
-        Refusal::Unfinished => Row(26, 0),
-        Refusal::MessageOrder => Row(27, 0),
-        Refusal::MessageFull => Row(28, 0),
-        Refusal::OtherMap => Row(30, 0),
+impl From<Refusal> for Row {
+    #[tactic(auto, unfolding(crate::specs::Refusal::number_of, crate::specs::Refusal::place_of, crate::specs::Refusal::refusal_of))]
+    fn from(why: Refusal) -> Row
+        ensures { (result.0 ≡ number_of (refusal_of why)) × (result.1 ≡ place_of (refusal_of why)) }
+    {
+        match why {
+            Refusal::WorkAreaShort => Row(1, 0),
+            Refusal::MapNumber => Row(2, 0),
+            Refusal::MapCount => Row(3, 0),
+            Refusal::MapCoordinate => Row(4, 0),
+            Refusal::MapLine => Row(5, 0),
+            Refusal::EqualCodes => Row(6, 0),
+            Refusal::StretchLines => Row(7, 0),
+            Refusal::StretchGap => Row(8, 0),
+            Refusal::StretchOffsets => Row(9, 0),
+            Refusal::NoChoice => Row(10, 0),
+            Refusal::BytesShort => Row(11, 0),
+            Refusal::ReferenceLength => Row(12, 0),
+            Refusal::ReferenceStatus => Row(13, 0),
+            Refusal::ReferenceBits => Row(14, 0),
+            Refusal::ReferenceFlags => Row(15, 0),
+            Refusal::NoNode(place) => Row(16, place),
+            Refusal::NoReading(place) => Row(17, place),
+            Refusal::SeveralReadings(place) => Row(18, place),
+            Refusal::NoOffset => Row(19, 0),
+            Refusal::LinesShort => Row(20, 0),
+            Refusal::StretchBan => Row(21, 0),
+            Refusal::JoinedBan => Row(22, 0),
+            Refusal::MapBan => Row(23, 0),
+            Refusal::MapStep => Row(24, 0),
+            Refusal::PointMarks => Row(25, 0),
+            Refusal::Unfinished => Row(26, 0),
+            Refusal::MessageOrder => Row(27, 0),
+            Refusal::MessageFull => Row(28, 0),
+            Refusal::OtherMap => Row(30, 0),
+        }
     }
 }
 
@@ -138,5 +145,5 @@ pub fn row_of(why: Refusal) -> Row
 pub fn number_of(why: Refusal) -> u32
     ensures { result ≡ number_of (refusal_of why) }
 {
-    row_of(why).0
+    Row::from(why).0
 }

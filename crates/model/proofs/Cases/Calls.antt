@@ -12,8 +12,8 @@ use Rattle.model.specs.Call.{lines_after, bytes_after, ReadAnswers, WriteAnswers
 use Rattle.model.specs.Host.{words, word_bytes, host_stretch, host_room, HostRead, host_read, host_written, host_lines_after, host_bytes_after}
 use Rattle.model.proofs.Cases.Computing.{computing}
 use Rattle.model.proofs.Cases.Ridge.{map_bytes, ridge}
-use Rattle.model.specs.declared.ReadAnswer.TheVariants as Reader
-use Rattle.model.specs.declared.WriteAnswer.TheVariants as Writer
+use Rattle.std.specs.Prelude.{Ok}
+use Rattle.model.specs.Answer.{bytes_written, lines_read}
 
 abbrev nowhere : Stretch
 nowhere = record { lines = []; pos = 0; neg = 0 }
@@ -32,7 +32,7 @@ pub record CallCases : Type 0 where
   pub map_first : Reads [] [] 14_336 0 (ReadOutcome.refused (row 2)) × Writes [] nowhere 0 14_336 0 (WriteOutcome.refused (row 2))
   pub then_the_rest : Reads map_bytes [] 14_336 0 (ReadOutcome.refused (row 12)) × Writes map_bytes nowhere 0 14_336 0 (WriteOutcome.refused (row 7))
   -- "The result stands first in its buffer, the rest unchanged"; "a refusal leaves the byte and line buffers unchanged".
-  pub places : placed (1 ∷ 2 ∷ []) (7 ∷ 8 ∷ 9 ∷ []) ≡ 1 ∷ 2 ∷ 9 ∷ []
+  pub places : placed {A = ℕ} (1 ∷ 2 ∷ []) (7 ∷ 8 ∷ 9 ∷ []) ≡ 1 ∷ 2 ∷ 9 ∷ []
   pub line_buffers : map (λ o. lines_after o (7 ∷ 8 ∷ 9 ∷ [])) (read (1 ∷ []) (span 2 3) (span 4 5) ∷ ReadOutcome.refused (row 20) ∷ []) ≡
       (1 ∷ 8 ∷ 9 ∷ []) ∷ (7 ∷ 8 ∷ 9 ∷ []) ∷ []
   pub byte_buffers : map (λ o. bytes_after o (7 ∷ 8 ∷ 9 ∷ [])) (written (1 ∷ []) 3 0 ∷ WriteOutcome.refused (row 11) ∷ []) ≡
@@ -41,8 +41,8 @@ pub record CallCases : Type 0 where
   pub zeroed : cleared (replicate 14_336 7 ++ 8 ∷ 9 ∷ []) ≡ replicate 14_336 0 ++ 8 ∷ 9 ∷ []
   pub not_zeroed : cleared (replicate 14_335 7) ≡ replicate 14_335 7
   -- Answers count.
-  pub read_count : ReadAnswers (Reader.Read 2 (span 2 3) (span 4 5)) (read (0 ∷ 1 ∷ []) (span 2 3) (span 4 5))
-  pub write_count : WriteAnswers (Writer.Written 3 9 1) (written (7 ∷ 8 ∷ 9 ∷ []) 9 1)
+  pub read_count : ReadAnswers (Ok (lines_read 2 (span 2 3) (span 4 5))) (read (0 ∷ 1 ∷ []) (span 2 3) (span 4 5))
+  pub write_count : WriteAnswers (Ok (bytes_written 3 9 1)) (written (7 ∷ 8 ∷ 9 ∷ []) 9 1)
   -- "Each line number as four bytes, low byte first."
   pub line_numbers : words (0x02 ∷ 0x01 ∷ 0 ∷ 0 ∷ 0x03 ∷ 0 ∷ 0x04 ∷ 0x05 ∷ 9 ∷ 9 ∷ 9 ∷ []) ≡ 258 ∷ 84_148_227 ∷ []
   pub number_bytes : word_bytes (258 ∷ 84_148_227 ∷ []) ≡ 0x02 ∷ 0x01 ∷ 0 ∷ 0 ∷ 0x03 ∷ 0 ∷ 0x04 ∷ 0x05 ∷ []

@@ -5,7 +5,6 @@ use mathlib.Core.List.{List, [], ◌∷◌, ◌++◌}
 use lib.ListN.{replicate}
 use Rattle.model.specs.declared.Refusal.TheVariants.{MessageOrder, MessageFull}
 use Rattle.model.specs.declared.Message.TheVariants.{Closed, Open}
-use Rattle.model.specs.declared.MessageAnswer.TheVariants.{Now, Refused}
 use Rattle.model.specs.Refusal.{number_of, refusal_of}
 use Rattle.model.specs.Number.{groups, number, group_bytes, number_bytes}
 use Rattle.model.specs.Work.{placed}
@@ -14,6 +13,7 @@ use Rattle.model.specs.Message.{length_bytes, framed, framed_all, of_length, nex
 use Rattle.model.specs.MessageCall.{end_of, fits, opening, closing, adding, so_far, extended, buffer_added, finished_number}
 use Rattle.model.specs.MessageHistory.{whole, partial, finished_of, content_bytes, Call, opens, adds, closes, done, refused, lengthened, outcome, left, after, state_of}
 use Rattle.model.specs.HostMessage.{message_of, host_message, host_part}
+use Rattle.std.specs.Prelude.{Err, Ok}
 
 -- Bytes as of a map, whose front is 02 83 02: two bytes, and a sum of 259.
 abbrev mb : List ℕ
@@ -50,21 +50,21 @@ written =
 
 -- Each call by itself. 127 bytes take a length of one byte, 128 one of two; a reference has 459 bytes at most, a message 16,384.
 pub record Called : Type 0 where
-  pub opened : opening (Closed 7) ≡ Now (Open 7 0)
-  pub opened_twice : opening (Open 7 0) ≡ Refused MessageOrder
-  pub closed : closing (Open 4 2) ≡ Now (Closed 7)
-  pub closed_127 : closing (Open 0 127) ≡ Now (Closed 128)
-  pub closed_128 : closing (Open 0 128) ≡ Now (Closed 130)
-  pub closed_none : closing (Closed 7) ≡ Refused MessageOrder
-  pub closed_empty : closing (Open 7 0) ≡ Refused MessageOrder
-  pub added_none : adding (Closed 7) 0 (1 ∷ []) ≡ Refused MessageOrder
-  pub added_nothing : adding (Open 7 2) 0 [] ≡ Now (Open 7 2)
-  pub reference_of_459 : adding (Open 0 458) 500 (1 ∷ []) ≡ Now (Open 0 459)
-  pub reference_of_460 : adding (Open 0 459) 500 (1 ∷ []) ≡ Refused MessageFull
-  pub message_of_16384 : adding (Open 16_380 0) 20_000 (1 ∷ 2 ∷ 3 ∷ []) ≡ Now (Open 16_380 3)
-  pub message_of_16385 : adding (Open 16_381 0) 20_000 (1 ∷ 2 ∷ 3 ∷ []) ≡ Refused MessageFull
-  pub buffer_of_9 : adding (Open 4 3) 9 (1 ∷ []) ≡ Now (Open 4 4)
-  pub buffer_of_8 : adding (Open 4 3) 8 (1 ∷ []) ≡ Refused MessageFull
+  pub opened : opening (Closed 7) ≡ Ok (Open 7 0)
+  pub opened_twice : opening (Open 7 0) ≡ Err MessageOrder
+  pub closed : closing (Open 4 2) ≡ Ok (Closed 7)
+  pub closed_127 : closing (Open 0 127) ≡ Ok (Closed 128)
+  pub closed_128 : closing (Open 0 128) ≡ Ok (Closed 130)
+  pub closed_none : closing (Closed 7) ≡ Err MessageOrder
+  pub closed_empty : closing (Open 7 0) ≡ Err MessageOrder
+  pub added_none : adding (Closed 7) 0 (1 ∷ []) ≡ Err MessageOrder
+  pub added_nothing : adding (Open 7 2) 0 [] ≡ Ok (Open 7 2)
+  pub reference_of_459 : adding (Open 0 458) 500 (1 ∷ []) ≡ Ok (Open 0 459)
+  pub reference_of_460 : adding (Open 0 459) 500 (1 ∷ []) ≡ Err MessageFull
+  pub message_of_16384 : adding (Open 16_380 0) 20_000 (1 ∷ 2 ∷ 3 ∷ []) ≡ Ok (Open 16_380 3)
+  pub message_of_16385 : adding (Open 16_381 0) 20_000 (1 ∷ 2 ∷ 3 ∷ []) ≡ Err MessageFull
+  pub buffer_of_9 : adding (Open 4 3) 9 (1 ∷ []) ≡ Ok (Open 4 4)
+  pub buffer_of_8 : adding (Open 4 3) 8 (1 ∷ []) ≡ Err MessageFull
   -- The second byte of the length moves the bytes that stand there already.
   pub moved : buffer_added (Open 0 127) (127 ∷ replicate 127 7 ++ 1 ∷ 2 ∷ 3 ∷ []) (9 ∷ []) ≡ 128 ∷ 1 ∷ replicate 127 7 ++ 9 ∷ 3 ∷ []
   pub behind_finished : buffer_added (Open 2 1) (1 ∷ 7 ∷ 1 ∷ 8 ∷ 5 ∷ 6 ∷ []) (9 ∷ []) ≡ 1 ∷ 7 ∷ 2 ∷ 8 ∷ 9 ∷ 6 ∷ []
@@ -139,9 +139,9 @@ received =
 pub record Hosted : Type 0 where
   pub means_closed : message_of (record { refusal = 28; bytes = 4; is_open = 0; added = 3 }) ≡ Closed 4
   pub means_open : message_of (record { refusal = 0; bytes = 4; is_open = 7; added = 3 }) ≡ Open 4 3
-  pub refused : host_message (record { refusal = 0; bytes = 4; is_open = 7; added = 3 }) (Refused MessageFull)
+  pub refused : host_message (record { refusal = 0; bytes = 4; is_open = 7; added = 3 }) (Err MessageFull)
       ≡ record { refusal = 28; bytes = 4; is_open = 7; added = 3 }
-  pub done : host_message (record { refusal = 27; bytes = 4; is_open = 7; added = 3 }) (Now (Closed 8)) ≡ record { refusal = 0; bytes = 8; is_open = 0; added = 0 }
+  pub done : host_message (record { refusal = 27; bytes = 4; is_open = 7; added = 3 }) (Ok (Closed 8)) ≡ record { refusal = 0; bytes = 8; is_open = 0; added = 0 }
   pub part : host_part 1 stopped ≡ record { start = 7; bytes = 1 }
 
 hosted : Hosted

@@ -5,8 +5,7 @@ use mathlib.Core.List.{List, [], ◌∷◌}
 use native.Mathlib.Omega.{arith}
 use lib.ListN.{length}
 use Rattle.model.specs.declared.Span.{Span}
-use Rattle.model.specs.declared.ReadAnswer.{ReadAnswer}
-use Rattle.model.specs.declared.WriteAnswer.{WriteAnswer}
+use Rattle.model.specs.Answer.{ReadAnswer, WriteAnswer, bytes_written, lines_read}
 use Rattle.model.specs.Reference.{absent, byte, Reference}
 use Rattle.model.specs.Reading.{matching, Leg, Only}
 use Rattle.model.specs.Stretch.{Stretch}
@@ -25,8 +24,7 @@ use Rattle.model.proofs.Cases.Ways.{finding, connects}
 use Rattle.model.proofs.Cases.Legs.{reading, only, sectors}
 use Rattle.model.proofs.Cases.Ridge.{map_bytes, ridge, three_points, three_from5000, two_points, road, point, stretch, three_legs, on_the_ridge}
 use Rattle.model.proofs.Cases.Tie.{tie_several, cut_in_two, line_1_untested, none, from_5000, legs_read, spans_from_5000}
-use Rattle.model.specs.declared.ReadAnswer.TheVariants as Reader
-use Rattle.model.specs.declared.WriteAnswer.TheVariants as Writer
+use Rattle.std.specs.Prelude.{Ok}
 
 -- A call has one outcome, which says its answer and what it leaves in its buffer.
 pub read_as : {mb ref work lines work' lines' : List ℕ} {a : ReadAnswer} {o : ReadOutcome} → Reads mb ref (length work) (length lines) o →
@@ -40,10 +38,10 @@ write_as {mb} {work} {bytes} {s = s} {tests = tests} h c =
     let same = writes_once mb s tests (length bytes) (length work) c.called.answered.asked h in
     (rw same at c.called.answered.answers, rw same at c.called.answered.buffer_after)
 
-pub read_answer : {a : ReadAnswer} {ls : List ℕ} {pos neg : Span} → ReadAnswers a (read ls pos neg) → a ≡ Reader.Read (length ls) pos neg
+pub read_answer : {a : ReadAnswer} {ls : List ℕ} {pos neg : Span} → ReadAnswers a (read ls pos neg) → a ≡ Ok (lines_read (length ls) pos neg)
 read_answer ReadAnswers.lines = refl
 
-pub write_answer : {a : WriteAnswer} {bs : List ℕ} {made excess : ℕ} → WriteAnswers a (written bs made excess) → a ≡ Writer.Written (length bs) made excess
+pub write_answer : {a : WriteAnswer} {bs : List ℕ} {made excess : ℕ} → WriteAnswers a (written bs made excess) → a ≡ Ok (bytes_written (length bs) made excess)
 write_answer WriteAnswers.bytes = refl
 
 -- Over the top: from node 1 to node 3 by lines 2 and 3, which leave in sector 0. Longitude 1000 has code 466.

@@ -18,7 +18,7 @@ use Rattle.model.proofs.BestFound.{none_of_all}
 use Rattle.model.proofs.Cases.Computing.{computing}
 use Rattle.model.proofs.Cases.Ways.{finding, connects}
 use Rattle.model.proofs.Legs.{not_several}
-use Rattle.model.proofs.Cases.Legs.{reading, only, sole}
+use Rattle.model.proofs.Cases.Legs.{reading, sole}
 use Rattle.model.proofs.Cases.Cuts.{cutting, chosen, no_choice, passed, second_passed}
 use Rattle.model.proofs.Cases.Ridge.{node, line}
 use Rattle.model.proofs.Cases.Readings.{pair, fork, last_several, middle_only, fork_last}

@@ -27,15 +27,16 @@ use Rattle.model.proofs.Cases.Ridge.{node, line}
 use Rattle.model.proofs.Cases.Encoded.{encoded, encoding}
 use Rattle.model.proofs.Cases.Choices.{bypass, most_lines_first, bypass_bytes}
 use Rattle.model.proofs.Cases.Conditions.{detour}
-use Rattle.model.specs.declared.WriteAnswer.TheVariants as Writer
+use Rattle.std.specs.Prelude.{Ok}
+use Rattle.model.specs.Answer.{bytes_written}
 
-counted : {n made excess : ℕ} {o : WriteOutcome} → WriteAnswers (Writer.Written n made excess) o →
+counted : {n made excess : ℕ} {o : WriteOutcome} → WriteAnswers (Ok (bytes_written n made excess)) o →
     (bs : List ℕ) × (o ≡ written bs made excess) × (length bs ≡ n)
 counted (WriteAnswers.bytes {bs = bs}) = (bs, refl, refl)
 
 -- A call that answers a count, on a map and for a stretch that are not refused.
 module _ {m : Map} {mb work bytes work' bytes' : List ℕ} {s : Stretch} {tests n made excess : ℕ} (full : work_length ≤ length work) (d : decode mb ≡ whole m)
-    (k : check_stretch m s ≡ remains s) (c : WriteCall mb s tests work bytes (Writer.Written n made excess) work' bytes') where
+    (k : check_stretch m s ≡ remains s) (c : WriteCall mb s tests work bytes (Ok (bytes_written n made excess)) work' bytes') where
   bytes_of : (bs : List ℕ) × (c.called.answered.outcome ≡ written bs made excess) × (length bs ≡ n)
   bytes_of = counted c.called.answered.answers
 
@@ -167,14 +168,14 @@ not_shortest g = omega (arith, g.only.reading.least (0 ∷ 3 ∷ 2 ∷ []) by_sh
 module _ (tests : ℕ) (work bytes : List ℕ) (full : work_length ≤ length work) {n made excess : ℕ} {work' bytes' : List ℕ} where
   -- Two or three lines that are not good as one leg are not written with two points.
   no_two_points_of_two : {m : Map} → decode (encoded m) ≡ whole m → check_stretch m (all_of (0 ∷ 1 ∷ [])) ≡ remains (all_of (0 ∷ 1 ∷ [])) →
-      (Good m true (0 ∷ 1 ∷ []) → ⊥) → WriteCall (encoded m) (all_of (0 ∷ 1 ∷ [])) tests work bytes (Writer.Written n made excess) work' bytes' → n ≡ 16 → ⊥
+      (Good m true (0 ∷ 1 ∷ []) → ⊥) → WriteCall (encoded m) (all_of (0 ∷ 1 ∷ [])) tests work bytes (Ok (bytes_written n made excess)) work' bytes' → n ≡ 16 → ⊥
   unfolding computing cutting
   no_two_points_of_two {m} d k not_good c e =
       no_count {m = m} full d k c (λ h f. omega (arith, e, f), (λ h f. not_good (passed h.usable), tt))
 
   no_two_points_of_three : {m : Map} → decode (encoded m) ≡ whole m → check_stretch m (all_of (0 ∷ 1 ∷ 2 ∷ [])) ≡ remains (all_of (0 ∷ 1 ∷ 2 ∷ [])) →
       (Good m true (0 ∷ 1 ∷ 2 ∷ []) → ⊥) →
-      WriteCall (encoded m) (all_of (0 ∷ 1 ∷ 2 ∷ [])) tests work bytes (Writer.Written n made excess) work' bytes' → n ≡ 16 → ⊥
+      WriteCall (encoded m) (all_of (0 ∷ 1 ∷ 2 ∷ [])) tests work bytes (Ok (bytes_written n made excess)) work' bytes' → n ≡ 16 → ⊥
   unfolding computing cutting
   no_two_points_of_three {m} d k not_good c e =
       no_count {m = m} full d k c (
@@ -184,39 +185,39 @@ module _ (tests : ℕ) (work bytes : List ℕ) (full : work_length ≤ length wo
 
   -- On the bypass: a writer that takes the shortest first leg; one that gives the class of a leg's first line for the leg's (48 for 88);
   -- "measuring the negative offset against the first leg" (20 for 80).
-  pub no_other_bytes : 6 ≤ tests → WriteCall (encoded bypass) bypassed tests work bytes (Writer.Written n made excess) work' bytes' →
+  pub no_other_bytes : 6 ≤ tests → WriteCall (encoded bypass) bypassed tests work bytes (Ok (bytes_written n made excess)) work' bytes' →
       (bytes' ≡ bypass_bytes ++ drop 25 bytes → ⊥) → ⊥
   unfolding computing encoding
   no_other_bytes all c other = other (only_legs full refl refl c all ((0 ∷ 1 ∷ []) ∷ (2 ∷ []) ∷ []) most_lines_first).1
 
   -- One that takes a difference of longitudes of 32,768.
-  pub no_far_longitude : WriteCall (encoded eastwards) (all_of (0 ∷ 1 ∷ [])) tests work bytes (Writer.Written n made excess) work' bytes' → n ≡ 16 → ⊥
+  pub no_far_longitude : WriteCall (encoded eastwards) (all_of (0 ∷ 1 ∷ [])) tests work bytes (Ok (bytes_written n made excess)) work' bytes' → n ≡ 16 → ⊥
   unfolding computing encoding
   no_far_longitude c e = no_two_points_of_two {m = eastwards} refl refl not_eastwards c e
 
   -- One that asks only the longitudes.
-  pub no_far_latitude : WriteCall (encoded northwards) (all_of (0 ∷ 1 ∷ [])) tests work bytes (Writer.Written n made excess) work' bytes' → n ≡ 16 → ⊥
+  pub no_far_latitude : WriteCall (encoded northwards) (all_of (0 ∷ 1 ∷ [])) tests work bytes (Ok (bytes_written n made excess)) work' bytes' → n ≡ 16 → ⊥
   unfolding computing encoding
   no_far_latitude c e = no_two_points_of_two {m = northwards} refl refl not_northwards c e
 
   -- One that does not search again for the leg's lower class: it would cut the detour between its lines.
-  pub no_cut_for_a_class : 3 ≤ tests → WriteCall (encoded detour) (all_of (0 ∷ 2 ∷ [])) tests work bytes (Writer.Written n made excess) work' bytes' →
+  pub no_cut_for_a_class : 3 ≤ tests → WriteCall (encoded detour) (all_of (0 ∷ 2 ∷ [])) tests work bytes (Ok (bytes_written n made excess)) work' bytes' →
       (n ≡ 16 → ⊥) → ⊥
   unfolding computing encoding
   no_cut_for_a_class all c other = other (only_legs full refl refl c all ((0 ∷ 2 ∷ []) ∷ []) detour_uncut).0
 
   -- One that keeps a search that went up to 14,063 for a leg of 19,000: it would cut before the third line.
-  pub no_cut_for_length : 6 ≤ tests → WriteCall (encoded straight) (all_of (0 ∷ 1 ∷ 2 ∷ [])) tests work bytes (Writer.Written n made excess) work' bytes' →
+  pub no_cut_for_length : 6 ≤ tests → WriteCall (encoded straight) (all_of (0 ∷ 1 ∷ 2 ∷ [])) tests work bytes (Ok (bytes_written n made excess)) work' bytes' →
       (n ≡ 16 → ⊥) → ⊥
   unfolding computing encoding
   no_cut_for_length all c other = other (only_legs full refl refl c all ((0 ∷ 1 ∷ 2 ∷ []) ∷ []) straight_uncut).0
 
   -- One that takes the leg's one reading, 0, 4, for the stretch's own lines since it is as long.
-  pub no_other_last_line : WriteCall (encoded sideways) (all_of (0 ∷ 1 ∷ 2 ∷ [])) tests work bytes (Writer.Written n made excess) work' bytes' → n ≡ 16 → ⊥
+  pub no_other_last_line : WriteCall (encoded sideways) (all_of (0 ∷ 1 ∷ 2 ∷ [])) tests work bytes (Ok (bytes_written n made excess)) work' bytes' → n ≡ 16 → ⊥
   unfolding computing encoding
   no_other_last_line c e = no_two_points_of_three {m = sideways} refl refl not_sideways c e
 
   -- One that takes the leg's one reading, 0, 3, 2, for the stretch's own lines since it ends with the same line.
-  pub no_shorter_reading : WriteCall (encoded shortcut) (all_of (0 ∷ 1 ∷ 2 ∷ [])) tests work bytes (Writer.Written n made excess) work' bytes' → n ≡ 16 → ⊥
+  pub no_shorter_reading : WriteCall (encoded shortcut) (all_of (0 ∷ 1 ∷ 2 ∷ [])) tests work bytes (Ok (bytes_written n made excess)) work' bytes' → n ≡ 16 → ⊥
   unfolding computing encoding
   no_shorter_reading c e = no_two_points_of_three {m = shortcut} refl refl not_shortest c e

@@ -14,14 +14,15 @@ use Rattle.model.specs.Call.{ReadCall}
 use Rattle.model.proofs.Cases.Computing.{computing}
 use Rattle.model.proofs.Cases.Maps.{two_nodes, one_line, some_line, drawn_line}
 use Rattle.model.proofs.Cases.WrongReaders.{no_list_where_refused, only_this_refusal}
-use Rattle.model.specs.declared.ReadAnswer.TheVariants as Reader
+use Rattle.std.specs.Prelude.{Err, Ok}
+use Rattle.model.specs.Answer.{lines_read}
 
 -- Calls of the reader on these bytes, with a full work area, answer no list and no other refusal than this number.
 pub record OnlyRefused (mb : List ℕ) (n : ℕ) : Type 0 where
   pub no_list : (ref work lines : List ℕ) {work' lines' : List ℕ} {k : ℕ} {pos neg : Span} → work_length ≤ length work →
-      ReadCall mb ref work lines (Reader.Read k pos neg) work' lines' → ⊥
+      ReadCall mb ref work lines (Ok (lines_read k pos neg)) work' lines' → ⊥
   pub no_other : (ref work lines : List ℕ) {work' lines' : List ℕ} (why : Refusal) → work_length ≤ length work →
-      ReadCall mb ref work lines (Reader.Refused why) work' lines' → (refusal_of why ≡ row n → ⊥) → ⊥
+      ReadCall mb ref work lines (Err why) work' lines' → (refusal_of why ≡ row n → ⊥) → ⊥
 
 refused_map : (mb ref : List ℕ) (r : Refused) (work room : ℕ) → work_length ≤ work → decode mb ≡ MapAnswer.refused r →
     Reads mb ref work room (ReadOutcome.refused r)

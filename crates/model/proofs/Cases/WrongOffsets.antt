@@ -6,7 +6,7 @@ use mathlib.Core.List.{List, [], ◌∷◌, ◌++◌}
 use native.Mathlib.Omega.{arith}
 use lib.ListN.{length, take, get_or}
 use Rattle.model.specs.declared.Span.{Span}
-use Rattle.model.specs.declared.WriteAnswer.{WriteAnswer}
+use Rattle.model.specs.Answer.{WriteAnswer, lines_read}
 use Rattle.model.specs.Stretch.{remains, check_stretch}
 use Rattle.model.specs.Reference.{byte}
 use Rattle.model.specs.Choice.{stretch_bytes}
@@ -24,7 +24,8 @@ use Rattle.model.proofs.Cases.Ridge.{map_bytes, ridge, three_points, stretch, th
 use Rattle.model.proofs.Cases.Tie.{cut_in_two, none, legs_read}
 use Rattle.model.proofs.Cases.WrongWriters.{left}
 use Rattle.model.proofs.Cases.WrongReaders.{counted}
-use Rattle.model.specs.declared.ReadAnswer.TheVariants as Reader
+use Rattle.std.specs.Prelude.{Ok}
+use Rattle.model.proofs.Answers.{same_lines}
 
 -- The ridge's three points with a positive offset of this byte.
 abbrev three_with : ℕ → List ℕ
@@ -72,6 +73,6 @@ no_bound_of_a_256th bound = omega (arith, bound 10_000 0xFF (span 9_942 9_999) l
 
 -- 9,980 is the greatest offset whose nearest number of 256ths is 255; those from 9,981 on are written as FF too.
 pub no_last_span_cut : (work lines : List ℕ) {n : ℕ} {pos neg : Span} {work' lines' : List ℕ} → work_length ≤ length work → 2 ≤ length lines →
-    ReadCall map_bytes (three_with 0xFF) work lines (Reader.Read n pos neg) work' lines' → (pos ≡ span 9_942 9_999 → ⊥) → ⊥
+    ReadCall map_bytes (three_with 0xFF) work lines (Ok (lines_read n pos neg)) work' lines' → (pos ≡ span 9_942 9_999 → ⊥) → ⊥
 no_last_span_cut work lines full enough c other =
-    other (let e = counted (0 ∷ 1 ∷ []) (span 9_942 9_999) none (from_last (length work) (length lines) full enough) c in cc)
+    other (same_lines (counted (0 ∷ 1 ∷ []) (span 9_942 9_999) none (from_last (length work) (length lines) full enough) c)).1

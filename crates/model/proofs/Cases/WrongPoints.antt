@@ -7,16 +7,15 @@ use native.Mathlib.Omega.{arith}
 use lib.ListN.{length, drop, get_or}
 use Rattle.model.specs.declared.Refusal.{Refusal}
 use Rattle.model.specs.declared.Span.{Span}
-use Rattle.model.specs.declared.PointReadAnswer.{PointReadAnswer}
-use Rattle.model.specs.declared.PointWriteAnswer.{PointWriteAnswer}
+use Rattle.model.specs.Answer.{PointReadAnswer, PointWriteAnswer, point_read}
 use Rattle.model.specs.Work.{work_length, placed}
 use Rattle.model.specs.PointAlong.{no_orientation, right_side, PointReadOutcome, read, PointReads, point_lines_after, PointReadAnswers, PointReadCall, GivenPoint, PointWriteOutcome, written, PointWrites, point_bytes_after, PointWriteAnswers, PointWriteCall}
 use Rattle.model.proofs.PointReading.{point_reads_once}
 use Rattle.model.proofs.PointWriting.{point_writes_once}
 use Rattle.model.proofs.Cases.Ridge.{map_bytes}
 use Rattle.model.proofs.Cases.Points.{hydrant, hydrant_bytes, next_hydrant, hydrant_span, top_point, hydrant_written, next_written, hydrant_read, over_the_top_read}
-use Rattle.model.specs.declared.PointReadAnswer.TheVariants as Reader
-use Rattle.model.specs.declared.PointWriteAnswer.TheVariants as Writer
+use Rattle.std.specs.Prelude.{Err, Ok}
+use Rattle.model.proofs.Answers.{same_point}
 
 -- A call has one outcome, which says its answer and what it leaves in its buffer.
 write_as : {mb work bytes work' bytes' : List ℕ} {p : GivenPoint} {a : PointWriteAnswer} {o : PointWriteOutcome} →
@@ -25,7 +24,7 @@ write_as {mb} {work} {bytes} {p = p} h c =
     let same = point_writes_once mb p (length bytes) (length work) c.called.answered.asked h in
     (rw same at c.called.answered.answers, rw same at c.called.answered.buffer_after)
 
-write_answer : {a : PointWriteAnswer} {bs : List ℕ} → PointWriteAnswers a (written bs) → a ≡ Writer.Written (length bs)
+write_answer : {a : PointWriteAnswer} {bs : List ℕ} → PointWriteAnswers a (written bs) → a ≡ Ok (length bs)
 write_answer PointWriteAnswers.bytes = refl
 
 read_as : {mb ref work lines work' lines' : List ℕ} {a : PointReadAnswer} {o : PointReadOutcome} → PointReads mb ref (length work) (length lines) o →
@@ -35,7 +34,7 @@ read_as {mb} {ref} {work} {lines} h c =
     (rw same at c.called.answered.answers, rw same at c.called.answered.buffer_after)
 
 read_answer : {a : PointReadAnswer} {ls : List ℕ} {span : Span} {orientation side : ℕ} → PointReadAnswers a (read ls span orientation side) →
-    a ≡ Reader.Read (length ls) span orientation side
+    a ≡ Ok (point_read (length ls) span orientation side)
 read_answer PointReadAnswers.lines = refl
 
 -- The writer, with a full work area and a byte buffer that is just long enough, or longer.
@@ -45,13 +44,13 @@ module _ (work bytes : List ℕ) (full : work_length ≤ length work) (enough : 
   left c = (write_as (hydrant_written (length work) (length bytes) full enough) c).1
 
   -- One that refuses the hydrant, for whatever reason, or answers another count.
-  pub no_refusal : (why : Refusal) → PointWriteCall map_bytes hydrant work bytes (Writer.Refused why) work' bytes' → ⊥
+  pub no_refusal : (why : Refusal) → PointWriteCall map_bytes hydrant work bytes (Err why) work' bytes' → ⊥
   no_refusal why c =
       let e = write_answer (write_as (hydrant_written (length work) (length bytes) full enough) c).0 in
       let z : ◌≡◌ {A = ℕ} 0 1 = cc in
       omega arith
 
-  pub no_other_count : {n : ℕ} → PointWriteCall map_bytes hydrant work bytes (Writer.Written n) work' bytes' → (n ≡ 17 → ⊥) → ⊥
+  pub no_other_count : {n : ℕ} → PointWriteCall map_bytes hydrant work bytes (Ok n) work' bytes' → (n ≡ 17 → ⊥) → ⊥
   no_other_count c other = other (let e = write_answer (write_as (hydrant_written (length work) (length bytes) full enough) c).0 in cc)
 
   -- One that leaves the status byte of a line reference, puts the side where the orientation belongs, or measures the offset otherwise.
@@ -75,17 +74,17 @@ module _ (work bytes : List ℕ) (full : work_length ≤ length work) (enough : 
 
 -- The reader, with a full work area and a line buffer that is not empty.
 module _ (work lines : List ℕ) (full : work_length ≤ length work) (some : 1 ≤ length lines) {work' lines' : List ℕ} where
-  told : {a : PointReadAnswer} → PointReadCall map_bytes hydrant_bytes work lines a work' lines' → a ≡ Reader.Read 1 hydrant_span no_orientation right_side
+  told : {a : PointReadAnswer} → PointReadCall map_bytes hydrant_bytes work lines a work' lines' → a ≡ Ok (point_read 1 hydrant_span no_orientation right_side)
   told c = read_answer (read_as (hydrant_read (length work) (length lines) full some) c).0
 
   -- One that refuses what was written, such as one that takes lines only.
-  pub read_no_refusal : (why : Refusal) → PointReadCall map_bytes hydrant_bytes work lines (Reader.Refused why) work' lines' → ⊥
+  pub read_no_refusal : (why : Refusal) → PointReadCall map_bytes hydrant_bytes work lines (Err why) work' lines' → ⊥
   read_no_refusal why c = let e = told c in let z : ◌≡◌ {A = ℕ} 0 1 = cc in omega arith
 
   -- One that answers another orientation or another side, or the one for the other.
   pub no_other_marks : {n orientation side : ℕ} {span : Span} →
-      PointReadCall map_bytes hydrant_bytes work lines (Reader.Read n span orientation side) work' lines' → (orientation ≡ 0) × (side ≡ 1)
-  no_other_marks c = let e = told c in (cc, cc)
+      PointReadCall map_bytes hydrant_bytes work lines (Ok (point_read n span orientation side)) work' lines' → (orientation ≡ 0) × (side ≡ 1)
+  no_other_marks c = let e = same_point (told c) in (e.2, e.3)
 
   -- One that hands back another line, or changes the rest of its buffer.
   pub no_other_line : {a : PointReadAnswer} → PointReadCall map_bytes hydrant_bytes work lines a work' lines' → lines' ≡ 2 ∷ drop 1 lines
@@ -94,5 +93,5 @@ module _ (work lines : List ℕ) (full : work_length ≤ length work) (some : 1 
 
 -- One that takes a point for one line only: over the top there are two.
 pub not_one_line : (work lines : List ℕ) → work_length ≤ length work → 2 ≤ length lines → {work' lines' : List ℕ} {n orientation side : ℕ} {span : Span} →
-    PointReadCall map_bytes top_point work lines (Reader.Read n span orientation side) work' lines' → n ≡ 2
-not_one_line work lines full room c = let e = read_answer (read_as (over_the_top_read (length work) (length lines) full room) c).0 in cc
+    PointReadCall map_bytes top_point work lines (Ok (point_read n span orientation side)) work' lines' → n ≡ 2
+not_one_line work lines full room c = (same_point (read_answer (read_as (over_the_top_read (length work) (length lines) full room) c).0)).0

@@ -5,7 +5,7 @@ use mathlib.Core.Path.{◌≡◌, refl, ap, subst}
 use mathlib.Core.List.{List, [], ◌∷◌}
 use native.Mathlib.Omega.{arith}
 use lib.ListN.{length, get_or}
-use Rattle.model.specs.declared.WriteAnswer.{WriteAnswer}
+use Rattle.model.specs.Answer.{WriteAnswer}
 use Rattle.model.specs.Map.{Map, whole, decode}
 use Rattle.model.specs.Reading.{Leg, matching}
 use Rattle.model.specs.Choice.{good, final, Chosen, Preferred, stretch_bytes}
@@ -22,7 +22,6 @@ use Rattle.model.proofs.Cases.Legs.{sole}
 use Rattle.model.proofs.Cases.Cuts.{cutting, chosen}
 use Rattle.model.proofs.Cases.Ridge.{node, line, road}
 use Rattle.model.proofs.Cases.WrongWriters.{left}
-use Rattle.model.specs.declared.ReadAnswer.TheVariants as Reader
 
 -- One line that leaves in a sector, and the stretch of it.
 abbrev slanted : ℕ → Map

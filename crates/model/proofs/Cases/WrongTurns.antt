@@ -6,8 +6,7 @@ use native.Mathlib.Omega.{arith}
 use lib.ListN.{length}
 use borrow.Author.Tests.{le-ltb}
 use Rattle.model.specs.declared.Span.{Span}
-use Rattle.model.specs.declared.ReadAnswer.{ReadAnswer}
-use Rattle.model.specs.declared.WriteAnswer.{WriteAnswer}
+use Rattle.model.specs.Answer.{ReadAnswer, bytes_written, lines_read}
 use Rattle.model.specs.Refusal.{row}
 use Rattle.model.specs.Reference.{absent, bytes_of}
 use Rattle.model.specs.Span.{unflagged}
@@ -23,8 +22,7 @@ use Rattle.model.proofs.Cases.Ridge.{two_points, tie}
 use Rattle.model.proofs.Cases.WrongReaders.{counted, no_list_where_refused}
 use Rattle.model.proofs.Cases.WrongWriters.{no_bytes_where_refused}
 use Rattle.model.proofs.Cases.Bans.{barred, northward, tie_north, meeting, meeting_refused}
-use Rattle.model.specs.declared.ReadAnswer.TheVariants as Reader
-use Rattle.model.specs.declared.WriteAnswer.TheVariants as Writer
+use Rattle.std.specs.Prelude.{Ok}
 
 -- The outcomes, with a full work area.
 module _ (work room : ℕ) (full : work_length ≤ work) where
@@ -46,15 +44,15 @@ module _ (work room : ℕ) (full : work_length ≤ work) where
 
 module _ (work lines : List ℕ) (full : work_length ≤ length work) {work' lines' : List ℕ} where
   -- A reader that does not ask where two legs meet.
-  pub no_banned_joint : {n : ℕ} {pos neg : Span} → ReadCall (encoded barred) (bytes_of (meeting absent)) work lines (Reader.Read n pos neg) work' lines' → ⊥
+  pub no_banned_joint : {n : ℕ} {pos neg : Span} → ReadCall (encoded barred) (bytes_of (meeting absent)) work lines (Ok (lines_read n pos neg)) work' lines' → ⊥
   no_banned_joint c = no_list_where_refused (row 22) (joint_refused (length work) (length lines) full) c
 
   -- One that goes on only from the nearest line of a node, or asks no bans: it would take lines 0, 1, or find a tie.
   pub no_other_way : {a : ReadAnswer} → 3 ≤ length lines → ReadCall (encoded northward) two_points work lines a work' lines' →
-      (a ≡ Reader.Read 3 none none → ⊥) → ⊥
+      (a ≡ Ok (lines_read 3 none none) → ⊥) → ⊥
   no_other_way enough c other = other (counted (0 ∷ 2 ∷ 3 ∷ []) none none (north_read (length work) (length lines) full enough) c)
 
 -- A writer that looks for bans in what an offset leaves: it would write lines 2, 3.
 pub no_skipped_ban : (tests : ℕ) (work bytes : List ℕ) {work' bytes' : List ℕ} {n made excess : ℕ} → work_length ≤ length work →
-    WriteCall (encoded barred) (stretch_of (0 ∷ 2 ∷ 3 ∷ []) 10_000 0) tests work bytes (Writer.Written n made excess) work' bytes' → ⊥
+    WriteCall (encoded barred) (stretch_of (0 ∷ 2 ∷ 3 ∷ []) 10_000 0) tests work bytes (Ok (bytes_written n made excess)) work' bytes' → ⊥
 no_skipped_ban tests work bytes full c = no_bytes_where_refused (row 21) (skipped_refused (length work) (length bytes) full tests) c

@@ -7,7 +7,7 @@ use lib.ListN.{length}
 use borrow.Author.Tests.{le-ltb}
 use Rattle.model.specs.declared.Refusal.{Refusal}
 use Rattle.model.specs.declared.Span.{Span}
-use Rattle.model.specs.declared.ReadAnswer.{ReadAnswer}
+use Rattle.model.specs.Answer.{ReadAnswer, lines_read}
 use Rattle.model.specs.Map.{Map}
 use Rattle.model.specs.Reference.{absent, Point, Reference, bytes_of}
 use Rattle.model.specs.Reading.{any, matching, Only, Several}
@@ -27,7 +27,7 @@ use Rattle.model.proofs.Cases.References.{eastward, reference_cases}
 use Rattle.model.proofs.Cases.Conditions.{long, longest_only, marks, by_marks}
 use Rattle.model.proofs.Cases.Tie.{none}
 use Rattle.model.proofs.Cases.WrongReaders.{counted, no_list_where_refused, only_this_refusal}
-use Rattle.model.specs.declared.ReadAnswer.TheVariants as Reader
+use Rattle.std.specs.Prelude.{Err, Ok}
 
 -- The ridge with a line of 10,000 after it, from node 3 on to node 4.
 abbrev pub beyond : Map
@@ -100,24 +100,24 @@ module _ (work room : ℕ) (full : work_length ≤ work) where
 
 module _ (work lines : List ℕ) (full : work_length ≤ length work) {work' lines' : List ℕ} where
   -- "Taking the first of two equal ways": of those that meet before one last line.
-  pub no_first_way : {n : ℕ} {pos neg : Span} → ReadCall (encoded beyond) (bytes_of two_beyond) work lines (Reader.Read n pos neg) work' lines' → ⊥
+  pub no_first_way : {n : ℕ} {pos neg : Span} → ReadCall (encoded beyond) (bytes_of two_beyond) work lines (Ok (lines_read n pos neg)) work' lines' → ⊥
   no_first_way c = no_list_where_refused (row_at 18 0) (two_beyond_lem (length work) (length lines) full) c
 
   -- And of those that meet at the node of a middle point.
-  pub no_first_line : {n : ℕ} {pos neg : Span} → ReadCall (encoded beyond) (bytes_of three_beyond) work lines (Reader.Read n pos neg) work' lines' → ⊥
+  pub no_first_line : {n : ℕ} {pos neg : Span} → ReadCall (encoded beyond) (bytes_of three_beyond) work lines (Ok (lines_read n pos neg)) work' lines' → ⊥
   no_first_line c = no_list_where_refused (row_at 18 0) (three_beyond_lem (length work) (length lines) full) c
 
   -- A reader that ends the last leg as a middle one, with any line: on the fork it would read 0, 1.
-  pub no_list_at_the_fork : {n : ℕ} {pos neg : Span} → ReadCall (encoded fork) over_the_fork work lines (Reader.Read n pos neg) work' lines' → ⊥
+  pub no_list_at_the_fork : {n : ℕ} {pos neg : Span} → ReadCall (encoded fork) over_the_fork work lines (Ok (lines_read n pos neg)) work' lines' → ⊥
   no_list_at_the_fork c = no_list_where_refused (row_at 18 0) (at_the_fork (length work) (length lines) full) c
 
   -- "Taking the least way over all first lines instead of per first line": it would go on and find that leg 1 has no reading.
-  pub no_least_first_line : (why : Refusal) → ReadCall (encoded pair) (bytes_of back) work lines (Reader.Refused why) work' lines' →
+  pub no_least_first_line : (why : Refusal) → ReadCall (encoded pair) (bytes_of back) work lines (Err why) work' lines' →
       (refusal_of why ≡ row_at 18 0 → ⊥) → ⊥
   no_least_first_line why c other = other (only_this_refusal (row_at 18 0) (two_first_lines (length work) (length lines) full) c)
 
   -- A reader that names the point before the one without a node.
-  pub no_point_before : (why : Refusal) → ReadCall map_bytes (bytes_of (eastward 0 1_001 1_001)) work lines (Reader.Refused why) work' lines' →
+  pub no_point_before : (why : Refusal) → ReadCall map_bytes (bytes_of (eastward 0 1_001 1_001)) work lines (Err why) work' lines' →
       (refusal_of why ≡ row_at 16 1 → ⊥) → ⊥
   no_point_before why c other = other (only_this_refusal (row_at 16 1) (no_node_at_1 (length work) (length lines) full) c)
 
@@ -185,13 +185,13 @@ module _ (work room : ℕ) (full : work_length ≤ work) (enough : 3 ≤ room) w
 
 module _ (work lines : List ℕ) (full : work_length ≤ length work) (enough : 3 ≤ length lines) {a : ReadAnswer} {work' lines' : List ℕ} where
   -- A reader that goes over lines of every class: it would find that the first leg has no reading.
-  pub no_lower_class : ReadCall (encoded detour_beyond) (bytes_of three_beyond) work lines a work' lines' → (a ≡ Reader.Read 3 none none → ⊥) → ⊥
+  pub no_lower_class : ReadCall (encoded detour_beyond) (bytes_of three_beyond) work lines a work' lines' → (a ≡ Ok (lines_read 3 none none) → ⊥) → ⊥
   no_lower_class c other = other (counted (0 ∷ 1 ∷ 4 ∷ []) none none (by_detour (length work) (length lines) full enough) c)
 
   -- One that asks the first line, and not the last, for the last point's attributes: it would find several readings.
-  pub no_other_attributes : ReadCall (encoded marks) (bytes_of over_marks) work lines a work' lines' → (a ≡ Reader.Read 2 none none → ⊥) → ⊥
+  pub no_other_attributes : ReadCall (encoded marks) (bytes_of over_marks) work lines a work' lines' → (a ≡ Ok (lines_read 2 none none) → ⊥) → ⊥
   no_other_attributes c other = other (counted (0 ∷ 1 ∷ []) none none (by_marked_line (length work) (length lines) full enough) c)
 
   -- One that does not look as far as D says: it would find no reading of the line of 1,500,000.
-  pub no_shorter_limit : ReadCall (encoded long) (bytes_of over_long) work lines a work' lines' → (a ≡ Reader.Read 2 none none → ⊥) → ⊥
+  pub no_shorter_limit : ReadCall (encoded long) (bytes_of over_long) work lines a work' lines' → (a ≡ Ok (lines_read 2 none none) → ⊥) → ⊥
   no_shorter_limit c other = other (counted (0 ∷ 1 ∷ []) none none (by_longest (length work) (length lines) full enough) c)
