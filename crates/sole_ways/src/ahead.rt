@@ -44,6 +44,7 @@ fn look_ahead(
     ensures { (part.class ≤ result.class) × (part.length ≤ result.length) × (result.class ≤ max part.class most) }
 {
     let mut far = part;
+    // The part moves its own end on: a counter beside it would be no plainer.
     while far.to < end {
         if goal <= far.length {
             return far;

@@ -69,6 +69,7 @@ pub fn test_row(
     clear_row(table, i, end);
     let mut last = None;
     let mut part = none_from(i);
+    // The part moves its own end on: a counter beside it would be no plainer.
     while part.to < end {
         part = one_more(work, lines, stretch, part);
         // A longer leg is too long as well.

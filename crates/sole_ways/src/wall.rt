@@ -76,6 +76,7 @@ fn walk_back(
     let mut at = last;
     let mut class = field(work, last, FRC);
     let mut k = to - 1;
+    // A step goes back along the stretch or along the other way: no count of either.
     while i < k {
         let own = wide(stretch[k]);
         if at == own {
