@@ -1,17 +1,12 @@
 -- The chains are gone through, line by line: each turn has its first line then, and every chain is empty.
-use Prim.Native.Nat.{ℕ, ◌+◌, ◌≤◌, ◌<◌}
-use mathlib.Core.Path.{◌≡◌, refl, sym, ap, ◌∙◌}
+use Prim.Native.Nat.{ℕ, ◌≤◌, ◌<◌}
+use mathlib.Core.Path.{◌≡◌}
 use mathlib.Core.List.{List}
-use mathlib.Core.Logic.{⊎_elim}
-use native.Mathlib.Nat.{eq-or-lt_of_le}
-use native.Mathlib.Omega.{arith}
-use lib.ListN.{length, get_or, set}
-use lib.Seq.{get_or-set_other}
-use Rattle.model.specs.Map.{Turn, greatest_ban_count, greatest_line_count}
+use lib.ListN.{length, get_or}
+use Rattle.model.specs.Map.{Turn, greatest_ban_count}
 use Rattle.buffers.specs.Kept.{Kept}
-use Rattle.buffers.proofs.Kept.{kept_none, kept_then, kept_set, at_set}
-use Rattle.work_area.specs.Area.{bans_from, bans_to, ban_head, ban_second, ban_earlier, ban_at, latest_ban, ban_chain, BansHeld}
-use Rattle.turning.specs.Bans.{Known, ChainStands, ChainNamed, FirstsNamed}
+use Rattle.work_area.specs.Area.{bans_from, bans_to, ban_head, ban_second, ban_earlier, ban_at, latest_ban, ban_chain}
+use Rattle.turning.specs.Bans.{Known, FirstsNamed}
 
 -- The chains of the lines below `l` are gone through.
 pub record Naming (lines : ℕ) (bans : List Turn) (l : ℕ) (w v : List ℕ) : Type 0 where

@@ -11,7 +11,7 @@ use lib.Dec.{lit<}
 use Rattle.model.specs.Map.{Line, Map}
 use Rattle.model.specs.Lines.{line_at}
 use Rattle.buffers.specs.Kept.{Kept}
-use Rattle.buffers.proofs.Kept.{kept_none, kept_over}
+use Rattle.buffers.proofs.Kept.{kept_over}
 use Rattle.buffers.proofs.Cases.{here_or}
 use Rattle.work_area.specs.Area.{line_size, line_place, start_node, end_node, sector_out, sector_back, line_numbers, Holds}
 use Rattle.work_area.specs.Held.{line_from, held_line}
