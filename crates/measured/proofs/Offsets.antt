@@ -4,12 +4,11 @@ use mathlib.Core.Path.{◌≡◌, refl, ap, subst}
 use Rattle.model.specs.declared.Span.{Span}
 use Rattle.model.proofs.Spans.{span_same, no_span}
 use Rattle.fields.specs.Offset.{OffsetsOf}
-use Rattle.fields.specs.declared.offset.Offsets.{Offsets}
-use Rattle.fields.specs.declared.offset.Offsets.TheVariants.{Between, Nowhere}
+use Rattle.std.proofs.Common.{Option, Some, None}
 use Rattle.measured.specs.Offsets.{SpanNumber}
 
-module _ (leg b : ℕ) (o : Offsets) (answers : OffsetsOf leg b o) where
-  pub of_span : (s : Span) → o ≡ Between s → SpanNumber leg b (s.least + s.greatest)
+module _ (leg b : ℕ) (o : Option Span) (answers : OffsetsOf leg b o) where
+  pub of_span : (s : Span) → o ≡ Some s → SpanNumber leg b (s.least + s.greatest)
   of_span s e =
       let read = subst (OffsetsOf leg b) e answers in
       record {
@@ -17,7 +16,7 @@ module _ (leg b : ℕ) (o : Offsets) (answers : OffsetsOf leg b o) where
         nowhere = λ none. absurd (no_span none read);
       }
 
-  pub of_none : o ≡ Nowhere → SpanNumber leg b 0
+  pub of_none : o ≡ None → SpanNumber leg b 0
   of_none e =
       let none = subst (OffsetsOf leg b) e answers in
       record { between = λ s read. absurd (no_span none read); nowhere = λ other. refl }

@@ -11,7 +11,7 @@ ghost use Rattle.measured.specs.Refusal.{map_refusal, ReadNumber, WriteNumber, P
 
 use buffers::wide;
 use depot_map::{MapRead, read_map};
-use fields::offset::{Offsets, offset_byte, span_of};
+use fields::offset::{offset_byte, span_of};
 use model::limits::{GREATEST_LEG_LENGTH, WORK_LENGTH};
 use model::{PointReadAnswer, PointWriteAnswer, ReadAnswer, WriteAnswer, number_of};
 use opening::{Opened, open_map};
@@ -168,7 +168,7 @@ pub extern "C" fn measured_span(leg: u32, byte: u8) -> u64
     ensures { SpanNumber leg byte result }
 {
     match span_of(leg, byte as u32) {
-        Offsets::Between(span) => span.least as u64 + span.greatest as u64,
-        Offsets::Nowhere => 0,
+        Some(span) => span.least as u64 + span.greatest as u64,
+        None => 0,
     }
 }

@@ -3,6 +3,7 @@ use Prim.Native.Nat.{ℕ, ◌+◌, ◌≤◌, ◌<◌}
 use mathlib.Core.Path.{◌≡◌, refl, sym, subst, ◌∙◌}
 use mathlib.Core.Bool.{Bool, true, false}
 use mathlib.Core.List.{List}
+use Rattle.std.proofs.Common.{Option, Some, None}
 use native.Mathlib.Omega.{arith}
 use Rattle.model.specs.Map.{Map}
 use Rattle.model.specs.Refusal.{row, refusal_of}
@@ -14,8 +15,6 @@ use Rattle.model.specs.Call.{lines, refusal}
 use Rattle.model.specs.declared.Span.{Span}
 use Rattle.model.specs.declared.ReadAnswer.TheVariants.{Read, Refused}
 use Rattle.fields.specs.Offset.{OffsetsOf}
-use Rattle.fields.specs.declared.offset.Offsets.{Offsets}
-use Rattle.fields.specs.declared.offset.Offsets.TheVariants.{Between, Nowhere}
 use Rattle.reference_legs.specs.declared.Sums.{Sums}
 use Rattle.reference_legs.specs.Legs.{SumsOf}
 use Rattle.reader.specs.Ending.{SpansOf, Ended}
@@ -25,19 +24,19 @@ abbrev zeros : Span
 zeros = record { least = 0; greatest = 0 }
 
 -- The span of no byte, and that of a byte.
-pub spans_absent : {leg : ℕ} → SpansOf leg absent (Between zeros)
+pub spans_absent : {leg : ℕ} → SpansOf leg absent (Some zeros)
 spans_absent {leg} =
     record {
       between = λ s e. let same : zeros ≡ s = cc in subst (λ (q : Span). SpanRead leg absent q) same unflagged;
-      nowhere = λ e. absurd (let z : ◌≡◌ {A = ℕ} 0 1 = cc in omega arith);
+      nowhere = λ e. absurd cc;
     }
 
-pub spans_byte : (leg b : ℕ) (r : Offsets) → OffsetsOf leg b r → SpansOf leg (byte b) r
+pub spans_byte : (leg b : ℕ) (r : Option Span) → OffsetsOf leg b r → SpansOf leg (byte b) r
 spans_byte leg b r h =
-    record { between = λ s e. subst (λ (q : Offsets). OffsetsOf leg b q) e h; nowhere = λ e. subst (λ (q : Offsets). OffsetsOf leg b q) e h }
+    record { between = λ s e. subst (λ (q : Option Span). OffsetsOf leg b q) e h; nowhere = λ e. subst (λ (q : Option Span). OffsetsOf leg b q) e h }
 
-spans : {m : Map} {r : Reference} {lists : List (List ℕ)} {s : Sums} {o u : Offsets} {pos neg : Span} → SumsOf m lists s →
-    SpansOf s.first r.pos o → SpansOf s.last r.neg u → o ≡ Between pos → u ≡ Between neg → SpansRead m r lists pos neg
+spans : {m : Map} {r : Reference} {lists : List (List ℕ)} {s : Sums} {o u : Option Span} {pos neg : Span} → SumsOf m lists s →
+    SpansOf s.first r.pos o → SpansOf s.last r.neg u → o ≡ Some pos → u ≡ Some neg → SpansRead m r lists pos neg
 spans {pos = pos} {neg = neg} of first last e f =
     record { pos_read = rw of.first (first.between pos e); neg_read = rw of.last (last.between neg f) }
 
@@ -57,17 +56,17 @@ module _ {m : Map} {r : Reference} {room : ℕ} {lists : List (List ℕ)} {s : S
       }
 
 module _ {m : Map} {r : Reference} {room : ℕ} {lists : List (List ℕ)} {s : Sums} (of : SumsOf m lists s) (free : s.barred ≡ false) where
-  pub no_positive : {o : Offsets} → SpansOf s.first r.pos o → o ≡ Nowhere → Ended m r room lists (Refused why.NoOffset)
+  pub no_positive : {o : Option Span} → SpansOf s.first r.pos o → o ≡ None → Ended m r room lists (Refused why.NoOffset)
   unfolding refusal_of
   no_positive spans e =
       record { outcome = ReadOutcome.refused (row 19); ends = not_barred _ of free (ReadEnd.no_pos (rw of.first (spans.nowhere e))); answers = refusal {why = why.NoOffset} }
 
-  pub no_negative : {o : Offsets} → SpansOf s.last r.neg o → o ≡ Nowhere → Ended m r room lists (Refused why.NoOffset)
+  pub no_negative : {o : Option Span} → SpansOf s.last r.neg o → o ≡ None → Ended m r room lists (Refused why.NoOffset)
   unfolding refusal_of
   no_negative spans e =
       record { outcome = ReadOutcome.refused (row 19); ends = not_barred _ of free (ReadEnd.no_neg (rw of.last (spans.nowhere e))); answers = refusal {why = why.NoOffset} }
 
-  module _ {o u : Offsets} {pos neg : Span} (first : SpansOf s.first r.pos o) (last : SpansOf s.last r.neg u) (e : o ≡ Between pos) (f : u ≡ Between neg) where
+  module _ {o u : Option Span} {pos neg : Span} (first : SpansOf s.first r.pos o) (last : SpansOf s.last r.neg u) (e : o ≡ Some pos) (f : u ≡ Some neg) where
     pub too_far : s.length ≤ pos.least + neg.least → Ended m r room lists (Refused why.NoOffset)
     unfolding refusal_of
     too_far h =

@@ -6,17 +6,17 @@ ghost use Rattle.references.specs.Form.{SoundBytes, offset_in};
 ghost use Rattle.reference_legs.specs.Legs.{SumsOf};
 ghost use Rattle.reader.specs.Ending.{SpansOf, Ended};
 
-use fields::offset::{Offsets, span_of};
+use fields::offset::span_of;
 use model::{ReadAnswer, Refusal, Span};
 use reference_legs::Sums;
 use references::reference::{Offset, negative_offset, positive_offset};
 
 // The span of an offset on a leg of this length: 0 and 0 where there is no byte.
-fn span(leg: u32, offset: Offset) -> Offsets
+fn span(leg: u32, offset: Offset) -> Option<Span>
     ensures { SpansOf leg (offset_in offset) result }
 {
     match offset {
-        Offset::Absent => Offsets::Between(Span {
+        Offset::Absent => Some(Span {
             least: 0,
             greatest: 0,
         }),
@@ -32,10 +32,10 @@ pub fn answer(bytes: &[u8], points: usize, sums: Sums, room: usize) -> ReadAnswe
     if sums.barred {
         return ReadAnswer::Refused(Refusal::JoinedBan);
     }
-    let Offsets::Between(positive) = span(sums.first, positive_offset(bytes, points)) else {
+    let Some(positive) = span(sums.first, positive_offset(bytes, points)) else {
         return ReadAnswer::Refused(Refusal::NoOffset);
     };
-    let Offsets::Between(negative) = span(sums.last, negative_offset(bytes, points)) else {
+    let Some(negative) = span(sums.last, negative_offset(bytes, points)) else {
         return ReadAnswer::Refused(Refusal::NoOffset);
     };
     if sums.length as u64 <= positive.least as u64 + negative.least as u64 {

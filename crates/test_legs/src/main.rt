@@ -13,7 +13,7 @@ ghost use Rattle.model.specs.Reading as definitions;
 
 use cases::{Part, word_at};
 use console::{hand_over, print, print_each};
-use fields::leg::{Arrival, Attributes, Leg, Reading, Verdict, longest_leg};
+use fields::leg::{Attributes, Leg, Reading, Verdict, longest_leg};
 use legs::first_lines::both;
 use model::limits::WORK_LENGTH;
 use model::number_of;
@@ -35,11 +35,11 @@ fn attributes_at(words: &[u8], at: usize) -> Attributes
 }
 
 // How a leg arrives: the eighth number says whether the last three are its last line's attributes.
-fn arrival_of(words: &[u8]) -> Arrival {
+fn arrival_of(words: &[u8]) -> Option<Attributes> {
     if word_at(words, 28) == 0 {
-        return Arrival::Any;
+        return None;
     }
-    Arrival::Matching(attributes_at(words, 32))
+    Some(attributes_at(words, 32))
 }
 
 // A leg from its numbers, of four bytes each: two nodes, FRC, FOW and sector of its first line, its lowest class, D, and how it arrives.
@@ -102,10 +102,9 @@ fn judge(work: &mut [u32], nodes: u32, lines: usize, leg: Leg) -> Verdict
 fn terminus_of(leg: Leg, reading: Reading) -> Terminus
     ensures { (m : Map) (lines : ℕ) → leg.to < length m.nodes → reading.last < lines → Stands m lines result }
 {
-    let arrival = leg.arrival;
-    match arrival {
-        Arrival::Any => Terminus::Node(leg.to),
-        Arrival::Matching(_) => Terminus::Line(reading.last),
+    match leg.arrival {
+        None => Terminus::Node(leg.to),
+        Some(_) => Terminus::Line(reading.last),
     }
 }
 

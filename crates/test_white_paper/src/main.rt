@@ -8,13 +8,13 @@ ghost use Rattle.references.specs.Form.{SoundBytes};
 use buffers::bytes::{at2, at3};
 use console::{hand_over, load, print};
 use fields::coordinate::{latitude_code, longitude_code, longitude_sum, moved};
-use fields::leg::{Arrival, Attributes, distance};
+use fields::leg::{Attributes, distance};
 use fields::offset::offset_byte;
 use fields::sector::sector;
 use model::limits::{DISTANCE_STEP, STEP_ADDED};
 use model::number_of;
 use references::leg::leg_at;
-use references::reference::{Form, Offset, Reference, negative_offset, positive_offset};
+use references::reference::{Reference, negative_offset, positive_offset};
 
 // The coordinates of Table 72 in hundred-thousandths of a degree, with what the map adds to them.
 const LONGITUDE_1: u32 = 18_000_000 + 612_683;
@@ -70,8 +70,7 @@ fn show_coordinates(rt: &impl Print, bytes: &[u8], points: usize)
 {
     print(rt, b"Table 72: 1 code ", at3(bytes, 1) as u64);
     print(rt, b" code ", at3(bytes, 4) as u64);
-    let mut k: usize = 0;
-    while k < points {
+    for k in 0..points {
         let by_lon = at2(bytes, 10 + 7 * k);
         let by_lat = at2(bytes, 12 + 7 * k);
         print(rt, b"\nTable 72: ", (k + 2) as u64);
@@ -80,17 +79,16 @@ fn show_coordinates(rt: &impl Print, bytes: &[u8], points: usize)
         if reached(k, by_lon, by_lat) {
             write(rt, b" reached");
         }
-        k += 1;
     }
 }
 
 fn print_form_of_way(rt: &impl Print, fow: u32) {
-    if fow == 2 {
-        write(rt, b" MULTIPLE_CARRIAGEWAY");
-    } else if fow == 3 {
-        write(rt, b" SINGLE_CARRIAGEWAY");
-    } else {
-        print(rt, b" FOW ", fow as u64);
+    match fow {
+        2 => write(rt, b" MULTIPLE_CARRIAGEWAY"),
+        3 => write(rt, b" SINGLE_CARRIAGEWAY"),
+        _ => {
+            print(rt, b" FOW ", fow as u64);
+        }
     }
 }
 
@@ -115,25 +113,22 @@ fn show_points(rt: &impl Print, bytes: &[u8], points: usize)
     requires { SoundBytes bytes.now points }
 {
     let places = [0; 65];
-    let mut k: usize = 0;
-    while k < points {
+    for k in 0..points {
         let leg = leg_at(bytes, points, &places, k);
-        let arrival = leg.arrival;
-        k += 1;
-        show_point(rt, k, leg.leaves);
+        show_point(rt, k + 1, leg.leaves);
         print(rt, b" FRC", leg.lowest as u64);
         print_distance(rt, leg.distance);
-        if let Arrival::Matching(a) = arrival {
-            show_point(rt, k + 1, a);
+        if let Some(a) = leg.arrival {
+            show_point(rt, k + 2, a);
         }
     }
 }
 
-fn show_offset(rt: &impl Print, word: &[u8], offset: Offset) {
+fn show_offset(rt: &impl Print, word: &[u8], offset: Option<u32>) {
     write(rt, word);
     match offset {
-        Offset::Absent => write(rt, b" no offset available"),
-        Offset::Byte(byte) => {
+        None => write(rt, b" no offset available"),
+        Some(byte) => {
             print(rt, b" byte ", byte as u64);
         }
     }
@@ -167,14 +162,14 @@ fn show_fields(rt: &impl Print) {
 
 fn show(rt: &impl Print, bytes: &[u8]) {
     match Reference::of(bytes) {
-        Form::Sound(reference) => {
+        Ok(reference) => {
             let points = reference.points;
             show_coordinates(rt, bytes, points);
             show_points(rt, bytes, points);
             show_offset(rt, b"\nTable 93: positive", positive_offset(bytes, points));
             show_offset(rt, b"\nTable 93: negative", negative_offset(bytes, points));
         }
-        Form::Refused(why) => {
+        Err(why) => {
             print(rt, b"refused ", number_of(why) as u64);
         }
     }
