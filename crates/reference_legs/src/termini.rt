@@ -13,6 +13,7 @@ use search_cells::adjacency::{first_leaving, next_leaving};
 use way_lengths::Terminus;
 
 // Where the first terminus of a leg is: 1 + the line, for a leg that any line may end the count of lines, which stands for its end node, or 0 for none.
+#[tactic(auto, unfolding(fields::specs::Leg::arrival_in))]
 pub fn first_terminus(work: &[u32], lines: usize, leg: Leg) -> usize
     requires { (m : Map) × Set m lines work.now × (leg.to < length m.nodes) }
     ensures { (m : Map) → Set m lines work.now → leg.to < length m.nodes
@@ -25,6 +26,7 @@ pub fn first_terminus(work: &[u32], lines: usize, leg: Leg) -> usize
 }
 
 // Where the next one is.
+#[tactic(auto, unfolding(fields::specs::Leg::arrival_in))]
 pub fn next_terminus(work: &[u32], lines: usize, at: usize, leg: Leg) -> usize
     requires at_nonzero { (0 < at) × (at ≤ lines) }
     requires set { (m : Map) × Set m lines work.now }
@@ -44,13 +46,11 @@ pub fn read_terminus(work: &mut [u32], lines: usize, at: usize, leg: Leg) -> Ver
         → Judged m lines (ReadingTo m (leg_in leg) (terminus_at (arrival_in leg.arrival) leg.to at)) (StandsIn work.new)
         work.old work.new result }
 {
-    match leg.arrival {
-        None => read_to(work, lines, Terminus::Node(leg.to), leg),
-        Some(a) => {
-            if !arrives_as(work, lines, at - 1, a) {
-                return Verdict::Unread;
-            }
-            read_to(work, lines, Terminus::Line(at - 1), leg)
-        }
+    let Some(attributes) = leg.arrival else {
+        return read_to(work, lines, Terminus::Node(leg.to), leg);
+    };
+    if !arrives_as(work, lines, at - 1, attributes) {
+        return Verdict::Unread;
     }
+    read_to(work, lines, Terminus::Line(at - 1), leg)
 }

@@ -8,7 +8,7 @@ use crate::reference::{Reference, attributes_at, byte_at};
 use buffers::wide;
 use fields::leg::{Attributes, Leg};
 
-// How leg `k` ends: the last one as the last P and R say.
+// The attributes that leg `k` ends with: the last one has those of the last P and R, no other has any.
 #[tactic(auto, unfolding(fields::specs::Leg::arrival_in, crate::specs::Legs::arrival_at))]
 fn arrival_at(bytes: &[u8], points: usize, k: usize) -> Option<Attributes>
     requires { SoundBytes bytes.now points × (k < points) }

@@ -24,8 +24,38 @@ const ROW: usize = 96;
 // The longest buffer of a case, some bytes more than a message has.
 const BUFFER: usize = 16_400;
 
-// The kind of a part that is the map at hand.
-const MAP: u8 = 7;
+// What a part is.
+#[derive(Clone, Copy)]
+enum Kind {
+    Buffer,
+    Opening,
+    Adding,
+    Closing,
+    Finished,
+    Received,
+    Start,
+    Map,
+    Lines,
+    Point,
+}
+
+// A part's first byte tells what it is.
+impl From<u8> for Kind {
+    fn from(first: u8) -> Kind {
+        match first {
+            0 => Kind::Buffer,
+            1 => Kind::Opening,
+            2 => Kind::Adding,
+            3 => Kind::Closing,
+            4 => Kind::Finished,
+            5 => Kind::Received,
+            6 => Kind::Start,
+            7 => Kind::Map,
+            8 => Kind::Lines,
+            _ => Kind::Point,
+        }
+    }
+}
 
 // The message at hand, and how many bytes its buffer has.
 #[derive(Clone, Copy)]
@@ -52,8 +82,8 @@ fn put_told(answer: MessageAnswer, row: &mut [u8]) -> usize
     ensures { IsPrefixLen result row.new }
 {
     match answer {
-        MessageAnswer::Now(m) => put_message(m, row),
-        MessageAnswer::Refused(why) => put_number(b"refused ", number_of(why) as u64, row, 0),
+        Ok(m) => put_message(m, row),
+        Err(why) => put_number(b"refused ", number_of(why) as u64, row, 0),
     }
 }
 
@@ -78,10 +108,7 @@ fn show(rt: &impl Print, answer: MessageAnswer, buffer: &[u8]) {
 
 // The message that the calls go on with.
 fn going_on(answer: MessageAnswer, m: Message) -> Message {
-    match answer {
-        MessageAnswer::Now(next) => next,
-        MessageAnswer::Refused(_) => m,
-    }
+    answer.unwrap_or(m)
 }
 
 // The same, with the row printed.
@@ -171,28 +198,27 @@ fn read_point(
     show_point(rt, answer, work, lines);
 }
 
-// Reads a reference out of a message, by its kind: 8 for lines, else a point.
+// Reads a reference out of a message: lines, or else a point.
 fn run_kind(
     rt: &impl Print,
-    kind: u8,
+    kind: Kind,
     map: &[u8],
     message: &[u8],
     reference: &[u8],
     work: &mut [u32],
     lines: &mut [u32],
 ) {
-    if kind == 8 {
-        read_lines(rt, map, message, reference, work, lines);
-        return;
+    match kind {
+        Kind::Lines => read_lines(rt, map, message, reference, work, lines),
+        _ => read_point(rt, map, message, reference, work, lines),
     }
-    read_point(rt, map, message, reference, work, lines);
 }
 
 // Reads with a work area and a line buffer of the lengths that the part's first two numbers say. The third is the message's count of bytes; behind them stands the
 // reference.
 fn run_read(
     rt: &impl Print,
-    kind: u8,
+    kind: Kind,
     map: &[u8],
     rest: &[u8],
     work: &mut [u32],
@@ -213,32 +239,34 @@ fn run_read(
     );
 }
 
-// The message after a call: 1 opens, 2 adds the rest of the part, 3 closes, 4 asks for the reference whose number is the rest, and 5 for that of a message
-// that stands behind the number.
-fn run_call(rt: &impl Print, kind: u8, rest: &[u8], m: Message, buffer: &mut [u8]) -> Message {
-    if kind == 1 {
-        return shown(rt, open_reference(m), m, buffer);
-    }
-    if kind == 2 {
-        let answer = add_bytes(m, buffer, rest);
-        return shown(rt, answer, m, buffer);
-    }
-    if kind == 3 {
-        return shown(rt, close_reference(m), m, buffer);
-    }
-    if kind == 4 {
-        ask_finished(rt, m, buffer, word_at(rest, 0));
-        return m;
-    }
-    let number = lesser(4, rest.len());
-    ask_received(rt, &rest[number..], word_at(rest, 0));
-    m
+// The message after a call that adds the rest of the part.
+fn run_add(rt: &impl Print, rest: &[u8], m: Message, buffer: &mut [u8]) -> Message {
+    let answer = add_bytes(m, buffer, rest);
+    shown(rt, answer, m, buffer)
 }
 
-// The message after a call on the map at hand: 6 starts one, 8 and 9 read out of one, and the others are calls without a map.
+// The message after a call without a map. It asks for the reference whose number is the rest, or for that of a message that stands behind the number.
+fn run_call(rt: &impl Print, kind: Kind, rest: &[u8], m: Message, buffer: &mut [u8]) -> Message {
+    match kind {
+        Kind::Opening => shown(rt, open_reference(m), m, buffer),
+        Kind::Adding => run_add(rt, rest, m, buffer),
+        Kind::Closing => shown(rt, close_reference(m), m, buffer),
+        Kind::Finished => {
+            ask_finished(rt, m, buffer, word_at(rest, 0));
+            m
+        }
+        _ => {
+            let number = lesser(4, rest.len());
+            ask_received(rt, &rest[number..], word_at(rest, 0));
+            m
+        }
+    }
+}
+
+// The message after a call on the map at hand: one starts it, two read out of one, and the others are calls without a map.
 fn run_on_map(
     rt: &impl Print,
-    kind: u8,
+    kind: Kind,
     map: &[u8],
     rest: &[u8],
     m: Message,
@@ -246,14 +274,14 @@ fn run_on_map(
     work: &mut [u32],
     lines: &mut [u32],
 ) -> Message {
-    if kind == 6 {
-        return run_start(rt, map, rest, m, buffer, work);
+    match kind {
+        Kind::Start => run_start(rt, map, rest, m, buffer, work),
+        Kind::Lines | Kind::Point => {
+            run_read(rt, kind, map, rest, work, lines);
+            m
+        }
+        _ => run_call(rt, kind, rest, m, buffer),
     }
-    if 8 <= kind {
-        run_read(rt, kind, map, rest, work, lines);
-        return m;
-    }
-    run_call(rt, kind, rest, m, buffer)
 }
 
 // A buffer of as many bytes as the part's number says, filled with marks, and no message in it.
@@ -266,18 +294,43 @@ fn begin(part: &[u8], buffer: &mut [u8]) -> Written {
     }
 }
 
-// What a part is, by its first byte: 0 is a new buffer, MAP the map at hand, else a call. A part without bytes is nothing.
-fn kind_of(part: &[u8]) -> u8 {
-    if part.len() == 0 {
-        return MAP;
+// What a part is. One without bytes counts as a map.
+fn kind_of(part: &[u8]) -> Kind {
+    match part.first() {
+        Some(first) => Kind::from(*first),
+        None => Kind::Map,
     }
-    part[0]
 }
 
 // What stands behind a part's first byte.
 fn behind_kind(part: &[u8]) -> &[u8] {
     let first = lesser(1, part.len());
     &part[first..]
+}
+
+// The message after a call, in as much of the buffer as it was given.
+fn run_in_room(
+    rt: &impl Print,
+    kind: Kind,
+    part: &[u8],
+    map: &[u8],
+    written: Written,
+    buffer: &mut [u8],
+    work: &mut [u32],
+    lines: &mut [u32],
+) -> Written {
+    let room = lesser(written.room, buffer.len());
+    let message = run_on_map(
+        rt,
+        kind,
+        behind_kind(map),
+        behind_kind(part),
+        written.message,
+        &mut buffer[..room],
+        work,
+        lines,
+    );
+    Written { message, room }
 }
 
 // The message after a part, with the part that is the map at hand.
@@ -290,26 +343,11 @@ fn run_part(
     work: &mut [u32],
     lines: &mut [u32],
 ) -> Written {
-    let kind = kind_of(part);
-    if kind == MAP {
-        return written;
+    match kind_of(part) {
+        Kind::Map => written,
+        Kind::Buffer => begin(part, buffer),
+        kind => run_in_room(rt, kind, part, map, written, buffer, work, lines),
     }
-    if kind == 0 {
-        return begin(part, buffer);
-    }
-    let room = lesser(written.room, buffer.len());
-    let m = written.message;
-    let message = run_on_map(
-        rt,
-        kind,
-        behind_kind(map),
-        behind_kind(part),
-        m,
-        &mut buffer[..room],
-        work,
-        lines,
-    );
-    Written { message, room }
 }
 
 fn run(rt: &impl Print, bytes: &[u8], buffer: &mut [u8], work: &mut [u32], lines: &mut [u32]) {
@@ -325,7 +363,7 @@ fn run(rt: &impl Print, bytes: &[u8], buffer: &mut [u8], work: &mut [u32], lines
             return;
         };
         at = to;
-        if kind_of(&bytes[from..to]) == MAP {
+        if let Kind::Map = kind_of(&bytes[from..to]) {
             map_from = from;
             map_to = to;
         }

@@ -2,3 +2,4 @@
 pub mod Mirror
 pub mod Area
 pub mod Held
+pub mod Step

@@ -9,6 +9,8 @@ ghost use Rattle.work_area.specs.Area.{line_size, line_place};
 
 use model::limits::{GREATEST_BAN_COUNT, GREATEST_LINE_COUNT, GREATEST_NODE_COUNT, WORK_LENGTH};
 
+pub mod step;
+
 // How many numbers a node has. The first node's stand at 0.
 pub const NODE_NUMBERS: usize = 2;
 

@@ -1,19 +1,11 @@
--- `first_terminus` meets its contract: by how the leg ends.
+-- The first terminus is told by how the leg ends.
 use Rattle.fields.specs.Leg.{arrival_in}
 use Rattle.work_area.specs.Mirror.{mirror}
 use Rattle.search_cells.proofs.Holding.{mirrored}
-use borrow.Author.Rules.{rules}
-use Rattle.reference_legs.proofs.termini.first_terminus.Reads as reads
-use Rattle.reference_legs.proofs.termini.first_terminus.Lts as lts
-use Rattle.search_cells.proofs.adjacency.first_leaving.Reads as first-leaving-reads
 use Rattle.reference_legs.proofs.termini.first_terminus.Goals as goal
 
 pub first_leaving-requires : goal.first_leaving-requires
 first_leaving-requires c = let p = c.requires in (mirror p.0, mirrored p.1.held, p.1.chained, p.2)
-
-pub returns-in-None : goal.returns-in-None
-unfolding arrival_in
-returns-in-None c = λ m set to. rw c.in-None.is
 
 pub returns-in-Some : goal.returns-in-Some
 unfolding arrival_in

@@ -1,19 +1,11 @@
--- `next_terminus` meets its contract: by how the leg ends.
+-- The next terminus is told by how the leg ends.
 use Rattle.fields.specs.Leg.{arrival_in}
 use Rattle.work_area.specs.Mirror.{mirror}
 use Rattle.search_cells.proofs.Holding.{mirrored}
-use borrow.Author.Rules.{rules}
-use Rattle.reference_legs.proofs.termini.next_terminus.Reads as reads
-use Rattle.reference_legs.proofs.termini.next_terminus.Lts as lts
-use Rattle.search_cells.proofs.adjacency.next_leaving.Reads as next-leaving-reads
 use Rattle.reference_legs.proofs.termini.next_terminus.Goals as goal
 
 pub next_leaving-requires-clause-mirrored : goal.next_leaving-requires-clause-mirrored
 next_leaving-requires-clause-mirrored c = let p = c.requires.set in (mirror p.0, mirrored p.1.held, p.1.chained)
-
-pub returns-in-None : goal.returns-in-None
-unfolding arrival_in
-returns-in-None c = λ m set. rw c.in-None.is
 
 pub returns-in-Some : goal.returns-in-Some
 unfolding arrival_in
