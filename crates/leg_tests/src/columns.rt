@@ -34,9 +34,7 @@ pub fn test_column(
 {
     let mut searched: u32 = 0;
     let mut limit: u32 = 0;
-    let mut i = j;
-    while 0 < i {
-        i -= 1;
+    for i in (0..j).rev() {
         let alone = table[POSITIONS * i] == 1;
         let mark = table[POSITIONS * i + j];
         let cell = test_cell(

@@ -44,12 +44,10 @@ fn look_ahead(
     ensures { len ≤ result }
 {
     let mut far = len;
-    let mut k = i;
-    while 0 < k {
+    for k in (0..i).rev() {
         if goal <= far {
             return far;
         }
-        k -= 1;
         if class < field_of(work, lines, stretch, k, FRC) {
             return far;
         }

@@ -59,6 +59,7 @@ fn differences_of(work: &[u32], lines: usize, leg: &[u32]) -> Differences
 }
 
 // The point that a leg that may be used starts at.
+#[tactic(auto, using(crate::proofs::Points::small))]
 pub fn point_of(work: &[u32], lines: usize, leg: &[u32]) -> Point
     requires known { Known lines leg.now × (length leg.now ≤ 64) }
     requires held { (m : Map) × (last : Bool) × Held work.now lines m × Good m last leg.now }

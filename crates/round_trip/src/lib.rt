@@ -48,18 +48,7 @@ pub fn write_and_read(
 pub fn same_bytes(one: &[u8], other: &[u8]) -> bool
     ensures { Decides (one.now ≡ other.now) result }
 {
-    let n = one.len();
-    if n != other.len() {
-        return false;
-    }
-    let mut i: usize = 0;
-    while i < n {
-        if one[i] != other[i] {
-            return false;
-        }
-        i += 1;
-    }
-    true
+    one == other
 }
 
 // The first stretch is refused, or the second; or their bytes differ; or they are the same: their count, and what the reader answers to them.

@@ -23,11 +23,8 @@ fn clear_row(table: &mut [u8], i: usize, end: usize)
     requires { (i < end) × (end ≤ 64) × (65 * end ≤ length table.old) }
     ensures { RowCleared i end table.old table.new }
 {
-    let mut j = i;
-    while j < end {
-        j += 1;
-        table[POSITIONS * i + j] = 0;
-    }
+    let row = POSITIONS * i;
+    table[row + i + 1..row + end + 1].fill(0);
 }
 
 // Whether the leg to position `j` from the position before `i` is a sole way. Then that from `i` is one too.

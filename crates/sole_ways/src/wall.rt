@@ -14,7 +14,6 @@ use crate::ahead::Along;
 use crate::part::Part;
 use buffers::wide;
 use search_cells::cells::{SEVERAL, length_to, predecessor_at};
-use stretches::lines::greater;
 use work_area::{FRC, field};
 
 // Another way, over lines up to a class, leaves the stretch behind the line at position `from` and is back at the node at position `to`. `to` is 0 where
@@ -94,7 +93,7 @@ fn walk_back(
                 return old;
             }
             at = x - 1;
-            class = greater(class, field(work, at, FRC));
+            class = class.max(field(work, at, FRC));
         }
     }
     old

@@ -12,11 +12,6 @@ use native.Mathlib.Omega.{arith}
 use borrow.Author.Rules.{rules}
 use Rattle.ways.proofs.ways_from.Statement.{statement}
 use Rattle.ways.proofs.ways_from.Tie as tie
-use Rattle.ways.proofs.ways_from.Reads as reads
-use Rattle.ways.proofs.ways_from.Lts as lts
-use Rattle.buffers.proofs.wide.Reads as wide-reads
-use Rattle.search_cells.proofs.cells.length_to.Reads as length-to-reads
-use Rattle.search_cells.proofs.cells.predecessor_at.Reads as predecessor-at-reads
 
 abbrev invariant-loop : tie.invariant-loop-x
 invariant-loop work lines first limit length at₀ count₀ x₀ at count x =

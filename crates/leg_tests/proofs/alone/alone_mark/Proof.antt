@@ -10,7 +10,6 @@ use Rattle.model.specs.Map.{Map}
 use lib.ListN.{get_or}
 use mathlib.Core.Logic.{⊎_elim}
 use mathlib.Core.Path.{◌≡◌, sym, ◌∙◌}
-use Prim.Native.Nat.{◌-◌}
 use native.Mathlib.Omega.{arith}
 use borrow.Author.Rules.{rules}
 use Rattle.leg_tests.proofs.alone.alone_mark.Statement.{statement}

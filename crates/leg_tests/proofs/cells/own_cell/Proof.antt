@@ -4,9 +4,7 @@ use Rattle.leg_tests.proofs.Opening.{stays_so, fails}
 use Rattle.leg_tests.specs.LegTests.{Alone}
 use Rattle.sole_ways.proofs.Working.{worked_none}
 use Rattle.buffers.specs.Decides.{Decides}
-use borrow.Author.Tests.{not-true, not-false}
 use mathlib.Core.Path.{subst}
-use native.Mathlib.Omega.{arith}
 use borrow.Author.Rules.{rules}
 use Rattle.leg_tests.proofs.cells.own_cell.Statement.{statement}
 use Rattle.leg_tests.proofs.cells.own_cell.Tie as tie

@@ -13,7 +13,7 @@ use Rattle.model.specs.Map.{Map}
 use Prim.Native.Nat.{◌≤◌}
 use mathlib.Core.Path.{sym, ap, subst, ◌∙◌}
 use lib.ListN.{length}
-use lib.Seq.{slice, length-slice}
+use lib.Seq.{length-slice}
 use native.Mathlib.Omega.{arith}
 use borrow.Author.Rules.{rules}
 use Rattle.leg_tests.proofs.cells.search_cell.Statement.{statement}

@@ -5,7 +5,6 @@ use Rattle.leg_tests.specs.LegTests.{EndsThere, Asked, Sifted, CellTested}
 use Rattle.sole_ways.proofs.Working.{worked_none}
 use mathlib.Core.Path.{sym, subst}
 use mathlib.Core.Bool.{Bool}
-use native.Mathlib.Omega.{arith}
 use borrow.Author.Rules.{rules}
 use Rattle.leg_tests.proofs.cells.test_cell.Statement.{statement}
 use Rattle.leg_tests.proofs.cells.test_cell.Tie as tie

@@ -10,7 +10,6 @@ use Rattle.search_cells.specs.Area.{Set}
 use Rattle.way_lengths.specs.Ways.{line}
 use Rattle.model.specs.Lines.{line_at, Connected, arriving}
 use Rattle.model.specs.Map.{Map}
-use borrow.Author.Tests.{not-true, not-false}
 use lib.ListN.{length, get_or}
 use mathlib.Core.Path.{◌≡◌, refl, sym, ◌∙◌}
 use Prim.Native.Nat.{◌-◌}

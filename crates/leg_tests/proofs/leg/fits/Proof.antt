@@ -1,5 +1,4 @@
 -- `fits` meets its contract: both differences.
-use borrow.Author.Tests.{not-true, not-false}
 use Prim.Native.Nat.{◌<◌}
 use native.Mathlib.Omega.{arith}
 use lib.ListN.{length}

@@ -6,7 +6,7 @@ use Rattle.model.specs.Choice.{to_node}
 use lib.Seq.{slice}
 use Rattle.buffers.specs.Decides.{Decides}
 use Prim.Native.Nat.{ℕ}
-use mathlib.Core.Path.{ap, ◌∙◌, subst}
+use mathlib.Core.Path.{◌∙◌, subst}
 use native.Mathlib.Omega.{arith}
 use borrow.Author.Rules.{rules}
 use Rattle.leg_tests.proofs.leg.leg_fits.Statement.{statement}

@@ -6,7 +6,6 @@ use Rattle.sole_ways.proofs.Slices.{last_of_slice}
 use Rattle.way_lengths.specs.Ways.{Ends}
 use mathlib.Core.Path.{sym, subst}
 use lib.Seq.{slice}
-use native.Mathlib.Omega.{arith}
 use borrow.Author.Rules.{rules}
 use Rattle.leg_tests.proofs.leg_search.test_leg.Statement.{statement}
 use Rattle.leg_tests.proofs.leg_search.test_leg.Tie as tie

@@ -1,8 +1,6 @@
 -- `look_ahead` meets its contract: class and length only grow, and a length that is summed up further is no longer than a leg can be.
-use lib.ListN.{length}
 use Prim.Native.Nat.{◌-◌, ◌≤◌, max}
 use native.Mathlib.Omega.{arith}
-use borrow.Author.Rules.{rules}
 use Rattle.sole_ways.proofs.ahead.look_ahead.Statement.{statement}
 use Rattle.sole_ways.proofs.ahead.look_ahead.Tie as tie
 

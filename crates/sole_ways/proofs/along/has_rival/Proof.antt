@@ -7,7 +7,6 @@ use Rattle.model.specs.Lines.{line_at}
 use Rattle.model.specs.Map.{Map}
 use Prim.Native.Nat.{ℕ, ◌-◌}
 use mathlib.Core.Path.{◌≡◌, ap, subst, sym, ◌∙◌}
-use lib.ListN.{get_or}
 use native.Mathlib.Omega.{arith}
 use borrow.Author.Rules.{rules}
 use Rattle.sole_ways.proofs.along.has_rival.Statement.{statement}

@@ -1,7 +1,6 @@
 -- `is_sole` meets its contract: the way breaks before the last line, or goes to it; and there a rival may arrive.
 use Rattle.sole_ways.proofs.Testing.{not_upto, sole_last, sole_node}
 use native.Mathlib.Omega.{arith}
-use borrow.Author.Rules.{rules}
 use Rattle.sole_ways.proofs.test.is_sole.Statement.{statement}
 use Rattle.sole_ways.proofs.test.is_sole.Tie as tie
 

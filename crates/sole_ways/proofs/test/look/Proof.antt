@@ -1,7 +1,6 @@
 -- `look` meets its contract: the stretch's lines are gone along, and the leg is asked for.
 use Rattle.sole_ways.proofs.Testing.{looked}
 use native.Mathlib.Omega.{arith}
-use borrow.Author.Rules.{rules}
 use Rattle.sole_ways.proofs.test.look.Statement.{statement}
 use Rattle.sole_ways.proofs.test.look.Tie as tie
 

@@ -1,5 +1,4 @@
 -- `serve` meets its contract: the last search serves, or another is made.
-use native.Mathlib.Omega.{arith}
 use borrow.Author.Rules.{rules}
 use Rattle.sole_ways.proofs.test.serve.Statement.{statement}
 use Rattle.sole_ways.proofs.test.serve.Tie as tie

@@ -100,8 +100,8 @@ field-requires-2 c κs =
     let room = line_room {l = c.one_before-x.result - 1} c.requires.1.1 (omega (arith, known, x.0)) in
     (room.0, omega arith, room.1)
 
-greater-requires : tie.Need-greater-class-requires invariant-loop decreases-loop
-greater-requires c κs = search rules
+max-class-requires : tie.Need-max-class-requires invariant-loop decreases-loop
+max-class-requires c κs = search rules
 
 loop-less-2 : tie.Need-loop-k-smaller invariant-loop decreases-loop
 loop-less-2 c =
@@ -124,7 +124,7 @@ loop-again-2 c =
           let k = l.invariant.1 m b set f g j in
           let known = back_known f.searched k (omega (arith, x.0, c.if-x-eq0.false)) (omega (arith, x)) in
           let frc = class_held (y - 1) set (omega (arith, known, e)) c.field.ensures in
-          rw (c.greater-class.ensures, e)
+          rw (c.max-class.ensures, e)
           (back_on f.searched k (omega (arith, x.0, c.if-x-eq0.false)) (omega (arith, x)) (frc ∙ ap (λ (z : ℕ). (line_at (mirror m) z).frc) e)),
     )
 
@@ -153,7 +153,7 @@ walk_back_spec =
     returns-2
     sub_at
     field-requires-2
-    greater-requires
+    max-class-requires
     loop-less-2
     loop-again-2
     returns-3)
