@@ -1,7 +1,7 @@
 -- Bytes that are no map.
 use Rattle.std.proofs.lemmas.Result.{err_from_is_err_and}
 use Rattle.point_writer.proofs.Answers.{map_refused_lem}
-use Rattle.point_writer.proofs.on_area.Goals as goal
+use Rattle.point_writer.proofs.fn.write_point.in_work_area.Goals as goal
 
 pub returns-in_err-opened : goal.returns-in_err-opened
 returns-in_err-opened c =
