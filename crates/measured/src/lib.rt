@@ -50,7 +50,7 @@ fn search_again(work: &mut [u32], lines: usize, first: u32, class: u32, limit: u
     if lines <= wide(first) || GREATEST_LEG_LENGTH < limit {
         return;
     }
-    for _i in 0..times {
+    for _ in 0..times {
         search(work, lines, Terminus::Line(wide(first)), class, limit);
     }
 }

@@ -8,8 +8,8 @@ returns-then-byte-gt-GREATEST_OFFSET_BYTE c = past_255_nowhere _ _ c.if-byte-gt-
 
 pub returns-then-next-first : goal.returns-then-next-first
 returns-then-next-first c =
-    nowhere _ _ _ _ c.first_offset-first.ensures c.first_past-next.ensures.0 c.first_past-next.ensures.1 c.if-next-first.true
+    nowhere _ _ _ _ c.first_offset-first.ensures.0 c.first_offset-next.ensures.0 (c.first_offset-next.ensures.1 (omega arith)) c.if-next-first.true
 
 pub returns : goal.returns
 returns c =
-    span _ _ _ _ c.first_offset-first.ensures c.first_past-next.ensures.0 c.first_past-next.ensures.1 c.if-next-first.false
+    span _ _ _ _ c.first_offset-first.ensures.0 c.first_offset-next.ensures.0 (c.first_offset-next.ensures.1 (omega arith)) c.if-next-first.false
