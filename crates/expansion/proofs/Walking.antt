@@ -8,6 +8,9 @@ use Prim.Native.Nat.{ℕ, ◌-◌, ◌/◌, ◌≤◌, ◌<◌}
 use mathlib.Core.Path.{◌≡◌, refl, sym, ◌∙◌, ap, subst}
 use mathlib.Core.List.{List}
 use mathlib.Core.Logic.{⊎_elim, ◌≢◌}
+use Rattle.std.specs.Prelude.{Option, None, Some}
+use Rattle.std.specs.Option.{ForSome}
+use Rattle.std.proofs.lemmas.Option.{none-some, same_Some}
 use native.Mathlib.Omega.{arith}
 use Rattle.model.specs.Lines.{line_at, Follows}
 use Rattle.relaxation.specs.Underway.{Counted, Task, Underway}
@@ -178,78 +181,96 @@ module _ {q : Task} {n c limit place other : ℕ} {going : Going} {u : List ℕ}
         counted = λ j banned f. k.counted j (λ y. let e = walk_end bans other j x z y in let t : ◌≡◌ {A = ℕ} 0 1 = cc in omega arith) f;
       }
 
+-- There is none, or one.
+pub none_or : {T A : Type 0} (o : Option T) → (o ≡ None → A) → ((x : T) → o ≡ Some x → A) → A
+none_or None none some = none refl
+none_or (Some x) none some = some x refl
+
 -- What a walk of each kind needs.
 pub sets_node : {m : Map} {n place end : ℕ} {going : Going} {w : List ℕ} → place < end → (0 < going.note → Told m n w going) → GoesOn m n place w going →
-    Sets m n place end going 0 w
-sets_node inside told o = record { inside = inside; on = λ e. o; goes = λ p. absurd (omega arith); told = told; ends = λ p. absurd (omega arith) }
+    Sets m n place end going None w
+sets_node inside told o =
+    record { inside = inside; on = λ e. o; goes = λ x e. absurd (none-some x e); told = told; ends = λ x e. absurd (none-some x e) }
 
-pub sets_bans : {m : Map} {n place end other : ℕ} {going : Going} {w : List ℕ} → 0 < other → Goes m n place end w going →
-    (line_at m (other - 1)).end ≡ (line_at m going.line).end → Sets m n place end going other w
-sets_bans pos o ends = record { inside = o.inside; on = λ e. absurd (omega arith); goes = λ p. o; told = λ p. o.told; ends = λ p. ends }
+pub sets_bans : {m : Map} {n place end other : ℕ} {going : Going} {w : List ℕ} → Goes m n place end w going →
+    (line_at m other).end ≡ (line_at m going.line).end → Sets m n place end going (Some other) w
+sets_bans {m} {other = other} {going = going} o ends =
+    record {
+      inside = o.inside;
+      on = λ e. absurd (none-some other (sym e));
+      goes = λ x e. o;
+      told = λ p. o.told;
+      ends = λ x e. subst (λ (k : ℕ). (line_at m k).end ≡ (line_at m going.line).end) (same_Some other x e) ends;
+    }
 
 -- The line that goes on is one.
-pub sets_line : {q : Task} {n c limit place count end other : ℕ} {w : List ℕ} {going : Going} → Underway q n c limit place count end w →
+pub sets_line : {q : Task} {n c limit place count end : ℕ} {other : Option ℕ} {w : List ℕ} {going : Going} → Underway q n c limit place count end w →
     Sets q.map n place end going other w → going.line < n
 sets_line {other = other} g s =
-    ⊎_elim
-    (λ z. (waiting g (_, omega arith, s.inside, (s.on (omega arith)).at)).0)
-    (λ p. (waiting g (_, omega arith, s.inside, (s.goes p).at)).0)
-    (le_or_lt other 0)
+    none_or other
+    (λ e. (waiting g (_, omega arith, s.inside, (s.on e).at)).0)
+    (λ o e. (waiting g (_, omega arith, s.inside, (s.goes o e).at)).0)
 
 -- A walk of either kind.
-pub record Walking (q : Task) (n c limit place : ℕ) (going : Going) (other : ℕ) (u w : List ℕ) (at count end : ℕ) : Type 0 where
-  pub node : other ≡ 0 → Along q n c limit place going u w at count end
-  pub bans : 0 < other → AlongBans q n c limit place going (other - 1) u w at count end
+pub record Walking (q : Task) (n c limit place : ℕ) (going : Going) (other : Option ℕ) (u w : List ℕ) (at count end : ℕ) : Type 0 where
+  pub node : other ≡ None → Along q n c limit place going u w at count end
+  pub bans : ForSome other (λ o. AlongBans q n c limit place going o u w at count end)
 
-module _ {q : Task} {n c limit place other : ℕ} {going : Going} {u : List ℕ} where
+module _ {q : Task} {n c limit place : ℕ} {other : Option ℕ} {going : Going} {u : List ℕ} where
   pub walking_start : {at count end : ℕ} → Underway q n c limit place count end u → Sets q.map n place end going other u →
       Starts q.map n going.line going.note other at → Walking q n c limit place going other u u at count end
   walking_start g s a =
       record {
         node = λ e. along_start g s.inside s.told (s.on e) (a.goes e) (a.still e);
-        bans = λ p. bans_start g (s.goes p) (a.bans p);
+        bans = λ o e. bans_start g (s.goes o e) (a.bans o e);
       }
 
   module _ {w : List ℕ} {at count end : ℕ} (k : Walking q n c limit place going other u w at count end) where
     -- Whichever it is.
-    either : {A : Type 0} → (other ≡ 0 → Along q n c limit place going u w at count end → A) →
-        (0 < other → AlongBans q n c limit place going (other - 1) u w at count end → A) → A
-    either {A} node bans = ⊎_elim (λ z. let e : other ≡ 0 = omega arith in node e (k.node e)) (λ p. bans p (k.bans p)) (le_or_lt other 0)
+    either : {A : Type 0} → (other ≡ None → Along q n c limit place going u w at count end → A) →
+        ((o : ℕ) → other ≡ Some o → AlongBans q n c limit place going o u w at count end → A) → A
+    either {A} node bans = none_or other (λ e. node e (k.node e)) (λ o e. bans o e (k.bans o e))
 
     pub walking_went : Went q n c limit place going u w count end
-    walking_went = either (λ e a. a.went) (λ p a. a.went)
+    walking_went = either (λ e a. a.went) (λ o e a. a.went)
 
-    pub walking_within : other ≡ 0 → at ≤ n
+    pub walking_within : other ≡ None → at ≤ n
     walking_within e = (k.node e).list.within
 
     pub walking_end : at ≤ 0 → Walked q n c limit place going other u w count end
-    walking_end z = record { node = λ e. along_end z (k.node e); bans = λ p. bans_end z (k.bans p) }
+    walking_end z = record { node = λ e. along_end z (k.node e); bans = λ o e. bans_end z (k.bans o e) }
 
     module _ (pos : 0 < at) where
-      pub walking_few : 0 < other → at ≤ greatest_ban_count
-      walking_few p = let a = k.bans p in ban_in a.went.underway.held a.walk pos
+      pub walking_few : ForSome other (λ o. at ≤ greatest_ban_count)
+      walking_few o e = let a = k.bans o e in ban_in a.went.underway.held a.walk pos
 
       pub walking_goes : Goes q.map n place end w going
-      walking_goes = either (λ e a. along_goes a pos) (λ p a. a.goes)
+      walking_goes = either (λ e a. along_goes a pos) (λ o e a. a.goes)
 
       module _ {j : ℕ} (here : WalkLine w other at j) where
         pub walking_line : j < n
-        walking_line = either (λ e a. let i = a.list.within in omega (arith, here.node e)) (λ p a. rw (here.bans p) (second_in a.went.underway.held a.walk pos))
+        walking_line =
+            either
+            (λ e a. let i = a.list.within in omega (arith, here.node e))
+            (λ o e a. rw (here.bans o e) (second_in a.went.underway.held a.walk pos))
 
-        pub walking_meets : (0 < other → (line_at q.map (other - 1)).end ≡ (line_at q.map going.line).end) →
+        pub walking_meets : ForSome other (λ o. (line_at q.map o).end ≡ (line_at q.map going.line).end) →
             (line_at q.map j).start ≡ (line_at q.map going.line).end
-        walking_meets ends = either (λ e a. rw (here.node e) (a.list.joined pos)) (λ p a. rw (here.bans p) (second_starts a.went.underway.held a.walk pos) ∙ ends p)
+        walking_meets ends =
+            either
+            (λ e a. rw (here.node e) (a.list.joined pos))
+            (λ o e a. rw (here.bans o e) (second_starts a.went.underway.held a.walk pos) ∙ ends o e)
 
         module _ {v : List ℕ} {next count' end' : ℕ} (p : Relaxed q n c limit place going j w v count' end') (then : WalkNext q.map v other at next) where
           pub walking_less : next < at
           walking_less =
               either
               (λ e a. list_less a.list pos (then.node e))
-              (λ b a. omega (arith, then.bans b, earlier_kept a pos p))
+              (λ o e a. omega (arith, then.bans o e, earlier_kept a pos p))
 
           pub walking_step : Walking q n c limit place going other u v next count' end'
           walking_step =
               record {
                 node = λ e. along_step (k.node e) pos (subst (λ (i : ℕ). Relaxed q n c limit place going i w v count' end') (here.node e) p) (then.node e);
-                bans = λ b. bans_step (k.bans b) pos (here.bans b) (then.bans b) p;
+                bans = λ o e. bans_step (k.bans o e) pos (here.bans o e) (then.bans o e) p;
               }

@@ -2,7 +2,8 @@
 use Rattle.work_area.specs.Area.{search_from, search_to, next_from, last_barred_from, ban_chain, ban_second, ban_earlier}
 use Rattle.model.specs.Map.{Map}
 use Rattle.search_cells.specs.Area.{far, several, key_weight, latest, length_to, next_leaving, listed, marked, Marked, nearest_free, queued, named, line_of, key_of}
-use Rattle.std.specs.Prelude.{ℕ, ◌+◌, ◌-◌, ◌/◌, ◌≤◌, ◌<◌, ◌≡◌, true, List, ◌≢◌, ◌⊎◌, get_or}
+use Rattle.std.specs.Prelude.{ℕ, ◌+◌, ◌-◌, ◌/◌, ◌≤◌, ◌<◌, ◌≡◌, true, List, ◌≢◌, ◌⊎◌, get_or, Option, None}
+use Rattle.std.specs.Option.{ForSome}
 use Rattle.model.specs.Lines.{line_at, turn_among, Follows}
 use Rattle.buffers.specs.Kept.{Kept}
 use Rattle.relaxation.specs.declared.Going.{Going}
@@ -58,19 +59,18 @@ pub record WentAlongBans (q : Task) (lines class limit place : ℕ) (g : Going) 
   pub counted : (j : ℕ) → turn_among q.map.bans other j ≡ true → Follows q.map g.line j →
       Counted q.map class limit g.note g.line j v
 
--- Line `x - 1` has banned turns, ends where line `l` does, and stands before `key` in the queue.
-pub record GoneBefore (m : Map) (lines l key : ℕ) (w : List ℕ) (x : ℕ) : Type 0 where
-  pub some : 0 < x
-  pub inside : x ≤ lines
-  pub ends : (line_at m (x - 1)).end ≡ (line_at m l).end
-  pub barred : Free m (x - 1) → ⊥
-  pub earlier : key_of (length_to w (x - 1)) (x - 1) < key
+-- Line `o` has banned turns, ends where line `l` does, and stands before `key` in the queue.
+pub record GoneBefore (m : Map) (lines l key : ℕ) (w : List ℕ) (o : ℕ) : Type 0 where
+  pub inside : o < lines
+  pub ends : (line_at m o).end ≡ (line_at m l).end
+  pub barred : Free m o → ⊥
+  pub earlier : key_of (length_to w o) o < key
 
--- Two such lines, or none.
+-- Two such lines.
 pub record PairBefore (m : Map) (lines l key : ℕ) (w : List ℕ) (p : Pair) : Type 0 where
-  pub one : 0 < p.one → GoneBefore m lines l key w p.one
-  pub other : 0 < p.one → GoneBefore m lines l key w p.other
-  pub differ : 0 < p.one → p.one ≢ p.other
+  pub one : GoneBefore m lines l key w p.one
+  pub other : GoneBefore m lines l key w p.other
+  pub differ : p.one ≢ p.other
 
 -- Only marks and the cells of the last lines with banned turns are changed, and what is marked is so.
 pub record Aside (m : Map) (lines : ℕ) (w v : List ℕ) : Type 0 where
@@ -83,41 +83,41 @@ pub record Marks (m : Map) (lines l : ℕ) (w v : List ℕ) : Type 0 where
   pub aside : Aside m lines w v
   pub told : (j : ℕ) → j < lines → turn_among m.bans l j ≡ true → marked v j ≡ l
 
--- What a line does before its walks: such a pair for it, and the lines that it may not turn into are marked.
-pub record WalksBegun (m : Map) (lines place : ℕ) (g : Going) (w v : List ℕ) (p : Pair) : Type 0 where
-  pub pair : PairBefore m lines g.line (queued w place) w p
-  pub barred : 0 < p.one → Free m g.line → ⊥
-  pub some : 0 < p.one → 0 < g.note
+-- What a line does before its walks: such a pair for it, or none, and the lines that it may not turn into are marked.
+pub record WalksBegun (m : Map) (lines place : ℕ) (g : Going) (w v : List ℕ) (pair : Option Pair) : Type 0 where
+  pub before : ForSome pair (λ p. PairBefore m lines g.line (queued w place) w p)
+  pub barred : ForSome pair (λ p. Free m g.line → ⊥)
+  pub some : ForSome pair (λ p. 0 < g.note)
   pub told : 0 < g.note → Told m lines v g
   pub aside : Aside m lines w v
 
--- A walk along the lines that leave a node, or, where `other` is not 0, along the turns that are banned from line `other - 1`: where it starts, what
--- line is at `at`, and where it goes on.
-pub record Starts (m : Map) (lines l note other r : ℕ) : Type 0 where
-  pub bans : 0 < other → r ≡ ban_chain m.bans (other - 1)
-  pub goes : other ≡ 0 → 0 < note → r ≡ latest m (line_at m l).end lines
-  pub still : other ≡ 0 → note ≡ 0 → r ≡ 0
+-- A walk along the turns that are banned from another line, or, where there is none, along the lines that leave a node: where it starts, what line is at
+-- `at`, and where it goes on.
+pub record Starts (m : Map) (lines l note : ℕ) (other : Option ℕ) (r : ℕ) : Type 0 where
+  pub bans : ForSome other (λ o. r ≡ ban_chain m.bans o)
+  pub goes : other ≡ None → 0 < note → r ≡ latest m (line_at m l).end lines
+  pub still : other ≡ None → note ≡ 0 → r ≡ 0
 
-pub record WalkLine (w : List ℕ) (other at r : ℕ) : Type 0 where
-  pub bans : 0 < other → r ≡ get_or w (ban_second (at - 1)) 0
-  pub node : other ≡ 0 → r ≡ at - 1
+pub record WalkLine (w : List ℕ) (other : Option ℕ) (at r : ℕ) : Type 0 where
+  pub bans : ForSome other (λ o. r ≡ get_or w (ban_second (at - 1)) 0)
+  pub node : other ≡ None → r ≡ at - 1
 
-pub record WalkNext (m : Map) (w : List ℕ) (other at r : ℕ) : Type 0 where
-  pub bans : 0 < other → r ≡ get_or w (ban_earlier (at - 1)) 0
-  pub node : other ≡ 0 → r ≡ latest m (line_at m (at - 1)).start (at - 1)
+pub record WalkNext (m : Map) (w : List ℕ) (other : Option ℕ) (at r : ℕ) : Type 0 where
+  pub bans : ForSome other (λ o. r ≡ get_or w (ban_earlier (at - 1)) 0)
+  pub node : other ≡ None → r ≡ latest m (line_at m (at - 1)).start (at - 1)
 
 -- What a walk needs: the line stands at the place and, before one along bans, goes on, and the other line ends where it does.
-pub record Sets (m : Map) (lines place end : ℕ) (g : Going) (other : ℕ) (w : List ℕ) : Type 0 where
+pub record Sets (m : Map) (lines place end : ℕ) (g : Going) (other : Option ℕ) (w : List ℕ) : Type 0 where
   pub inside : place < end
-  pub on : other ≡ 0 → GoesOn m lines place w g
-  pub goes : 0 < other → Goes m lines place end w g
+  pub on : other ≡ None → GoesOn m lines place w g
+  pub goes : ForSome other (λ o. Goes m lines place end w g)
   pub told : 0 < g.note → Told m lines w g
-  pub ends : 0 < other → (line_at m (other - 1)).end ≡ (line_at m g.line).end
+  pub ends : ForSome other (λ o. (line_at m o).end ≡ (line_at m g.line).end)
 
 -- What it does.
-pub record Walked (q : Task) (lines class limit place : ℕ) (g : Going) (other : ℕ) (w v : List ℕ) (count end : ℕ) : Type 0 where
-  pub node : other ≡ 0 → WentAlong q lines class limit place g w v count end
-  pub bans : 0 < other → WentAlongBans q lines class limit place g (other - 1) w v count end
+pub record Walked (q : Task) (lines class limit place : ℕ) (g : Going) (other : Option ℕ) (w v : List ℕ) (count end : ℕ) : Type 0 where
+  pub node : other ≡ None → WentAlong q lines class limit place g w v count end
+  pub bans : ForSome other (λ o. WentAlongBans q lines class limit place g o w v count end)
 
 -- The search has gone on from the line at place `place`.
 pub record Expanded (q : Task) (lines class limit place : ℕ) (w v : List ℕ) (count end : ℕ) : Type 0 where

@@ -2,12 +2,12 @@
 // lines that end at a node have nothing to do there, and of the others only the first two, and the free one, go along all lines that leave it.
 #![tactic(auto)]
 
-ghost use Rattle.std.specs.Prelude.{◌≡◌, length, ℕ, ◌≤◌, ◌<◌};
+ghost use Rattle.std.specs.Prelude.{◌≡◌, length, ℕ, ◌+◌, ◌≤◌, ◌<◌, None, Some, MatchOption};
+ghost use Rattle.std.specs.Option.{ForSome};
 ghost use Rattle.work_area.specs.Area.{last_barred_from, search_to, ban_chain};
 ghost use Rattle.model.specs.Map.{greatest_ban_count, Map};
 ghost use Rattle.model.specs.Work.{work_length};
 ghost use Rattle.search_cells.specs.Area.{Mirrored, Chained};
-ghost use Rattle.buffers.specs.Decides.{Decides};
 ghost use Rattle.buffers.specs.Kept.{Kept};
 ghost use Rattle.relaxation.specs.Underway.{Task, Underway};
 ghost use Rattle.expansion.specs.Steps.{NoteFor, GoesOn, GoneBefore, PairBefore, Marks, WalksBegun, Starts, WalkLine, WalkNext, Sets, Walked, Expanded};
@@ -22,7 +22,7 @@ use search_cells::cells::{
 use search_cells::list::ReachedLines;
 use work_area::{BAN_EARLIER, BAN_SECONDS, HEADS, LAST_BARRED, NEXT, QUEUE, field};
 
-// Two lines, 1 + each; or none, where the first is 0.
+// Two lines with banned turns that end at one node.
 #[derive(Clone, Copy)]
 pub struct Pair {
     pub one: usize,
@@ -73,16 +73,16 @@ fn going_at(work: &[u32], lines: usize, place: usize) -> Going
     }
 }
 
-// Where a line begins to go on: along the lines that leave its end, 1 + the first or 0, where it has something to do; or, where `other` is not 0, along
-// the turns that are banned from line `other - 1`.
-fn walk_start(work: &[u32], lines: usize, going: Going, other: usize) -> usize
-    requires line_lt_lines { (going.line < lines) × (other ≤ lines) }
+// Where a line begins to go on: along the turns that are banned from the other line, where there is one; or along the lines that leave its end, 1 + the
+// first or 0, where it has something to do.
+fn walk_start(work: &[u32], lines: usize, going: Going, other: Option<usize>) -> usize
+    requires line_lt_lines { (going.line < lines) × ForSome other (λ o. o < lines) }
     requires mirrored { (m : Map) × Mirrored work.now lines m × Chained work.now lines m }
     ensures { (m : Map) → Mirrored work.now lines m → Chained work.now lines m
         → Starts m lines going.line going.note other result }
 {
-    if 0 < other {
-        return bans_from(work, lines, other - 1);
+    if let Some(o) = other {
+        return bans_from(work, lines, o);
     }
     if going.note == 0 {
         return 0;
@@ -91,27 +91,29 @@ fn walk_start(work: &[u32], lines: usize, going: Going, other: usize) -> usize
 }
 
 // The line at `at` of such a walk.
-fn walk_line(work: &[u32], other: usize, at: usize) -> usize
-    requires { (0 < at) × (0 < other → at ≤ greatest_ban_count) × (work_length ≤ length work.now) }
+fn walk_line(work: &[u32], other: Option<usize>, at: usize) -> usize
+    requires { (0 < at) × ForSome other (λ o. at ≤ greatest_ban_count) × (work_length ≤ length work.now) }
     ensures { WalkLine work.now other at result }
 {
-    if 0 < other {
-        return wide(work[BAN_SECONDS + (at - 1)]);
+    if other.is_some() {
+        wide(work[BAN_SECONDS + (at - 1)])
+    } else {
+        at - 1
     }
-    at - 1
 }
 
 // Where the walk goes on behind `at`.
-fn walk_next(work: &[u32], lines: usize, other: usize, at: usize) -> usize
-    requires at_nonzero { (0 < at) × (0 < other → at ≤ greatest_ban_count) × (other ≡ 0 → at ≤ lines) }
+fn walk_next(work: &[u32], lines: usize, other: Option<usize>, at: usize) -> usize
+    requires at_nonzero { (0 < at) × ForSome other (λ o. at ≤ greatest_ban_count) × (other ≡ None → at ≤ lines) }
     requires mirrored { (m : Map) × Mirrored work.now lines m × Chained work.now lines m }
     ensures { (m : Map) → Mirrored work.now lines m → Chained work.now lines m
         → WalkNext m work.now other at result }
 {
-    if 0 < other {
-        return wide(work[BAN_EARLIER + (at - 1)]);
+    if other.is_some() {
+        wide(work[BAN_EARLIER + (at - 1)])
+    } else {
+        next_leaving(work, lines, at)
     }
-    next_leaving(work, lines, at)
 }
 
 // Goes on from a line to each line of a walk that can follow it: the list and the queue now. There is one loop for both walks, with one call of `relax`.
@@ -119,12 +121,12 @@ fn walk(
     work: &mut [u32],
     lines: usize,
     going: Going,
-    other: usize,
+    other: Option<usize>,
     list: ReachedLines,
     class: u32,
     limit: u32,
 ) -> ReachedLines
-    requires other_le_lines { other ≤ lines }
+    requires other_lt_lines { ForSome other (λ o. o < lines) }
     requires by_index { (q : Task) × (place : ℕ) × Underway q lines class limit place list.count list.end work.old
         × Sets q.map lines place list.end going other work.old }
     ensures { (q : Task) (place : ℕ) → Underway q lines class limit place list.count list.end work.old
@@ -141,49 +143,42 @@ fn walk(
     reached
 }
 
-// Whether line `x - 1` has banned turns, ends where line `l` does, and stands before the key `key` in the queue: then the search has gone on from it.
-fn has_gone(work: &[u32], lines: usize, l: usize, key: u32, x: usize) -> bool
+// Line `x - 1`, if there is one, has banned turns, ends where line `l` does, and stands before the key `key` in the queue: then the search has gone on from
+// it.
+fn gone_before(work: &[u32], lines: usize, l: usize, key: u32, x: usize) -> Option<usize>
     requires { (l < lines) × ((m : Map) × Mirrored work.now lines m) }
-    ensures { (m : Map) → Mirrored work.now lines m → Decides (GoneBefore m lines l key work.now x) result }
+    ensures { (m : Map) → Mirrored work.now lines m
+        → MatchOption result ((o : ℕ) → x ≡ o + 1 → GoneBefore m lines l key work.now o → ⊥) (λ o. (x ≡ o + 1) × GoneBefore m lines l key work.now o) }
 {
-    if x == 0 {
-        return false;
+    let other = x.checked_sub(1)?;
+    if lines <= other {
+        return None;
     }
-    if lines < x {
-        return false;
-    }
-    let other = x - 1;
     if field(work, other, MIRROR_END) != field(work, l, MIRROR_END) {
-        return false;
+        return None;
     }
     if bans_from(work, lines, other) == 0 {
-        return false;
+        return None;
     }
     let own = key_of(length_to(work, other), other);
     if key <= own {
-        return false;
+        return None;
     }
-    true
+    Some(other)
 }
 
 // Two lines that have gone on before line `l`, whose key is `key`, from the same node, if the node's cell has them. What else stands there is no harm.
-fn pair_before(work: &[u32], lines: usize, l: usize, key: u32) -> Pair
+fn pair_before(work: &[u32], lines: usize, l: usize, key: u32) -> Option<Pair>
     requires { (l < lines) × ((m : Map) × Mirrored work.now lines m) }
-    ensures { (m : Map) → Mirrored work.now lines m → PairBefore m lines l key work.now result }
+    ensures { (m : Map) → Mirrored work.now lines m → ForSome result (λ p. PairBefore m lines l key work.now p) }
 {
     let cell = work[LAST_BARRED + wide(field(work, l, MIRROR_END))];
-    let one = wide(cell % LIST_WEIGHT);
-    let other = wide(cell / LIST_WEIGHT);
+    let one = gone_before(work, lines, l, key, wide(cell % LIST_WEIGHT))?;
+    let other = gone_before(work, lines, l, key, wide(cell / LIST_WEIGHT))?;
     if one == other {
-        return Pair { one: 0, other: 0 };
+        return None;
     }
-    if !has_gone(work, lines, l, key, one) {
-        return Pair { one: 0, other: 0 };
-    }
-    if !has_gone(work, lines, l, key, other) {
-        return Pair { one: 0, other: 0 };
-    }
-    Pair { one, other }
+    Some(Pair { one, other })
 }
 
 // Keeps line `l` in the cell of the node where it ends, and the last one that was kept there.
@@ -211,36 +206,38 @@ fn mark_bans(work: &mut [u32], lines: usize, l: usize, chain: usize)
 
 // What a line does before its walks. One with banned turns that has something to do marks the lines that it may not turn into, and gives two such lines
 // that have gone on before it from the same node: only the turns that are banned from one of them are left for it. Any other gives none.
-fn begin_walks(work: &mut [u32], lines: usize, place: usize, going: Going) -> Pair
+fn begin_walks(work: &mut [u32], lines: usize, place: usize, going: Going) -> Option<Pair>
     requires { (q : Task) × (class limit count end : ℕ) × Underway q lines class limit place count end work.old × (place < end)
         × GoesOn q.map lines place work.old going }
     ensures { (q : Task) (class limit count end : ℕ) → Underway q lines class limit place count end work.old → place < end
         → GoesOn q.map lines place work.old going → WalksBegun q.map lines place going work.old work.new result }
 {
     if going.chain == 0 {
-        return Pair { one: 0, other: 0 };
+        return None;
     }
     if going.note == 0 {
-        return Pair { one: 0, other: 0 };
+        return None;
     }
-    let pair = pair_before(work, lines, going.line, work[QUEUE + place]);
+    let key = work[QUEUE + place];
+    let pair = pair_before(work, lines, going.line, key);
     keep_last(work, lines, going.line);
     mark_bans(work, lines, going.line, going.chain);
     pair
 }
 
 // How many walks a line goes: one along its node, or one for each line of a pair.
-fn walks(pair: Pair) -> usize
-    ensures { (pair.one ≡ 0 → result ≡ 1) × (0 < pair.one → result ≡ 2) }
+fn walks(pair: Option<Pair>) -> usize
+    ensures { MatchOption pair (result ≡ 1) (λ p. result ≡ 2) }
 {
-    if pair.one == 0 { 1 } else { 2 }
+    if pair.is_some() { 2 } else { 1 }
 }
 
-// What walk `i` is along.
-fn walk_of(pair: Pair, i: usize) -> usize
-    ensures { (i ≡ 0 → result ≡ pair.one) × (0 < i → result ≡ pair.other) }
+// Along whose banned turns walk `i` is, if along any.
+fn walk_of(pair: Option<Pair>, i: usize) -> Option<usize>
+    ensures { MatchOption pair (result ≡ None) (λ p. (i ≡ 0 → result ≡ Some p.one) × (0 < i → result ≡ Some p.other)) }
 {
-    if i == 0 { pair.one } else { pair.other }
+    let Pair { one, other } = pair?;
+    Some(if i == 0 { one } else { other })
 }
 
 // Goes on from the line at place `place` of the queue: the list and the queue now. There is one call of `walk`, so that its machine code stands here.
@@ -259,12 +256,9 @@ pub fn expand(
 {
     let going = going_at(work, lines, place);
     let pair = begin_walks(work, lines, place, going);
-    let count = walks(pair);
     let mut reached = list;
-    let mut i: usize = 0;
-    while i < count {
+    for i in 0..walks(pair) {
         reached = walk(work, lines, going, walk_of(pair, i), reached, class, limit);
-        i += 1;
     }
     reached
 }

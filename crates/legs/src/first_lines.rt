@@ -85,8 +85,7 @@ pub fn from_lines(work: &[u32], lines: usize, leg: Leg, limit: u32) -> Verdict
         → Says m (ReadingTo m (leg_in leg) to) (StandsIn work.now) result }
 {
     let mut found = Verdict::Unread;
-    let mut i: usize = 0;
-    while i < lines {
+    for i in 0..lines {
         let at = line_at(work, i);
         if at == 0 {
             return found;
@@ -95,7 +94,6 @@ pub fn from_lines(work: &[u32], lines: usize, leg: Leg, limit: u32) -> Verdict
         if let Verdict::Several = found {
             return found;
         }
-        i += 1;
     }
     found
 }

@@ -15,13 +15,11 @@ pub fn link(work: &mut [u32], lines: usize)
     ensures { (m : Map) → Mirrored work.old lines m → Linked work.old lines m work.new }
 {
     fill(work, HEADS, NODES, 0);
-    let mut i = 0;
-    while i < lines {
+    for i in 0..lines {
         let v = wide(field(work, i, MIRROR_START));
         work[NEXT + i] = work[HEADS + v] + MARK_WEIGHT * i as u32;
         work[HEADS + v] = (i + 1) as u32;
         work[LENGTHS + i] = FAR * NOTE_WEIGHT;
-        i += 1;
     }
 }
 

@@ -32,17 +32,15 @@ pub fn reset(work: &mut [u32], lines: usize)
     ensures { (m : Map) → Mirrored work.old lines m → Chained work.old lines m
         → Reset m lines work.old work.new }
 {
-    let mut i = 0;
-    while i < lines {
+    for i in 0..lines {
         let x = line_at(work, i);
         if x == 0 {
             return;
         }
         let v = wide(field(work, x - 1, MIRROR_END));
-        work[HEADS + v] = work[HEADS + v] % LIST_WEIGHT;
+        work[HEADS + v] %= LIST_WEIGHT;
         work[LENGTHS + (x - 1)] = FAR * NOTE_WEIGHT;
         work[NEXT + i] = unlisted(work[NEXT + i]);
-        i += 1;
     }
 }
 

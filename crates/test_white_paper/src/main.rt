@@ -70,8 +70,7 @@ fn show_coordinates(rt: &impl Print, bytes: &[u8], points: usize)
 {
     print(rt, b"Table 72: 1 code ", at3(bytes, 1) as u64);
     print(rt, b" code ", at3(bytes, 4) as u64);
-    let mut k: usize = 0;
-    while k < points {
+    for k in 0..points {
         let by_lon = at2(bytes, 10 + 7 * k);
         let by_lat = at2(bytes, 12 + 7 * k);
         print(rt, b"\nTable 72: ", (k + 2) as u64);
@@ -80,17 +79,16 @@ fn show_coordinates(rt: &impl Print, bytes: &[u8], points: usize)
         if reached(k, by_lon, by_lat) {
             write(rt, b" reached");
         }
-        k += 1;
     }
 }
 
 fn print_form_of_way(rt: &impl Print, fow: u32) {
-    if fow == 2 {
-        write(rt, b" MULTIPLE_CARRIAGEWAY");
-    } else if fow == 3 {
-        write(rt, b" SINGLE_CARRIAGEWAY");
-    } else {
-        print(rt, b" FOW ", fow as u64);
+    match fow {
+        2 => write(rt, b" MULTIPLE_CARRIAGEWAY"),
+        3 => write(rt, b" SINGLE_CARRIAGEWAY"),
+        _ => {
+            print(rt, b" FOW ", fow as u64);
+        }
     }
 }
 
@@ -115,15 +113,13 @@ fn show_points(rt: &impl Print, bytes: &[u8], points: usize)
     requires { SoundBytes bytes.now points }
 {
     let places = [0; 65];
-    let mut k: usize = 0;
-    while k < points {
+    for k in 0..points {
         let leg = leg_at(bytes, points, &places, k);
-        k += 1;
-        show_point(rt, k, leg.leaves);
+        show_point(rt, k + 1, leg.leaves);
         print(rt, b" FRC", leg.lowest as u64);
         print_distance(rt, leg.distance);
         if let Some(a) = leg.arrival {
-            show_point(rt, k + 1, a);
+            show_point(rt, k + 2, a);
         }
     }
 }

@@ -1,5 +1,5 @@
 -- The count of the banned turns, and the walk along the chain of a line that stores the line with each of its turns.
-use Prim.Native.Nat.{ℕ, suc, ◌+◌, ◌-◌, ◌≤◌, ◌<◌}
+use Prim.Native.Nat.{ℕ, suc, ◌-◌, ◌≤◌, ◌<◌}
 use mathlib.Core.Path.{◌≡◌, refl, sym, ◌∙◌}
 use mathlib.Core.List.{List}
 use mathlib.Core.Logic.{◌≢◌, ⊎_elim}
@@ -12,39 +12,25 @@ use Rattle.work_area.specs.Area.{ban_head, ban_earlier, ban_at, latest_ban, ban_
 use Rattle.banned_turns.proofs.Chains.{latest_small, latest_from, latest_all}
 use Rattle.turning.specs.Bans.{Known, ChainStands, ChainNamed}
 
--- The greatest of the heads below that of line `l`: it is not past the last turn.
-pub record Greatest (w : List ℕ) (lines l greatest : ℕ) : Type 0 where
-  pub all : (k : ℕ) → k < l → get_or w (ban_head k) 0 ≤ greatest
-  pub small : (bans : List Turn) → BansHeld w lines bans → greatest ≤ length bans
-
-pub greatest_none : {w : List ℕ} {lines : ℕ} → Greatest w lines 0 0
-greatest_none = record { all = λ k k<. absurd (omega arith); small = λ bans held. omega arith }
-
-module _ {w : List ℕ} {lines l greatest : ℕ} (at : Greatest w lines l greatest) where
-  pub greatest_greater : l < lines → greatest < get_or w (ban_head l) 0 → Greatest w lines (l + 1) (get_or w (ban_head l) 0)
-  greatest_greater l< more =
-      record {
-        all = here_or (λ k. k < l + 1 → get_or w (ban_head k) 0 ≤ get_or w (ban_head l) 0) l (λ k<. omega arith)
-            (λ k d k<. omega (arith, at.all k (omega (arith, d)), more));
-        small = λ bans held. omega (arith, held.heads l l<, latest_small bans l (length bans));
-      }
-
-  pub greatest_same : get_or w (ban_head l) 0 ≤ greatest → Greatest w lines (l + 1) greatest
-  greatest_same less =
-      record { all = here_or (λ k. k < l + 1 → get_or w (ban_head k) 0 ≤ greatest) l (λ k<. less) (λ k d k<. at.all k (omega (arith, d))); small = at.small }
-
--- The chain of the last turn's first line starts with it: so the greatest of all heads is the count.
-pub greatest_all : {w : List ℕ} {lines greatest : ℕ} {bans : List Turn} → Greatest w lines lines greatest → BansHeld w lines bans → Known lines bans →
-    greatest ≡ length bans
-greatest_all {lines = lines} {greatest = greatest} {bans = bans} at held known =
-    omega (arith, at.small bans held, ⊎_elim {C = length bans ≤ greatest} (λ none. omega arith) some (le_or_lt (length bans) 0))
+-- The chain of the last turn's first line starts with it, and no head is past it: so the greatest of all heads is the count.
+pub greatest_head : {w : List ℕ} {lines greatest : ℕ} {bans : List Turn} → ((l : ℕ) → l < lines → get_or w (ban_head l) 0 ≤ greatest) →
+    (0 < greatest → (l : ℕ) × (l < lines) × (get_or w (ban_head l) 0 ≡ greatest)) → BansHeld w lines bans → Known lines bans → greatest ≡ length bans
+greatest_head {greatest = greatest} {bans = bans} all one held known =
+    omega (
+      arith,
+      ⊎_elim {C = greatest ≤ length bans} (λ none. omega arith) small (le_or_lt greatest 0),
+      ⊎_elim {C = length bans ≤ greatest} (λ none. omega arith) great (le_or_lt (length bans) 0),
+    )
   where
-    some : 0 < length bans → length bans ≤ greatest
-    some h =
+    small : 0 < greatest → greatest ≤ length bans
+    small h = let o = one h in omega (arith, held.heads o.0 o.1, latest_small bans o.0 (length bans))
+
+    great : 0 < length bans → length bans ≤ greatest
+    great h =
         let last = length bans - 1 in
         let first = (ban_at bans last).first in
         let l< = (known last (omega arith)).0 in
-        omega (arith, at.all first l<, held.heads first l<, latest_all bans first (length bans) last (omega arith) refl)
+        omega (arith, all first l<, held.heads first l<, latest_all bans first (length bans) last (omega arith) refl)
 
 -- The walk along the chain of line `l` has come to `x`: the turns of the chain that are not before it are done.
 pub record Walking (bans : List Turn) (l x : ℕ) (w v : List ℕ) : Type 0 where

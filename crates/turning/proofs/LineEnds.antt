@@ -2,50 +2,34 @@
 use Prim.Native.Nat.{ℕ, ◌+◌, ◌≤◌, ◌<◌}
 use mathlib.Core.Path.{◌≡◌, sym, ap, ◌∙◌}
 use mathlib.Core.List.{List}
+use mathlib.Core.Logic.{◌≢◌}
+use Rattle.std.specs.List.{SwappedAt}
 use native.Mathlib.Nat.{add-zero}
-use native.Mathlib.Decide.{ℕ_discrete}
 use native.Mathlib.Omega.{arith}
-use lib.ListN.{length, get_or, set, length-set}
-use lib.Seq.{get_or-set_same, get_or-set_other}
+use lib.ListN.{length, get_or}
 use lib.Dec.{lit<}
 use Rattle.model.specs.Map.{Line, Map}
 use Rattle.model.specs.Lines.{line_at}
 use Rattle.buffers.specs.Kept.{Kept}
-use Rattle.buffers.proofs.Kept.{kept_none, kept_over}
+use Rattle.buffers.proofs.Kept.{kept_over}
 use Rattle.buffers.proofs.Cases.{here_or}
 use Rattle.work_area.specs.Area.{line_size, line_place, start_node, end_node, sector_out, sector_back, line_numbers, Holds}
 use Rattle.work_area.specs.Held.{line_from, held_line}
 use Rattle.work_area.specs.Mirror.{mirror_line, mirror}
 use Rattle.work_area.proofs.Held.{line_path, line_number, line_same}
 use Rattle.work_area.proofs.Mirrored.{line_mirrored}
-use Rattle.turning.specs.Turned.{Swapped, EndsSwapped}
+use Rattle.turning.specs.Turned.{EndsSwapped}
 
--- Two stores swap two numbers.
-module _ (w : List ℕ) (a b : ℕ) (a< : a < length w) (b< : b < length w) where
-  abbrev w₁ : List ℕ
-  w₁ = set w a (get_or w b 0)
+-- Two numbers have changed places, and nothing else is changed.
+pub record Swapped (a b : ℕ) (w v : List ℕ) : Type 0 where
+  pub one : get_or v a 0 ≡ get_or w b 0
+  pub other : get_or v b 0 ≡ get_or w a 0
+  pub others : (k : ℕ) → k ≢ a → k ≢ b → get_or v k 0 ≡ get_or w k 0
+  pub same : length v ≡ length w
 
-  abbrev w₂ : List ℕ
-  w₂ = set w₁ b (get_or w a 0)
-
-  last : get_or w₂ b 0 ≡ get_or w a 0
-  last = get_or-set_same w₁ b (get_or w a 0) 0 (simp length-set (omega arith))
-
-  first : get_or w₂ a 0 ≡ get_or w b 0
-  first = go (ℕ_discrete a b)
-    where
-      go : Dec (a ≡ b) → get_or w₂ a 0 ≡ get_or w b 0
-      go (yes e) = ap (λ (k : ℕ). get_or w₂ k 0) e ∙ last ∙ ap (λ (k : ℕ). get_or w k 0) e
-      go (no d) = get_or-set_other w₁ b a (get_or w a 0) 0 d ∙ get_or-set_same w a (get_or w b 0) 0 a<
-
-  pub swaps : Swapped a b w w₂
-  swaps =
-      record {
-        one = first;
-        other = last;
-        others = λ k d e. get_or-set_other w₁ b k (get_or w a 0) 0 e ∙ get_or-set_other w a k (get_or w b 0) 0 d;
-        same = simp length-set;
-      }
+-- That is what `swap` does.
+pub swapped : {a b : ℕ} {w v : List ℕ} → length v ≡ length w → SwappedAt w v a b → Swapped a b w v
+swapped same at = record { one = at.0 0; other = at.1 0; others = λ k. at.2 k 0; same = same }
 
 -- A line of which both pairs are swapped.
 module _ {w v u : List ℕ} (at : ℕ) (ends : Swapped (at + start_node) (at + end_node) w v) (sectors : Swapped (at + sector_out) (at + sector_back) v u) where
@@ -81,9 +65,6 @@ unfolding held_line line_from
 line_behind {w = w} {v = v} l h kept =
     let f : (k : ℕ) → get_or v (line_place l + k) 0 ≡ get_or w (line_place l + k) 0 = λ k. kept.above (line_place l + k) (omega arith) in
     line_path (kept.above (line_place l) h) (f 1) (f 2) (f 3) (f 4) (f 5) (f 6)
-
-pub swapped_none : {w : List ℕ} → EndsSwapped 0 w w
-swapped_none = record { turned = λ l l<. absurd (omega arith); kept = kept_none }
 
 pub swapped_more : {w v u x : List ℕ} {l : ℕ} → EndsSwapped l w v → Swapped (line_place l + start_node) (line_place l + end_node) v u →
     Swapped (line_place l + sector_out) (line_place l + sector_back) u x → EndsSwapped (l + 1) w x

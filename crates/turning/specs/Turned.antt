@@ -1,18 +1,11 @@
 -- The map in the work area, turned round.
-use Rattle.std.specs.Prelude.{ℕ, ◌<◌, ◌≡◌, List, ◌≢◌, length, get_or}
+use Rattle.std.specs.Prelude.{ℕ, ◌<◌, ◌≡◌, List}
 use Rattle.model.specs.Map.{Map}
 use Rattle.buffers.specs.Kept.{Kept}
 use Rattle.work_area.specs.Area.{lines_from, line_place, bans_to}
 use Rattle.work_area.specs.Held.{held_line}
 use Rattle.work_area.specs.Mirror.{mirror_line, mirror}
 use Rattle.search_cells.specs.Area.{Set}
-
--- Two numbers have changed places, and nothing else is changed.
-pub record Swapped (a b : ℕ) (w v : List ℕ) : Type 0 where
-  pub one : get_or v a 0 ≡ get_or w b 0
-  pub other : get_or v b 0 ≡ get_or w a 0
-  pub others : (k : ℕ) → k ≢ a → k ≢ b → get_or v k 0 ≡ get_or w k 0
-  pub same : length v ≡ length w
 
 -- Each of so many lines stands there the other way round, and nothing else is changed.
 pub record EndsSwapped (lines : ℕ) (w v : List ℕ) : Type 0 where

@@ -1,5 +1,5 @@
 // The banned turns turned round: the turn from line `l` into line `k` becomes the one from line `k` into line `l`, with the same number.
-ghost use Rattle.std.specs.Prelude.{◌≡◌, List, ◌≤◌, ◌<◌, length};
+ghost use Rattle.std.specs.Prelude.{◌≡◌, List, ◌≤◌, ◌<◌, length, slice_index, EachIndex, SomeIndex};
 ghost use Rattle.model.specs.Map.{Turn, greatest_line_count};
 ghost use Rattle.model.specs.Work.{work_length};
 ghost use Rattle.work_area.specs.Area.{ban_chain, BansHeld};
@@ -9,21 +9,20 @@ use banned_turns::put_ban;
 use buffers::wide;
 use work_area::{BAN_EARLIER, BAN_HEADS, BAN_SECONDS};
 
+// The greatest of these numbers, or 0 where there is none.
+fn greatest(numbers: &[u32]) -> u32
+    ensures all { EachIndex numbers.now (λ k. slice_index numbers.now k ≤ result) }
+    ensures one { 0 < result → SomeIndex numbers.now (λ k. slice_index numbers.now k ≡ result) }
+{
+    numbers.iter().copied().max().unwrap_or(0)
+}
+
 // How many turns are banned: the last one is the front of a chain.
 fn ban_count(work: &[u32], lines: usize) -> usize
     requires { (work_length ≤ length work.now) × (lines ≤ greatest_line_count) }
     ensures { (bans : List Turn) → BansHeld work.now lines bans → Known lines bans → result ≡ length bans }
 {
-    let mut greatest: u32 = 0;
-    let mut l: usize = 0;
-    while l < lines {
-        let head = work[BAN_HEADS + l];
-        if greatest < head {
-            greatest = head;
-        }
-        l += 1;
-    }
-    wide(greatest)
+    wide(greatest(&work[BAN_HEADS..BAN_HEADS + lines]))
 }
 
 // Stores line `l` with each turn of its chain, in place of the turn before it.
@@ -47,12 +46,10 @@ fn name_firsts(work: &mut [u32], lines: usize)
     ensures { (bans : List Turn) → BansHeld work.old lines bans → Known lines bans
         → FirstsNamed lines bans work.old work.new }
 {
-    let mut l: usize = 0;
-    while l < lines {
+    for l in 0..lines {
         let chain = wide(work[BAN_HEADS + l]);
         name_chain(work, l, chain);
         work[BAN_HEADS + l] = 0;
-        l += 1;
     }
 }
 
@@ -63,12 +60,10 @@ fn put_turned(work: &mut [u32], lines: usize, count: usize)
     ensures { (bans : List Turn) → Paired work.old lines bans → Known lines bans → count ≡ length bans
         → BansTurned lines bans work.old work.new }
 {
-    let mut i: usize = 0;
-    while i < count {
+    for i in 0..count {
         let first = work[BAN_SECONDS + i];
         let second = work[BAN_EARLIER + i];
         put_ban(work, i, first, second);
-        i += 1;
     }
 }
 

@@ -1,7 +1,7 @@
 -- The way back from a line, by the predecessor of each: where that is always one, the way is the only one of its length.
 use Rattle.model.specs.Map.{Map}
 use Rattle.way_lengths.specs.declared.Terminus.{Terminus}
-use Rattle.search_cells.specs.Area.{far, several, length_to, lines_from, Tie, Predecessors, Searched, predecessor}
+use Rattle.search_cells.specs.Area.{several, length_to, lines_from, Tie, Predecessors, Searched, predecessor}
 use Prim.Native.Nat.{ℕ, zero, suc, ◌+◌, ◌-◌, ◌≤◌, ◌<◌}
 use mathlib.Core.Path.{◌≡◌, refl, sym, ◌∙◌, ap, subst}
 use mathlib.Core.Bool.{cond}

@@ -2,12 +2,12 @@
 use Rattle.work_area.specs.Area.{Held}
 use Rattle.model.specs.Map.{greatest_line_count, Map}
 use Rattle.search_cells.specs.Area.{lines_from, predecessor}
-use Prim.Native.Nat.{ℕ, zero, suc, ◌+◌, ◌-◌, ◌≤◌, ◌<◌}
+use Prim.Native.Nat.{ℕ, zero, suc, ◌+◌, ◌-◌, ◌<◌}
 use mathlib.Core.Path.{◌≡◌, refl, sym, ◌∙◌, ap}
-use mathlib.Core.List.{List, [], ◌∷◌, ◌++◌, append-nil}
+use mathlib.Core.List.{List, [], ◌∷◌, ◌++◌}
 use native.Mathlib.Omega.{arith}
 use lib.ListN.{length, set, take}
-use lib.Seq.{append_snoc, take_all, take-suc-set}
+use lib.Seq.{append_snoc, take-suc-set}
 use Rattle.model.specs.Lines.{Connected, single, linked}
 use Rattle.work_area.proofs.Holding.{few}
 
@@ -39,8 +39,3 @@ write_step w all out at i n i< fits e =
     let one : i + 1 ≡ suc i = omega arith in
     e ∙ ap (λ (l : List ℕ). take i out ++ l) (rw z at (apart w at (n - i) (omega arith))) ∙ sym (append_snoc (take i out) at rest)
     ∙ ap (λ (l : List ℕ). l ++ rest) (sym (ap (λ (k : ℕ). take k (set out i at)) one ∙ take-suc-set out i at (omega arith)))
-
-pub write_end : (w all out : List ℕ) (at i n : ℕ) → n ≤ i → n ≡ length out → all ≡ take i out ++ lines_from w at (n - i) → out ≡ all
-write_end w all out at i n done fits e =
-    let z : n - i ≡ 0 = omega arith in
-    sym (e ∙ ap (λ (k : ℕ). take i out ++ lines_from w at k) z ∙ append-nil (take i out) ∙ take_all i out (omega arith))

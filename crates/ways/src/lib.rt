@@ -53,11 +53,7 @@ fn line_behind(work: &[u32], l: usize) -> usize
     requires { (l < greatest_line_count) × (work_length ≤ length work.now) }
     ensures { result ≡ predecessor work.now l - 1 }
 {
-    let x = wide(predecessor_at(work, l));
-    if x == 0 {
-        return 0;
-    }
-    x - 1
+    wide(predecessor_at(work, l)).saturating_sub(1)
 }
 
 // Writes the lines of a way into `out`. The way begins with line `first` and has as many lines as `out` holds numbers.
@@ -66,10 +62,8 @@ pub fn write_lines(work: &[u32], first: usize, out: &mut [u32])
     ensures { out.new ≡ lines_from work.now first (length out.old) }
 {
     let mut at = first;
-    let mut i: usize = 0;
-    while i < out.len() {
-        out[i] = at as u32;
+    for number in out.iter_mut() {
+        *number = at as u32;
         at = line_behind(work, at);
-        i += 1;
     }
 }

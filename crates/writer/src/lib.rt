@@ -1,7 +1,7 @@
 // The writer of references (paper 01): `write`, and its parts in the order in which they are asked.
 #![tactic(auto)]
 
-ghost use Rattle.std.specs.Prelude.{◌≤◌, ◌<◌, length};
+ghost use Rattle.std.specs.Prelude.{◌≡◌, ◌≤◌, ◌<◌, length};
 ghost use Rattle.model.specs.Map.{Map, decode};
 ghost use Rattle.model.specs.Lines.{Connected};
 ghost use Rattle.model.specs.Stretch.{check_stretch, stretch_of};
@@ -14,14 +14,13 @@ ghost use Rattle.reference_bytes.specs.Put.{Inside};
 ghost use Rattle.writer.specs.Found.{Finds};
 
 use leg_tests::test_legs;
-use model::limits::WORK_LENGTH;
 use model::{Refusal, WriteAnswer, WrittenBytes};
 use opening::open_map;
-use point_choice::untested::hoped_legs;
 use point_choice::choose;
+use point_choice::untested::hoped_legs;
 use reference_bytes::put;
 use stretches::stretch::check;
-use work_area::clear;
+use work_area::step::in_work_area;
 
 // A number for each leg of a stretch of up to 64 lines, and one for each of its positions.
 const LEG_TESTS: usize = 4_160;
@@ -118,24 +117,6 @@ fn on_map(
     )
 }
 
-// The answer where the work area is large enough.
-fn on_area(
-    map: &[u8],
-    stretch: &[u32],
-    pos: u32,
-    neg: u32,
-    tests: u32,
-    work: &mut [u32],
-    bytes: &mut [u8],
-) -> WriteAnswer
-    requires { work_length ≤ length work.old }
-    ensures { WriteAnswered (WriteMap (decode map.now) (stretch_of stretch.now pos neg) tests (length bytes.old))
-        bytes.old bytes.new result }
-{
-    let opened = open_map(map, work)?;
-    on_map(work, opened.lines, stretch, pos, neg, tests, bytes)
-}
-
 // Writes a stretch of lines with its offsets, in centimetres, on a map, by `tests` leg tests at most. An answer that it is written has the count of bytes,
 // which stand first in `bytes`, the tests made, and by how many points at most the reference exceeds the fewest. The work area needs 14,336 numbers. They
 // are 0 afterwards.
@@ -151,18 +132,16 @@ pub fn write(
     ensures { WriteCall map.now (stretch_of stretch.now pos neg) tests work.old bytes.old result
         work.new bytes.new }
 {
-    if work.len() < WORK_LENGTH {
-        return Err(Refusal::WorkAreaShort);
-    }
-    let given = on_area(
-        map,
-        stretch,
-        pos,
-        neg,
-        tests,
-        &mut work[..WORK_LENGTH],
+    in_work_area(
+        work,
         bytes,
-    );
-    clear(work);
-    given
+        |area, out|
+            requires { length area.old ≡ work_length }
+            ensures { WriteAnswered (WriteMap (decode map.entry.now) (stretch_of stretch.entry.now pos neg) tests (length out.old))
+                out.old out.new result }
+        {
+            let opened = open_map(map, area)?;
+            on_map(area, opened.lines, stretch, pos, neg, tests, out)
+        },
+    )
 }

@@ -8,12 +8,6 @@ use native.Mathlib.Omega.{arith}
 use borrow.Author.Rules.{rules}
 use Rattle.expansion.proofs.going_at.Statement.{statement}
 use Rattle.expansion.proofs.going_at.Tie as tie
-use Rattle.expansion.proofs.going_at.Reads as reads
-use Rattle.expansion.proofs.going_at.Lts as lts
-use Rattle.banned_turns.proofs.bans_from.Reads as bans-from-reads
-use Rattle.buffers.proofs.wide.Reads as wide-reads
-use Rattle.search_cells.proofs.cells.length_to.Reads as length-to-reads
-use Rattle.expansion.proofs.note_for.Reads as note-for-reads
 
 add-line-of : tie.Need-overflow_add-place
 add-line-of c = let p = c.requires in let g = p.5 in let full = g.held.full in omega (arith, p.6, g.room, count_le g.listing, few g.held)

@@ -6,10 +6,6 @@ use native.Mathlib.Omega.{arith}
 use borrow.Author.Rules.{rules}
 use Rattle.expansion.proofs.keep_last.Statement.{statement}
 use Rattle.expansion.proofs.keep_last.Tie as tie
-use Rattle.expansion.proofs.keep_last.Reads as reads
-use Rattle.expansion.proofs.keep_last.Lts as lts
-use Rattle.buffers.proofs.wide.Reads as wide-reads
-use Rattle.work_area.proofs.field.Reads as field-reads
 
 field-requires : tie.Need-field-requires
 field-requires c κs = search rules

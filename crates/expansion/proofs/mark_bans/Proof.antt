@@ -13,9 +13,6 @@ use native.Mathlib.Omega.{arith}
 use borrow.Author.Rules.{rules}
 use Rattle.expansion.proofs.mark_bans.Statement.{statement}
 use Rattle.expansion.proofs.mark_bans.Tie as tie
-use Rattle.expansion.proofs.mark_bans.Reads as reads
-use Rattle.expansion.proofs.mark_bans.Lts as lts
-use Rattle.buffers.proofs.wide.Reads as wide-reads
 
 abbrev invariant-loop : tie.invariant-loop-x
 invariant-loop work₀ lines l chain x₀ work x =

@@ -25,7 +25,7 @@ returns-in_err-hoped c m set joint =
       inl (
         refl,
         subst (λ (q : ℕ). NoChoice (good_or_untested (good m) part q) part) t.ensures.value
-        (finds_nowhere m part t.result t.new.table joint c.requires.part_len_bound.0 all.tested none),
+            (finds_nowhere m part t.result t.new.table joint c.requires.part_len_bound.0 all.tested none),
       ),
     )
 
@@ -70,5 +70,5 @@ returns c m set joint =
     let legs = rw c.in_ok-legs.ensures.ok_part at c.choose-chosen.ensures in (
       all.set,
       subst (λ (q : ℕ). FoundLegs m part q c.choose-chosen.new.cuts c.in_ok-legs.legs t.result (c.in_ok-legs.legs - c.in_ok-hoped.hoped)) t.ensures.value
-      (finds_legs m part t.result t.new.table joint c.requires.part_len_bound.0 all.tested hoped c.args.cuts.now legs),
+          (finds_legs m part t.result t.new.table joint c.requires.part_len_bound.0 all.tested hoped c.args.cuts.now legs),
     )
