@@ -19,12 +19,7 @@ pub struct Given {
 }
 
 // Writes a point as it is given.
-fn write_given(
-    map: &[u8],
-    given: Given,
-    writing: &mut [u32],
-    bytes: &mut [u8],
-) -> PointWriteAnswer
+fn write_given(map: &[u8], given: Given, writing: &mut [u32], bytes: &mut [u8]) -> PointWriteAnswer
     ensures { PointWriteCall map.now (as_given given) writing.old bytes.old result writing.new bytes.new }
 {
     write_point(

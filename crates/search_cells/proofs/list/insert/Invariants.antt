@@ -8,7 +8,7 @@ abbrev pub invariant-loop-work : goal.invariant-loop-work
 invariant-loop-work l = record {
   some : 0 < l.i;
   inside : l.i ≤ l.end;
-  moved : (place : ℕ) → place < l.end → queued l.fn.work place ≤ l.key → Inserting place l.end l.key l.i l.fn.work l.work
+  moved : (place : ℕ) → place < l.end → queued l.fn.work place ≤ l.key → Inserting place l.end l.key l.i l.fn.work l.work;
 }
 
 abbrev pub decreases-loop-work : goal.decreases-loop-work

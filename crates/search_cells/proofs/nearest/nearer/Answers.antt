@@ -1,6 +1,6 @@
 -- In the order of the tests: past the limit, the first, farther, nearer, and as near.
-use Rattle.std.proofs.Common.{◌≡◌, ◌≤◌, ◌<◌, ◌∙◌, refl, ap, inl, inr, arith}
-use Rattle.search_cells.specs.Area.{length_to, named, farther, nearest, alike}
+use Rattle.std.proofs.Common.{◌∙◌, refl, ap, inl, inr, arith}
+use Rattle.search_cells.specs.Area.{length_to, farther, nearest, alike}
 use Rattle.search_cells.proofs.nearest.nearer.Goals as goal
 
 pub returns-then-limit-to : goal.returns-then-limit-to
