@@ -83,12 +83,7 @@ fn read_bans(
 }
 
 // The count of banned turns, after the lines, and what follows it.
-fn count_bans(
-    map: &[u8],
-    from: usize,
-    work: &mut [u32],
-    counts: Counts,
-) -> Result<Counts, Refusal>
+fn count_bans(map: &[u8], from: usize, work: &mut [u32], counts: Counts) -> Result<Counts, Refusal>
     requires { (work_length ≤ length work.old) × (counts.nodes ≤ greatest_node_count) × (counts.lines ≤ greatest_line_count) }
     ensures { Stage (decode_lines 0 (drop from map.now) (held_nodes work.old counts.nodes) (held_lines work.old counts.lines))
         codes_from work.old work.new result }

@@ -88,14 +88,11 @@ pub map_refused_lem : (map bytes : List ℕ) {lines : List ℕ} (room : ℕ) (r 
 map_refused_lem map bytes room r e = refused_point r (rw e refl)
 
 -- The whole call.
-module _ (mb ref lines : List ℕ) where
-  pub area_short : (work : List ℕ) → length work < work_length → PointReadCall mb ref work lines (Err why.WorkAreaShort) work lines
-  unfolding refusal_of
-  area_short work h =
-      record {
-        called = Answering.area_short PointReadOutcome.refused (λ m. PointReadParsed m (parse_point ref) (length lines)) mb h (refused_point why.WorkAreaShort refl);
-      }
-
-  pub called : {after work work' : List ℕ} {a : PointReadAnswer} → work_length ≤ length work →
-      PointReadAnswered (PointReadMap (decode mb) ref (length lines)) lines after a → work' ≡ cleared work → PointReadCall mb ref work lines a work' after
-  called h d e = record { called = Answering.called PointReadOutcome.refused (λ m. PointReadParsed m (parse_point ref) (length lines)) mb h d e }
+pub called : (mb ref before : List ℕ) {after work work' : List ℕ} {a : PointReadAnswer} → (length work < work_length → (a ≡ Err why.WorkAreaShort) × (after ≡ before)) →
+    (work_length ≤ length work → PointReadAnswered (PointReadMap (decode mb) ref (length before)) before after a) → work' ≡ cleared work →
+    PointReadCall mb ref work before a work' after
+unfolding refusal_of
+called mb ref before short ran e =
+    record {
+      called = Answering.stepped PointReadOutcome.refused (λ m. PointReadParsed m (parse_point ref) (length before)) mb (refused_point why.WorkAreaShort refl) short ran e;
+    }

@@ -62,7 +62,8 @@ pub fn read_point(
         lines,
         |area, out|
             requires { length area.old ≡ work_length }
-            ensures { PointReadAnswered (PointReadMap (decode map.entry.now) reference.entry.now (length out.old)) out.old out.new result }
+            ensures { PointReadAnswered (PointReadMap (decode map.entry.now) reference.entry.now (length out.old))
+                out.old out.new result }
         {
             let opened = open_map(map, area)?;
             on_map(reference, area, opened, out)

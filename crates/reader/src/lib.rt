@@ -119,7 +119,8 @@ pub fn read(map: &[u8], reference: &[u8], work: &mut [u32], lines: &mut [u32]) -
         lines,
         |area, out|
             requires { length area.old ≡ work_length }
-            ensures { ReadAnswered (ReadMap (decode map.entry.now) reference.entry.now (length out.old)) out.old out.new result }
+            ensures { ReadAnswered (ReadMap (decode map.entry.now) reference.entry.now (length out.old))
+                out.old out.new result }
         {
             let opened = open_map(map, area)?;
             on_map(reference, area, opened, out)

@@ -1,4 +1,5 @@
 -- `span_of` meets its contract: no byte is past 255, and what lies between the starts of two bytes.
+use native.Mathlib.Omega.{arith}
 use Rattle.model.proofs.OffsetSpans.{past_255_nowhere}
 use Rattle.fields.proofs.Offsets.{span, nowhere}
 use Rattle.fields.proofs.offset.span_of.Goals as goal

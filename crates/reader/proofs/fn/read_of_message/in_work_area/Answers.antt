@@ -1,16 +1,16 @@
 -- Bytes that are no map, a message of another map, or the answer on the map.
 use Rattle.std.proofs.Common.{sym, ◌∙◌}
-use Rattle.std.proofs.lemmas.Result.{err_from_is_err_and}
 use Rattle.model.specs.Outcome.{ReadOutcome}
-use Rattle.model.proofs.Answering.{answered_by}
+use Rattle.model.proofs.Answering.{answered_by, passed_on}
 use Rattle.front.proofs.OnFront.{own_map}
 use Rattle.reader.proofs.OfMessages.{map_refused_lem, front_refused}
 use Rattle.reader.proofs.fn.read_of_message.in_work_area.Goals as goal
 
 pub returns-in_err-opened : goal.returns-in_err-opened
 returns-in_err-opened c =
-    let p = err_from_is_err_and c.from_residual.result c.from_residual.ensures.1 in
-    rw (p.1, p.2) (map_refused_lem _ _ _ _ _ c.in_err-opened.ensures.answers)
+    let passed = passed_on c.from_residual.result c.from_residual.ensures.1 in
+    let a = c.captures in
+    rw passed (map_refused_lem a.map.now a.message.now a.reference.now c.args.out.now _ c.in_err-opened.ensures.answers)
 
 pub returns-then-not-same_map : goal.returns-then-not-same_map
 returns-then-not-same_map c =
