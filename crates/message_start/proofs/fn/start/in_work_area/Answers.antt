@@ -5,12 +5,12 @@ use Rattle.model.proofs.Answering.{answered_by}
 use Rattle.model.proofs.MapLengths.{map_few}
 use Rattle.depot_map.proofs.Whole.{read_whole, read_refused}
 use Rattle.message_start.proofs.Starts.{map_refused_lem}
-use Rattle.message_start.proofs.on_area.Goals as goal
+use Rattle.message_start.proofs.fn.start.in_work_area.Goals as goal
 
 pub returns-in_err-read_map : goal.returns-in_err-read_map
 returns-in_err-read_map c =
     let p = err_from_is_err_and c.from_residual.result c.from_residual.ensures.1 in
-    rw (p.1, p.2) (map_refused_lem c.args.map.now c.args.buffer.now _ _ (read_refused c.read_map.ensures c.in_err-read_map.was))
+    rw (p.1, p.2) (map_refused_lem _ _ _ _ (read_refused c.read_map.ensures c.in_err-read_map.was))
 
 pub on_map-requires : goal.on_map-requires
 on_map-requires c =
