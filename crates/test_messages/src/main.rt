@@ -352,25 +352,20 @@ fn run_part(
 
 fn run(rt: &impl Print, bytes: &[u8], buffer: &mut [u8], work: &mut [u32], lines: &mut [u32]) {
     let mut at: usize = 0;
-    let mut map_from: usize = 0;
-    let mut map_to: usize = 0;
+    let mut map = Part { start: 0, end: 0 };
     let mut written = Written {
         message: Message::Closed(0),
         room: 0,
     };
-    loop {
-        let Part::At(from, to) = cases::part_at(bytes, at) else {
-            return;
-        };
-        at = to;
-        if let Kind::Map = kind_of(&bytes[from..to]) {
-            map_from = from;
-            map_to = to;
+    while let Some(part) = cases::part_at(bytes, at) {
+        at = part.end;
+        if let Kind::Map = kind_of(&bytes[part.start..part.end]) {
+            map = part;
         }
         written = run_part(
             rt,
-            &bytes[from..to],
-            &bytes[map_from..map_to],
+            &bytes[part.start..part.end],
+            &bytes[map.start..map.end],
             written,
             buffer,
             work,

@@ -139,28 +139,23 @@ fn run_parts(rt: &impl Print, map: &[u8], part: &[u8], words: &[u8], work: &mut 
 // and of the byte buffer, and 1 where the map is that of the case before.
 fn run(rt: &impl Print, file: &[u8], work: &mut [u32]) {
     let mut at: usize = 0;
-    let mut map_from: usize = 0;
-    let mut map_to: usize = 0;
-    loop {
-        let Part::At(from, middle) = cases::part_at(file, at) else {
+    let mut map = Part { start: 0, end: 0 };
+    while let Some(given) = cases::part_at(file, at) {
+        let Some(stretch) = cases::part_at(file, given.end) else {
             return;
         };
-        let Part::At(start, end) = cases::part_at(file, middle) else {
+        let Some(words) = cases::part_at(file, stretch.end) else {
             return;
         };
-        let Part::At(words, to) = cases::part_at(file, end) else {
-            return;
-        };
-        at = to;
-        if word_at(&file[words..to], 20) == 0 {
-            map_from = from;
-            map_to = middle;
+        at = words.end;
+        if word_at(&file[words.start..words.end], 20) == 0 {
+            map = given;
         }
         run_parts(
             rt,
-            &file[map_from..map_to],
-            &file[start..end],
-            &file[words..to],
+            &file[map.start..map.end],
+            &file[stretch.start..stretch.end],
+            &file[words.start..words.end],
             work,
         );
     }
