@@ -17,7 +17,7 @@ use fields::leg::{Attributes, Leg, Reading, Verdict, longest_leg};
 use legs::first_lines::both;
 use model::limits::WORK_LENGTH;
 use model::number_of;
-use opening::{Opened, open_map};
+use opening::open_map;
 use reference_legs::termini::{first_terminus, next_terminus, read_terminus};
 use search::search;
 use way_lengths::Terminus;
@@ -162,8 +162,8 @@ fn show(rt: &impl Print, map: &[u8], words: &[u8], work: &mut [u32])
     requires { work_length ≤ length work.old }
 {
     match open_map(map, work) {
-        Opened::Ready(nodes, lines) => show_leg(rt, work, nodes, lines, leg_of(words)),
-        Opened::Refused(why) => {
+        Ok(opened) => show_leg(rt, work, opened.nodes, opened.lines, leg_of(words)),
+        Err(why) => {
             print(rt, b"refused ", number_of(why) as u64);
         }
     }

@@ -34,15 +34,6 @@ pub record Turning (lines : ℕ) (bans : List Turn) (i : ℕ) (w v : List ℕ) :
   pub kept : Kept bans_from bans_to w v
 
 module _ {lines : ℕ} {bans : List Turn} {w : List ℕ} (paired : Paired w lines bans) where
-  pub turning_none : Turning lines bans 0 w w
-  turning_none =
-      record {
-        held = record { few = omega arith; heads = paired.heads; seconds = λ i h. absurd (omega arith); earlier = λ i h. absurd (omega arith) };
-        seconds = λ k h k<. paired.seconds k k<;
-        firsts = λ k h k<. paired.firsts k k<;
-        kept = kept_none;
-      }
-
   module _ {i : ℕ} {v : List ℕ} (known : Known lines bans) (few : lines ≤ greatest_line_count) (i< : i < length bans) (at : Turning lines bans i w v) where
     -- The second line of turn `i`, which it is put with, is a line.
     pub second_in : get_or v (ban_second i) 0 < lines
