@@ -5,21 +5,21 @@ use Rattle.work_area.proofs.Holding.{held_kept}
 use Rattle.search_cells.proofs.Holding.{mirrored}
 use Rattle.measured.proofs.search_again.Goals as goal
 
-pub loop-i-init : goal.loop-i-init
-loop-i-init c = c.requires
+pub loop-init : goal.loop-init
+loop-init c = c.requires
 
 pub search-requires : goal.search-requires
 search-requires c =
-    let v = c.loop-i.invariant in (
+    let v = c.loop.invariant in (
       mirror v.0,
       mirrored v.1.held,
       v.1.chained,
-      omega (arith, c.if-lines-wide.false, c.wide.ensures.0, c.wide-in-loop-i.ensures.0),
+      omega (arith, c.if-lines-wide.false, c.wide.ensures.0, c.wide-in-loop.ensures.0),
       omega (arith, c.if-limit-gt-GREATEST_LEG_LENGTH.false),
     )
 
-pub loop-i-preserved : goal.loop-i-preserved
-loop-i-preserved c =
-    let v = c.loop-i.invariant in
-    let f = c.search.ensures (mirror v.0) (mirrored v.1.held) v.1.chained (omega (arith, c.if-lines-wide.false, c.wide.ensures.0, c.wide-in-loop-i.ensures.0)) in
+pub loop-preserved : goal.loop-preserved
+loop-preserved c =
+    let v = c.loop.invariant in
+    let f = c.search.ensures (mirror v.0) (mirrored v.1.held) v.1.chained (omega (arith, c.if-lines-wide.false, c.wide.ensures.0, c.wide-in-loop.ensures.0)) in
     (v.0, record { held = held_kept (omega arith) f.kept v.1.held; chained = f.chained })
