@@ -2,7 +2,6 @@
 // the work area, and whether the rest of the line buffer is as it was. What it prints is held to what the unrelated implementation says (oracle/pack.py).
 #![tactic(auto)]
 
-use buffers::lesser;
 use cases::{Part, word_at};
 use marks::fill;
 use reader::read;
@@ -25,8 +24,8 @@ fn run_case(
     work: &mut [u32],
     lines: &mut [u32],
 ) {
-    let work_length = lesser(word_at(words, 0) as usize, work.len());
-    let line_room = lesser(word_at(words, 4) as usize, lines.len());
+    let work_length = (word_at(words, 0) as usize).min(work.len());
+    let line_room = (word_at(words, 4) as usize).min(lines.len());
     call(
         rt,
         map,
