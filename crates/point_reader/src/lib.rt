@@ -71,6 +71,26 @@ pub fn read_point(
     )
 }
 
+// The answer on a map that is ready in the work area, for a point out of a message: whether the message is of that map is asked first.
+fn on_front(
+    map: &[u8],
+    message: &[u8],
+    reference: &[u8],
+    work: &mut [u32],
+    opened: Opened,
+    out: &mut [u32],
+) -> PointReadAnswer
+    requires { (m : Map) × Set m opened.lines work.old × (length m.nodes ≡ opened.nodes) }
+    ensures { (m : Map) → Set m opened.lines work.old → length m.nodes ≡ opened.nodes
+        → PointReadAnswered (OnFront PointReadOutcome.refused (PointReadParsed m (parse_point reference.now) (length out.old))
+        (same_map map.now message.now)) out.old out.new result }
+{
+    if !same_map(map, message) {
+        return Err(Refusal::OtherMap);
+    }
+    on_map(reference, work, opened, out)
+}
+
 // Reads a point along a line out of a message on a map: as `read_point`, once the message's front is that of the map. Nothing else is looked at in the message.
 pub fn read_point_of_message(
     map: &[u8],
@@ -92,10 +112,7 @@ pub fn read_point_of_message(
                 (decode map.entry.now)) out.old out.new result }
         {
             let opened = open_map(map, area)?;
-            if !same_map(map, message) {
-                return Err(Refusal::OtherMap);
-            }
-            on_map(reference, area, opened, out)
+            on_front(map, message, reference, area, opened, out)
         },
     )
 }

@@ -128,6 +128,26 @@ pub fn read(map: &[u8], reference: &[u8], work: &mut [u32], lines: &mut [u32]) -
     )
 }
 
+// The answer on a map that is ready in the work area, for a reference out of a message: whether the message is of that map is asked first.
+fn on_front(
+    map: &[u8],
+    message: &[u8],
+    reference: &[u8],
+    work: &mut [u32],
+    opened: Opened,
+    out: &mut [u32],
+) -> ReadAnswer
+    requires { (m : Map) × Set m opened.lines work.old × (length m.nodes ≡ opened.nodes) }
+    ensures { (m : Map) → Set m opened.lines work.old → length m.nodes ≡ opened.nodes
+        → ReadAnswered (OnFront ReadOutcome.refused (ReadParsed m (parse reference.now) (length out.old))
+        (same_map map.now message.now)) out.old out.new result }
+{
+    if !same_map(map, message) {
+        return Err(Refusal::OtherMap);
+    }
+    on_map(reference, work, opened, out)
+}
+
 // Reads a reference out of a message on a map: as `read`, once the message's front is that of the map. Nothing else is looked at in the message.
 pub fn read_of_message(
     map: &[u8],
@@ -149,10 +169,7 @@ pub fn read_of_message(
                 (decode map.entry.now)) out.old out.new result }
         {
             let opened = open_map(map, area)?;
-            if !same_map(map, message) {
-                return Err(Refusal::OtherMap);
-            }
-            on_map(reference, area, opened, out)
+            on_front(map, message, reference, area, opened, out)
         },
     )
 }
