@@ -14,19 +14,13 @@ use search::search;
 use way_lengths::Terminus;
 
 // What a search from the first line of a row's legs serves: lines up to a class, and lengths up to a limit. Up to position `to` the stretch's lines are
-// the only way of their length. `to` is 0 where nothing is searched yet.
+// the only way of their length.
 #[derive(Clone, Copy)]
 pub struct Along {
     pub class: u32,
     pub limit: u32,
     pub to: usize,
 }
-
-pub const NOT_SEARCHED: Along = Along {
-    class: 0,
-    limit: 0,
-    to: 0,
-};
 
 // The length to look ahead to from a leg: its own or `reach`, the greater of them, and no more than a leg can have.
 pub fn goal_for(len: u32, reach: u32) -> u32

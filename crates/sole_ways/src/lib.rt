@@ -14,7 +14,6 @@ ghost use Rattle.sole_ways.specs.SoleWays.{Blank, Arriving, RowsTested};
 
 use model::limits::GREATEST_LEG_LENGTH;
 use row::{Row, test_row};
-use wall::NO_WALL;
 
 pub mod ahead;
 pub mod along;
@@ -46,7 +45,7 @@ pub fn test_rows(
     let mut left = tests;
     let mut row = Row {
         reach: FIRST_REACH,
-        wall: NO_WALL,
+        wall: None,
     };
     for i in 0..stretch.len() {
         if left == 0 {

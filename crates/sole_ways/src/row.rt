@@ -9,7 +9,6 @@ ghost use Rattle.buffers.specs.Kept.{Kept};
 ghost use Rattle.stretches.specs.Stretch.{Known};
 ghost use Rattle.sole_ways.specs.SoleWays.{mark, Arriving, WalledIf, RowBefore, RowCleared, RowTested};
 
-use crate::ahead::NOT_SEARCHED;
 use crate::part::{none_from, one_more};
 use crate::test::test_sole;
 use crate::wall::{Wall, bars, find_wall};
@@ -42,7 +41,7 @@ fn is_known(table: &[u8], i: usize, j: usize) -> bool
 #[derive(Clone, Copy)]
 pub struct Row {
     pub reach: u32,
-    pub wall: Wall,
+    pub wall: Option<Wall>,
 }
 
 // Tests the legs from position `i` up to position `end`, after the row `before`.
@@ -68,7 +67,7 @@ pub fn test_row(
     let reach = before.reach;
     let wall = before.wall;
     clear_row(table, i, end);
-    let mut along = NOT_SEARCHED;
+    let mut last = None;
     let mut part = none_from(i);
     while part.to < end {
         part = one_more(work, lines, stretch, part);
@@ -84,8 +83,9 @@ pub fn test_row(
         if is_known(table, i, j) {
             table[POSITIONS * i + j] = 1;
         } else {
-            let test = test_sole(work, lines, stretch, part, end, arrivals, reach, along);
-            along = test.along;
+            let test = test_sole(work, lines, stretch, part, end, arrivals, reach, last);
+            let along = test.along;
+            last = Some(along);
             if test.sole {
                 table[POSITIONS * i + j] = 1;
             } else if along.to < j {

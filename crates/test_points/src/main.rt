@@ -132,28 +132,23 @@ fn run_case(
 // room of the line or byte buffer, the line, the offset, the orientation and the side that are written, and 1 where the map is that of the case before.
 fn run(rt: &impl Print, bytes: &[u8], work: &mut [u32], lines: &mut [u32]) {
     let mut at: usize = 0;
-    let mut map_from: usize = 0;
-    let mut map_to: usize = 0;
-    loop {
-        let Part::At(from, middle) = cases::part_at(bytes, at) else {
+    let mut map = Part { start: 0, end: 0 };
+    while let Some(given) = cases::part_at(bytes, at) {
+        let Some(reference) = cases::part_at(bytes, given.end) else {
             return;
         };
-        let Part::At(start, end) = cases::part_at(bytes, middle) else {
+        let Some(words) = cases::part_at(bytes, reference.end) else {
             return;
         };
-        let Part::At(words, to) = cases::part_at(bytes, end) else {
-            return;
-        };
-        at = to;
-        if word_at(&bytes[words..to], 28) == 0 {
-            map_from = from;
-            map_to = middle;
+        at = words.end;
+        if word_at(&bytes[words.start..words.end], 28) == 0 {
+            map = given;
         }
         run_case(
             rt,
-            &bytes[map_from..map_to],
-            &bytes[start..end],
-            &bytes[words..to],
+            &bytes[map.start..map.end],
+            &bytes[reference.start..reference.end],
+            &bytes[words.start..words.end],
             work,
             lines,
         );

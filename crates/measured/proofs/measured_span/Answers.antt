@@ -1,6 +1,5 @@
 -- `measured_span` meets its contract: by the one answer that there is.
 use Rattle.measured.proofs.Offsets.{of_span, of_none}
-use borrow.Author.Rules.{rules}
 use Rattle.measured.proofs.measured_span.Goals as goal
 
 pub returns-in-Some : goal.returns-in-Some

@@ -8,7 +8,7 @@ pub loop-i-init : goal.loop-i-init
 loop-i-init c =
     record {
       left_over = omega (arith, legs_none (length c.args.stretch.now));
-      ordered = λ m set joint arriving. (ordered_start c.requires.stretch_len_bound.3 set, λ some. absurd (omega arith));
+      ordered = λ m set joint arriving. (ordered_start c.requires.stretch_len_bound.3 set, tt);
     }
 
 pub returns-then-left-eq0 : goal.returns-then-left-eq0
