@@ -3,7 +3,7 @@ use Prim.Native.Nat.{ℕ, ◌≤◌, ◌+◌, ◌<◌}
 use mathlib.Core.Path.{refl, ◌∙◌, ◌≡◌, sym, subst}
 use mathlib.Core.List.{List}
 use native.Mathlib.Omega.{arith}
-use Rattle.buffers.specs.Kept.{Kept, Filled}
+use Rattle.buffers.specs.Kept.{Kept}
 use mathlib.Core.Logic.{◌≢◌}
 use native.Mathlib.Decide.{ℕ_discrete}
 use lib.ListN.{length, get_or, set, length-set}
@@ -45,10 +45,3 @@ module _ {lo hi : ℕ} where
         below = λ b z. get_or-set_other w a b x 0 (omega arith);
         above = λ b z. get_or-set_other w a b x 0 (omega arith);
       }
-
-pub fill_step : {base n x : ℕ} {w v : List ℕ} → base + n < length v → Filled base n x w v → Filled base (n + 1) x w (set v (base + n) x)
-fill_step {base} {n} {x} {w} {v} fits f =
-    record {
-      filled = at_set (λ k d. k < n + 1 → d ≡ x) v base n x fits (λ z. refl) (λ k d z. f.filled k (omega arith));
-      kept = kept_then (kept_within (omega arith) (omega arith) f.kept) (kept_set (base + n) x (omega arith) (omega arith));
-    }

@@ -4,9 +4,9 @@ pub mod Decides
 pub mod Kept
 pub mod Stored
 pub mod Stores
-pub mod Copying
 pub mod Placing
 pub mod Groups
 pub mod Numbers
 pub mod LineBytes
 pub mod Lent
+pub mod Got

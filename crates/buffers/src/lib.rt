@@ -2,7 +2,7 @@
 #![tactic(auto)]
 
 ghost use Rattle.model.specs.Work.{placed};
-ghost use Rattle.std.specs.Prelude.{◌≡◌, min, ◌+◌, ◌≤◌, ◌<◌, length};
+ghost use Rattle.std.specs.Prelude.{◌≡◌, ◌+◌, ◌≤◌, ◌<◌, length};
 ghost use Rattle.buffers.specs.Kept.{Filled};
 
 pub mod bytes;
@@ -16,34 +16,19 @@ pub fn wide(x: u32) -> usize
     x as usize
 }
 
-// The lesser of two counts.
-pub fn lesser(a: usize, b: usize) -> usize
-    ensures { result ≡ min a b }
-{
-    if a < b { a } else { b }
-}
-
 // Puts `x` at the `count` numbers from `base` on.
 pub fn fill(buffer: &mut [u32], base: usize, count: usize, x: u32)
     requires { base + count ≤ length buffer.old }
     ensures { Filled base count x buffer.old buffer.new }
 {
-    let mut i = 0;
-    while i < count {
-        buffer[base + i] = x;
-        i += 1;
-    }
+    buffer[base..base + count].fill(x);
 }
 
 // Writes `from` into `into`, from its start on.
-pub fn copy(from: &[u32], into: &mut [u32])
+#[tactic(auto, unfolding(model::specs::Work::placed))]
+pub fn copy<T: Copy>(from: &[T], into: &mut [T])
     requires { length from.now ≤ length into.old }
     ensures { into.new ≡ placed from.now into.old }
 {
-    let n = from.len();
-    let mut i: usize = 0;
-    while i < n {
-        into[i] = from[i];
-        i += 1;
-    }
+    into[..from.len()].copy_from_slice(from);
 }

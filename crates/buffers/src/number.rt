@@ -4,11 +4,11 @@ ghost use Rattle.model.specs.Work.{placed};
 ghost use Rattle.model.specs.Number.{number, number_bytes};
 ghost use Rattle.buffers.specs.Taken.{taken};
 
-// A number and the position after it, or none.
+// A number and the position after it.
 #[derive(Clone, Copy)]
-pub enum Number {
-    Got(u32, usize),
-    Faulty,
+pub struct Number {
+    pub value: u32,
+    pub next: usize,
 }
 
 // The values of a group. A byte from here on says that another group follows.
@@ -17,37 +17,27 @@ const GROUP: u64 = 128;
 // No number has more groups.
 const MOST_GROUPS: usize = 5;
 
-// The number at byte `from`.
-pub fn number_at(map: &[u8], from: usize) -> Number
+// The number at byte `from`, if there is one.
+pub fn number_at(map: &[u8], from: usize) -> Option<Number>
     ensures { taken map.now result ≡ number (drop from map.now) }
 {
     let mut at = from;
     let mut weight: u64 = 1;
     let mut value: u64 = 0;
-    let mut i: usize = 0;
-    while i < MOST_GROUPS {
-        if map.len() <= at {
-            return Number::Faulty;
-        }
-        let b = map[at] as u64;
+    for i in 0..MOST_GROUPS {
+        let b = u64::from(*map.get(at)?);
         at += 1;
         if b < GROUP {
-            if b == 0 {
-                if weight != 1 {
-                    return Number::Faulty;
-                }
+            if b == 0 && weight != 1 {
+                return None;
             }
-            let x = value + b * weight;
-            if x < 4_294_967_296 {
-                return Number::Got(x as u32, at);
-            }
-            return Number::Faulty;
+            let x = u32::try_from(value + b * weight).ok()?;
+            return Some(Number { value: x, next: at });
         }
         value += (b - GROUP) * weight;
         weight *= GROUP;
-        i += 1;
     }
-    Number::Faulty
+    None
 }
 
 // Puts a number at the start of `bytes`, in its shortest form: how many bytes it takes.
@@ -55,16 +45,14 @@ pub fn put_number(bytes: &mut [u8], number: u32) -> usize
     requires { 5 ≤ length bytes.old }
     ensures { (result ≡ length (number_bytes number)) × (result ≤ 5) × (bytes.new ≡ placed (number_bytes number) bytes.old) }
 {
-    let mut rest = number as u64;
-    let mut i: usize = 0;
-    while i < MOST_GROUPS {
+    let mut rest = u64::from(number);
+    for i in 0..MOST_GROUPS {
         if rest < GROUP {
             bytes[i] = rest as u8;
             return i + 1;
         }
         bytes[i] = (rest % GROUP + GROUP) as u8;
         rest /= GROUP;
-        i += 1;
     }
     MOST_GROUPS
 }

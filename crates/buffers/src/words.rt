@@ -3,19 +3,17 @@ ghost use Rattle.std.specs.Prelude.{◌≡◌, ◌+◌, ◌*◌, ◌≤◌, [], 
 ghost use Rattle.model.specs.Work.{placed};
 ghost use Rattle.model.specs.Host.{words, word_bytes};
 
-use crate::bytes::wide;
-use crate::lesser;
-
 // How many bytes a number has.
 pub const WORD_BYTES: usize = 4;
 
 // The number at byte `at`.
+#[tactic(auto, using(crate::proofs::LineBytes::word_of))]
 pub fn word_at(bytes: &[u8], at: usize) -> u32
     requires { at + 4 ≤ length bytes.now }
     ensures { words (take 4 (drop at bytes.now)) ≡ result ∷ [] }
 {
-    let low = wide(bytes[at]) + 256 * wide(bytes[at + 1]);
-    low + 65_536 * wide(bytes[at + 2]) + 16_777_216 * wide(bytes[at + 3])
+    let low = u32::from(bytes[at]) + 256 * u32::from(bytes[at + 1]);
+    low + 65_536 * u32::from(bytes[at + 2]) + 16_777_216 * u32::from(bytes[at + 3])
 }
 
 // Puts a number at byte `at`.
@@ -34,11 +32,8 @@ pub fn put_words(numbers: &[u32], bytes: &mut [u8])
     requires { length numbers.now * 4 ≤ length bytes.old }
     ensures { bytes.new ≡ placed (word_bytes numbers.now) bytes.old }
 {
-    let n = numbers.len();
-    let mut i: usize = 0;
-    while i < n {
-        put_word(bytes, i * WORD_BYTES, numbers[i]);
-        i += 1;
+    for (i, number) in numbers.iter().enumerate() {
+        put_word(bytes, i * WORD_BYTES, *number);
     }
 }
 
@@ -47,11 +42,9 @@ pub fn take_words(bytes: &[u8], numbers: &mut [u32]) -> usize
     ensures { (result ≤ length numbers.old)
         × (take result numbers.new ≡ take (length numbers.old) (words bytes.now)) }
 {
-    let n = lesser(bytes.len() / WORD_BYTES, numbers.len());
-    let mut i: usize = 0;
-    while i < n {
+    let n = (bytes.len() / WORD_BYTES).min(numbers.len());
+    for i in 0..n {
         numbers[i] = word_at(bytes, i * WORD_BYTES);
-        i += 1;
     }
     n
 }

@@ -18,7 +18,7 @@ use Rattle.banned_turns.proofs.Chains.{bans_more}
 use Rattle.banned_turns.proofs.Fitting.{fitting_more}
 use Rattle.banned_turns.proofs.Putting.{put_kept}
 use Rattle.depot_map.specs.Bans.{BanAdded, BanSorted}
-use Rattle.depot_map.specs.declared.ban.Taken.{Taken}
+use Rattle.std.specs.Prelude.{Option, Some, None}
 
 -- ---- a turn of the mirrored map, put unless it is in its chain
 
@@ -51,54 +51,53 @@ all_with : (lines : List Line) (bans : List Turn) (t : Turn) {a b : Bool} → a 
     (a && b) ≡ all_fitting lines (bans ++ t ∷ [])
 all_with lines bans t e f = ap₂ ◌&&◌ e f ∙ sym (fitting_more bans t lines)
 
-never : {A : Type 0} {b : Bool} → b ≡ false → b ≡ true → A
-never e f = absurd (let z : ◌≡◌ {A = ℕ} 0 1 = cc in omega arith)
-
-module _ {t : Turn} {lines : ℕ} {s : Taken} {w : List ℕ} where
+module _ {t : Turn} {lines : ℕ} {w : List ℕ} where
   -- Where one before it does not fit, nothing is put.
-  pub sort_off : s.fitting ≡ false → BanSorted t lines s w w s
-  sort_off off =
+  pub sort_off : BanSorted t lines None w w None
+  sort_off =
       record {
         sorts = λ bans c.
             record {
               taken = record {
-                tested = off ∙ ap (λ (b : Bool). b && fitting (held_lines w lines) t) (sym off) ∙ all_with (held_lines w lines) bans t c.taken.tested refl;
-                held = λ e. never off e;
+                tested = ap (λ (b : Bool). b && fitting (held_lines w lines) t) c.taken.tested ∙ all_with (held_lines w lines) bans t refl refl;
+                held = λ e. absurd cc;
               };
-              counted = λ e. never off e;
+              counted = λ n e. absurd cc;
             };
-        one = omega arith;
+        one = λ k h. tt;
         kept = kept_none;
       }
 
-  module _ {f : Bool} (on : s.fitting ≡ true) (tested : f ≡ fitting (held_lines w lines) t) where
-    pub sort_unfit : f ≡ false → BanSorted t lines s w w (record { count = s.count; fitting = false })
+  module _ {n : ℕ} {f : Bool} (tested : f ≡ fitting (held_lines w lines) t) where
+    pub sort_unfit : f ≡ false → BanSorted t lines (Some n) w w None
     sort_unfit is =
         record {
           sorts = λ bans c.
               record {
                 taken = record {
-                  tested = all_with (held_lines w lines) bans t (sym on ∙ c.taken.tested) (sym is ∙ tested);
-                  held = λ e. never refl e;
+                  tested = all_with (held_lines w lines) bans t c.taken.tested (sym is ∙ tested);
+                  held = λ e. absurd cc;
                 };
-                counted = λ e. never refl e;
+                counted = λ m e. absurd cc;
               };
-          one = omega arith;
+          one = λ k h. tt;
           kept = kept_none;
         }
 
-    pub sort_fit : {v : List ℕ} {count : ℕ} → f ≡ true → lines ≤ greatest_line_count → BanAdded (mirror_turn t) s.count lines w v count →
-        BanSorted t lines s w v (record { count = count; fitting = true })
-    sort_fit is few added =
+    pub sort_fit : {v : List ℕ} {count : ℕ} → f ≡ true → lines ≤ greatest_line_count → BanAdded (mirror_turn t) n lines w v count →
+        BanSorted t lines (Some n) w v (Some count)
+    sort_fit {count = count} is few added =
         record {
           sorts = λ bans c.
               record {
                 taken = record {
-                  tested = rw (lines_same added.kept lines (omega arith)) (all_with (held_lines w lines) bans t (sym on ∙ c.taken.tested) (sym is ∙ tested));
-                  held = λ e. rw (turns_more bans t) (added.held (mirror_turns bans) (c.taken.held on) (c.counted on));
+                  tested = rw (lines_same added.kept lines (omega arith)) (all_with (held_lines w lines) bans t c.taken.tested (sym is ∙ tested));
+                  held = λ e. rw (turns_more bans t) (added.held (mirror_turns bans) (c.taken.held refl) (c.counted n refl));
                 };
-                counted = λ e. rw (turns_more bans t) (added.counted (mirror_turns bans) (c.taken.held on) (c.counted on));
+                counted = λ m e.
+                    let same : count ≡ m = cc in
+                    rw (turns_more bans t) (sym same ∙ added.counted (mirror_turns bans) (c.taken.held refl) (c.counted n refl));
               };
-          one = added.one;
+          one = λ k h. omega (arith, added.one, h);
           kept = added.kept;
         }

@@ -20,19 +20,18 @@ use Rattle.depot_map.specs.Stage.{Answered, Stage}
 use Rattle.model.specs.Refusal.{refusal_of}
 use Rattle.depot_map.specs.declared.field.Fault.{Fault}
 use Rattle.depot_map.specs.Part.{fault_of}
-use Rattle.depot_map.specs.Bans.{BansTaken, BansCounted, BanGot, BanRefused}
-use Rattle.depot_map.specs.declared.ban.Taken.{Taken}
-use Rattle.depot_map.specs.declared.MapRead.{MapRead}
+use Rattle.depot_map.specs.Bans.{Below, BansTaken, BansCounted, BanSorted, BanRead}
+use Rattle.std.specs.Prelude.{Option, Some, None, Result, Ok, Err, IsErrAnd, is_some}
+use Rattle.depot_map.specs.declared.Counts.{Counts}
+use Rattle.depot_map.specs.declared.ban.Ban.{Ban}
 use Rattle.depot_map.proofs.Ended.{none_over}
 use Rattle.depot_map.proofs.Stages.{stage_faulty, stage_then}
-use Rattle.depot_map.specs.declared.MapRead.TheVariants as MapRead
 
 -- ---- the end of the bytes
 
 pub stage_whole : {w v : List ℕ} {bans : List Turn} (bytes : List ℕ) (at nodes lines : ℕ) → nodes ≤ greatest_node_count → lines ≤ greatest_line_count →
     length bytes ≤ at → Kept codes_from codes_to w v → false ≡ clash (held_nodes w nodes) → BansTaken w lines bans true →
-    Stage (ended (drop at bytes) (held_nodes w nodes) (held_lines w lines) bans) codes_from w v (MapRead.Whole nodes lines)
-unfolding Answered
+    Stage (ended (drop at bytes) (held_nodes w nodes) (held_lines w lines) bans) codes_from w v (Ok (record { nodes = nodes; lines = lines }))
 stage_whole {w} {v} {bans} bytes at nodes lines few_nodes few_lines h kept e taken =
     record {
       right = record {
@@ -51,10 +50,14 @@ all_taken {w} {lines} {bans} e taken = subst (λ (b : Bool). BansTaken w lines b
 
 -- ---- the banned turns
 
+pub below_less : {j k : ℕ} (s : Option ℕ) → Below j s → j ≤ k → Below k s
+below_less None h l = tt
+below_less (Some n) h l = omega arith
+
 -- The first `i` turns are read, and where all of them fit their lines they are in the work area, which was `w` and is `v`.
-pub record BansRead (S : MapAnswer) (bytes : List ℕ) (at nodes lines count i : ℕ) (s : Taken) (w v : List ℕ) : Type 0 where
+pub record BansRead (S : MapAnswer) (bytes : List ℕ) (at nodes lines count i : ℕ) (s : Option ℕ) (w v : List ℕ) : Type 0 where
   pub within : i ≤ count
-  pub few : s.count ≤ i
+  pub few : Below (i + 1) s
   pub kept : Kept bans_from work_length w v
   pub bans : List Turn
   pub left : S ≡ decode_bans (count - i) (drop at bytes) (held_nodes w nodes) (held_lines w lines) bans
@@ -62,7 +65,7 @@ pub record BansRead (S : MapAnswer) (bytes : List ℕ) (at nodes lines count i :
 
 pub bans_start : {bytes : List ℕ} {at nodes lines count : ℕ} {w v : List ℕ} → lines ≤ greatest_line_count → Filled bans_from greatest_line_count 0 w v →
     BansRead (decode_bans count (drop at bytes) (held_nodes v nodes) (held_lines v lines) []) bytes at nodes lines count 0
-    (record { count = 0; fitting = true }) v v
+    (Some 0) v v
 unfolding all_fitting mirror_behind
 bans_start {count = count} few none =
     let all : count - 0 ≡ count = omega arith in
@@ -72,11 +75,11 @@ bans_start {count = count} few none =
       kept = kept_none;
       bans = [];
       left = rw all;
-      counted = record { taken = record { tested = refl; held = λ e. bans_none few none }; counted = λ e. refl };
+      counted = record { taken = record { tested = refl; held = λ e. bans_none few none }; counted = λ n e. cc };
     }
 
 -- The stage goes on after the heads of the chains are made empty.
-pub after_none : (bytes : List ℕ) (at count : ℕ) {nodes lines : ℕ} {w v u : List ℕ} {r : MapRead} → Filled bans_from greatest_line_count 0 w v → nodes ≤ greatest_node_count → lines ≤ greatest_line_count →
+pub after_none : (bytes : List ℕ) (at count : ℕ) {nodes lines : ℕ} {w v u : List ℕ} {r : Result Counts Refusal} → Filled bans_from greatest_line_count 0 w v → nodes ≤ greatest_node_count → lines ≤ greatest_line_count →
     Stage (decode_bans count (drop at bytes) (held_nodes v nodes) (held_lines v lines) []) codes_from v u r →
     Stage (decode_bans count (drop at bytes) (held_nodes w nodes) (held_lines w lines) []) codes_from w u r
 after_none bytes at count {nodes} {lines} none few_nodes few_lines s =
@@ -85,38 +88,31 @@ after_none bytes at count {nodes} {lines} none few_nodes few_lines s =
     (sym (lines_same none.kept lines (omega arith))))
     (kept_within (omega arith) (omega arith) none.kept) (omega arith) s
 
-module _ {S : MapAnswer} {bytes : List ℕ} {at nodes lines count i : ℕ} {s : Taken} {w v : List ℕ} (so_far : BansRead S bytes at nodes lines count i s w v) where
+module _ {S : MapAnswer} {bytes : List ℕ} {at nodes lines count i : ℕ} {s : Option ℕ} {w v : List ℕ} (so_far : BansRead S bytes at nodes lines count i s w v) where
   module _ (more : i < count) where
-    -- Whatever the turn, its numbers are read and the rest is left.
-    ban_left : (next : ℕ) (t : Turn) → ((rest : Turn → List ℕ → MapAnswer) → read_ban (drop at bytes) rest ≡ rest t (drop next bytes)) →
-        S ≡ decode_bans (count - (i + 1)) (drop next bytes) (held_nodes w nodes) (held_lines w lines) (so_far.bans ++ t ∷ [])
+    pub bans_on : {u : List ℕ} {b : Ban} {r : Option ℕ} → BanRead bytes at (Ok b) → BanSorted (record { first = b.first; second = b.second }) lines s v u r →
+        BansRead S bytes b.next nodes lines count (i + 1) r w u
     unfolding decode_bans
-    ban_left next t goes =
+    bans_on {b = b} read sorted =
         let one : count - i ≡ suc (count - (i + 1)) = omega arith in
-        rw one at so_far.left ∙ goes _
-
-    pub bans_on : {u : List ℕ} {next : ℕ} {r : Taken} → BanGot (read_ban (drop at bytes)) bytes lines next s r v u →
-        BansRead S bytes next nodes lines count (i + 1) r w u
-    bans_on {u} {next} b =
         record {
           within = omega arith;
-          few = omega (arith, b.sorted.one, so_far.few);
-          kept = kept_then so_far.kept b.sorted.kept;
-          bans = so_far.bans ++ b.turn ∷ [];
-          left = ban_left next b.turn b.goes;
-          counted = b.sorted.sorts so_far.bans so_far.counted;
+          few = sorted.one (i + 1) so_far.few;
+          kept = kept_then so_far.kept sorted.kept;
+          bans = so_far.bans ++ record { first = b.first; second = b.second } ∷ [];
+          left = rw one at so_far.left ∙ read.goes _;
+          counted = sorted.sorts so_far.bans so_far.counted;
         }
 
-    pub ban_off : {u : List ℕ} {why : Fault} {told : Refusal} → refusal_of told ≡ fault_of why → BanRefused (read_ban (drop at bytes)) why v u →
-        Stage S codes_from w u (MapRead.Refused told)
+    pub ban_off : {why : Fault} (r : Result Counts Refusal) → IsErrAnd r (λ told. refusal_of told ≡ fault_of why) → BanRead bytes at (Err why) →
+        Stage S codes_from w v r
     unfolding decode_bans
-    ban_off {u} same b =
+    ban_off r told read =
         let one : count - i ≡ suc (count - (i + 1)) = omega arith in
-        let kept : Kept bans_from work_length w u = kept_then so_far.kept b.kept in
-        stage_faulty same (rw one at so_far.left ∙ b.stops _) (kept_within (omega arith) (omega arith) kept)
+        stage_faulty r told (rw one at so_far.left ∙ read.goes _) (kept_within (omega arith) (omega arith) so_far.kept)
 
-  pub bans_end : {u : List ℕ} {r : MapRead} → count ≤ i → nodes ≤ greatest_node_count → lines ≤ greatest_line_count →
-      ((bans : List Turn) → BansTaken v lines bans s.fitting → Stage (ended (drop at bytes) (held_nodes v nodes) (held_lines v lines) bans) codes_from v u r) →
+  pub bans_end : {u : List ℕ} {r : Result Counts Refusal} → count ≤ i → nodes ≤ greatest_node_count → lines ≤ greatest_line_count →
+      ((bans : List Turn) → BansTaken v lines bans (is_some s) → Stage (ended (drop at bytes) (held_nodes v nodes) (held_lines v lines) bans) codes_from v u r) →
       Stage S codes_from w u r
   unfolding decode_bans
   bans_end h few_nodes few_lines ends =

@@ -1,7 +1,5 @@
 -- Laws of the work area and of what the map's bytes are, for the functions' proofs and for the crates above.
 pub mod Adding
-pub mod Bans
-pub mod Numbers
 pub mod Parts
 pub mod Ended
 pub mod Whole

@@ -15,27 +15,25 @@ use Rattle.depot_map.specs.Part.{fault_of, go_on, NodeRead, LineRead}
 use Rattle.depot_map.specs.declared.field.Fault.{Fault}
 use Rattle.depot_map.specs.Stage.{Answered, Stage}
 use Rattle.depot_map.specs.Answer.{MapIsRead}
-use Rattle.depot_map.specs.declared.field.Read.{Read}
-use Rattle.depot_map.specs.declared.MapRead.{MapRead}
+use Rattle.std.specs.Prelude.{Result, Ok, Err, IsErrAnd}
+use Rattle.std.proofs.lemmas.Result.{err_from_is_err_and}
+use Rattle.depot_map.specs.declared.Counts.{Counts}
 use Rattle.buffers.proofs.Kept.{kept_none, kept_then, kept_within, kept_over}
 use Rattle.work_area.proofs.Held.{listed_length, nodes_same, nodes_more, lines_more}
-use Rattle.depot_map.proofs.Numbers.{on, off}
 use Rattle.depot_map.proofs.Whole.{answers}
-use Rattle.depot_map.specs.declared.field.Read.TheVariants as Read
-use Rattle.depot_map.specs.declared.MapRead.TheVariants as MapRead
 
 -- ---- any stage
 
 pub stage_refused : {S : MapAnswer} {low : ℕ} {w v : List ℕ} {why : Refusal} → S ≡ refused (refusal_of why) → Kept low work_length w v →
-    Stage S low w v (MapRead.Refused why)
-unfolding Answered
+    Stage S low w v (Err why)
 stage_refused e kept = record { right = e; kept = kept }
 
-pub stage_faulty : {S : MapAnswer} {low : ℕ} {w v : List ℕ} {n : Refused} {told : Refusal} → refusal_of told ≡ n → S ≡ refused n →
-    Kept low work_length w v → Stage S low w v (MapRead.Refused told)
-stage_faulty same e kept = stage_refused (e ∙ ap refused (sym same)) kept
+-- What a `?` returns is the refusal that the fault is.
+pub stage_faulty : {S : MapAnswer} {low : ℕ} {w v : List ℕ} {n : Refused} (r : Result Counts Refusal) → IsErrAnd r (λ told. refusal_of told ≡ n) →
+    S ≡ refused n → Kept low work_length w v → Stage S low w v r
+stage_faulty r told e kept = let p = err_from_is_err_and r told in rw p.1 (stage_refused (e ∙ ap refused (sym p.2)) kept)
 
-pub stage_then : {S T : MapAnswer} {low next : ℕ} {w v u : List ℕ} {r : MapRead} → S ≡ T → Kept low work_length w v → low ≤ next →
+pub stage_then : {S T : MapAnswer} {low next : ℕ} {w v u : List ℕ} {r : Result Counts Refusal} → S ≡ T → Kept low work_length w v → low ≤ next →
     Stage T next v u r → Stage S low w u r
 stage_then {u = u} {r = r} e kept h s =
     record { right = subst (Answered u r) (sym e) s.right; kept = kept_then kept (kept_within h (omega arith) s.kept) }
@@ -56,11 +54,11 @@ lines_none bytes at nodes count w =
     record { within = omega arith; kept = kept_none; left = rw all }
 
 module _ {S : MapAnswer} {bytes : List ℕ} {at nodes count i : ℕ} {w v : List ℕ} (so_far : LinesRead S bytes at nodes count i w v) where
-  module _ {u : List ℕ} {r : Read} (more : i < count) (few : count ≤ greatest_line_count) (one : LineRead bytes at (nodes - 1) i v u r) where
+  module _ {u : List ℕ} {r : Result ℕ Fault} (more : i < count) (few : count ≤ greatest_line_count) (one : LineRead bytes at (nodes - 1) i v u r) where
     line_kept : Kept lines_from work_length w u
     line_kept = kept_over (omega arith) so_far.kept one.kept
 
-    line_turn : S ≡ go_on bytes (λ x bs. decode_lines (count - (i + 1)) bs (held_nodes w nodes) (held_lines u (i + 1))) r
+    line_turn : S ≡ go_on (λ (next : ℕ). decode_lines (count - (i + 1)) (drop next bytes) (held_nodes w nodes) (held_lines u (i + 1))) r
     unfolding decode_lines
     line_turn =
         let next : count - i ≡ suc (count - (i + 1)) = omega arith in
@@ -68,15 +66,16 @@ module _ {S : MapAnswer} {bytes : List ℕ} {at nodes count i : ℕ} {w v : List
         ∙ ap (λ (n : ℕ). read_line (n - 1) (drop at bytes) (λ line after. decode_lines (count - (i + 1)) after (held_nodes w nodes) (held_lines v i ++ line ∷ [])))
         (listed_length (held_node w) nodes)
         ∙ one.goes _
-        ∙ ap (λ (l : List Line). go_on bytes (λ x bs. decode_lines (count - (i + 1)) bs (held_nodes w nodes) l) r) (sym (lines_more i one.kept))
+        ∙ ap (λ (l : List Line). go_on (λ (next : ℕ). decode_lines (count - (i + 1)) (drop next bytes) (held_nodes w nodes) l) r) (sym (lines_more i one.kept))
 
-    pub lines_on : {x next : ℕ} → r ≡ Read.Got x next → LinesRead S bytes next nodes count (i + 1) w u
-    lines_on e = record { within = omega arith; kept = line_kept; left = line_turn ∙ on bytes e _ }
+  pub lines_on : {u : List ℕ} {next : ℕ} → i < count → count ≤ greatest_line_count → LineRead bytes at (nodes - 1) i v u (Ok next) → LinesRead S bytes next nodes count (i + 1) w u
+  lines_on more few one = record { within = omega arith; kept = line_kept more few one; left = line_turn more few one }
 
-    pub lines_off : {why : Fault} {told : Refusal} → refusal_of told ≡ fault_of why → r ≡ Read.Refused why → Stage S lines_from w u (MapRead.Refused told)
-    lines_off same e = stage_faulty same (line_turn ∙ off bytes e _) line_kept
+  pub lines_off : {u : List ℕ} {why : Fault} (r : Result Counts Refusal) → i < count → count ≤ greatest_line_count →
+      IsErrAnd r (λ told. refusal_of told ≡ fault_of why) → LineRead bytes at (nodes - 1) i v u (Err why) → Stage S lines_from w u r
+  lines_off r more few told one = stage_faulty r told (line_turn more few one) (line_kept more few one)
 
-  pub lines_end : {u : List ℕ} {r : MapRead} → count ≤ i → nodes ≤ greatest_node_count →
+  pub lines_end : {u : List ℕ} {r : Result Counts Refusal} → count ≤ i → nodes ≤ greatest_node_count →
       Stage (decode_lines 0 (drop at bytes) (held_nodes v nodes) (held_lines v count)) codes_from v u r → Stage S lines_from w u r
   lines_end h few s =
       let none : count - i ≡ 0 = omega (arith, so_far.within) in
@@ -99,24 +98,25 @@ nodes_none bytes at count w =
     record { within = omega arith; kept = kept_none; left = rw all }
 
 module _ {S : MapAnswer} {bytes : List ℕ} {at count i : ℕ} {w v : List ℕ} (so_far : NodesRead S bytes at count i w v) where
-  module _ {u : List ℕ} {r : Read} (more : i < count) (few : count ≤ greatest_node_count) (one : NodeRead bytes at i v u r) where
+  module _ {u : List ℕ} {r : Result ℕ Fault} (more : i < count) (few : count ≤ greatest_node_count) (one : NodeRead bytes at i v u r) where
     node_kept : Kept 0 work_length w u
     node_kept = kept_over (omega arith) so_far.kept one.kept
 
-    node_turn : S ≡ go_on bytes (λ x bs. decode_nodes (count - (i + 1)) bs (held_nodes u (i + 1))) r
+    node_turn : S ≡ go_on (λ (next : ℕ). decode_nodes (count - (i + 1)) (drop next bytes) (held_nodes u (i + 1))) r
     unfolding decode_nodes
     node_turn =
         let next : count - i ≡ suc (count - (i + 1)) = omega arith in
         rw next at so_far.left ∙ one.goes _
-        ∙ ap (λ (l : List Node). go_on bytes (λ x bs. decode_nodes (count - (i + 1)) bs l) r) (sym (nodes_more i one.kept))
+        ∙ ap (λ (l : List Node). go_on (λ (next : ℕ). decode_nodes (count - (i + 1)) (drop next bytes) l) r) (sym (nodes_more i one.kept))
 
-    pub nodes_on : {x next : ℕ} → r ≡ Read.Got x next → NodesRead S bytes next count (i + 1) w u
-    nodes_on e = record { within = omega arith; kept = node_kept; left = node_turn ∙ on bytes e _ }
+  pub nodes_on : {u : List ℕ} {next : ℕ} → i < count → count ≤ greatest_node_count → NodeRead bytes at i v u (Ok next) → NodesRead S bytes next count (i + 1) w u
+  nodes_on more few one = record { within = omega arith; kept = node_kept more few one; left = node_turn more few one }
 
-    pub nodes_off : {why : Fault} {told : Refusal} → refusal_of told ≡ fault_of why → r ≡ Read.Refused why → Stage S 0 w u (MapRead.Refused told)
-    nodes_off same e = stage_faulty same (node_turn ∙ off bytes e _) node_kept
+  pub nodes_off : {u : List ℕ} {why : Fault} (r : Result Counts Refusal) → i < count → count ≤ greatest_node_count →
+      IsErrAnd r (λ told. refusal_of told ≡ fault_of why) → NodeRead bytes at i v u (Err why) → Stage S 0 w u r
+  nodes_off r more few told one = stage_faulty r told (node_turn more few one) (node_kept more few one)
 
-  pub nodes_end : {u : List ℕ} {r : MapRead} → count ≤ i →
+  pub nodes_end : {u : List ℕ} {r : Result Counts Refusal} → count ≤ i →
       Stage (decode_nodes 0 (drop at bytes) (held_nodes v count)) lines_from v u r → Stage S 0 w u r
   nodes_end h s =
       let none : count - i ≡ 0 = omega (arith, so_far.within) in
@@ -125,5 +125,5 @@ module _ {S : MapAnswer} {bytes : List ℕ} {at count i : ℕ} {w v : List ℕ} 
 
 -- ---- the first stage
 
-pub map_is_read : {bytes w v : List ℕ} {r : MapRead} → work_length ≤ length w → Stage (decode bytes) 0 w v r → MapIsRead bytes w v r
+pub map_is_read : {bytes w v : List ℕ} {r : Result Counts Refusal} → work_length ≤ length w → Stage (decode bytes) 0 w v r → MapIsRead bytes w v r
 map_is_read {bytes} {w} {v} {r} full s = record { answers = answers bytes v r (omega (arith, s.kept.same)) s.right; kept = s.kept }

@@ -16,8 +16,8 @@ use Rattle.work_area.specs.Mirror.{mirror_turns}
 use Rattle.work_area.specs.Held.{held_node, held_line, held_nodes, held_lines}
 use Rattle.depot_map.specs.Stage.{Answered}
 use Rattle.depot_map.specs.Answer.{WholeMap, MapAnswers, MapIsRead}
-use Rattle.depot_map.specs.declared.MapRead.{MapRead}
-use Rattle.depot_map.specs.declared.MapRead.TheVariants.{Whole, Refused}
+use Rattle.std.specs.Prelude.{Result, Ok, Err}
+use Rattle.depot_map.specs.declared.Counts.{Counts}
 use Rattle.work_area.proofs.Held.{listed_length, listed_at, line_number}
 
 node_number : (w : List ℕ) (i k : ℕ) → k < node_size → get_or w (node_place i + k) 0 ≡ get_or (node_numbers (held_node w i)) k 0
@@ -51,18 +51,15 @@ module _ (w : List ℕ) (nodes lines : ℕ) (bans : List Turn) where
       }
 
 -- What `read_map` answers, from what its stages answer.
-pub answers : (bytes w : List ℕ) (r : MapRead) → work_length ≤ length w → Answered w r (decode bytes) → MapAnswers bytes w r
-unfolding Answered MapAnswers
-answers bytes w (Whole nodes lines) full e =
-    record { map = held w nodes lines e.bans; decodes = e.comes; held = holds w nodes lines e.bans bytes full e.comes e.held }
-answers bytes w (Refused why) full e = e
+pub answers : (bytes w : List ℕ) (r : Result Counts Refusal) → work_length ≤ length w → Answered w r (decode bytes) → MapAnswers bytes w r
+answers bytes w (Ok n) full e =
+    record { map = held w n.nodes n.lines e.bans; decodes = e.comes; held = holds w n.nodes n.lines e.bans bytes full e.comes e.held }
+answers bytes w (Err why) full e = e
 
 -- The answer, once it is known which it is.
-module _ {bytes w v : List ℕ} {r : MapRead} (a : MapIsRead bytes w v r) where
-  pub read_whole : {nodes lines : ℕ} → r ≡ Whole nodes lines → WholeMap bytes v nodes lines
-  unfolding MapAnswers
-  read_whole e = subst (λ (q : MapRead). MapAnswers bytes v q) e a.answers
+module _ {bytes w v : List ℕ} {r : Result Counts Refusal} (a : MapIsRead bytes w v r) where
+  pub read_whole : {n : Counts} → r ≡ Ok n → WholeMap bytes v n.nodes n.lines
+  read_whole e = subst (λ (q : Result Counts Refusal). MapAnswers bytes v q) e a.answers
 
-  pub read_refused : {why : Refusal} → r ≡ Refused why → decode bytes ≡ refused (refusal_of why)
-  unfolding MapAnswers
-  read_refused e = subst (λ (q : MapRead). MapAnswers bytes v q) e a.answers
+  pub read_refused : {why : Refusal} → r ≡ Err why → decode bytes ≡ refused (refusal_of why)
+  read_refused e = subst (λ (q : Result Counts Refusal). MapAnswers bytes v q) e a.answers

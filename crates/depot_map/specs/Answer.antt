@@ -2,11 +2,11 @@
 use Rattle.work_area.specs.Area.{Holds}
 use Rattle.model.specs.Work.{work_length}
 use Rattle.model.specs.Map.{Map, whole, refused, decode}
-use Rattle.std.specs.Prelude.{ℕ, ◌≡◌, List}
+use Rattle.std.specs.Prelude.{ℕ, ◌≡◌, List, Result, Ok, Err}
 use Rattle.model.specs.Refusal.{refusal_of}
+use Rattle.model.specs.declared.Refusal.{Refusal}
 use Rattle.buffers.specs.Kept.{Kept}
-use Rattle.depot_map.specs.declared.MapRead.{MapRead}
-use Rattle.depot_map.specs.declared.MapRead.TheVariants.{Whole, Refused}
+use Rattle.depot_map.specs.declared.Counts.{Counts}
 
 -- The bytes are a map, and the work area `v` holds it.
 pub record WholeMap (bytes v : List ℕ) (nodes lines : ℕ) : Type 0 where
@@ -14,11 +14,11 @@ pub record WholeMap (bytes v : List ℕ) (nodes lines : ℕ) : Type 0 where
   pub decodes : decode bytes ≡ whole map
   pub held : Holds v nodes lines map
 
-unfoldable pub MapAnswers : List ℕ → List ℕ → MapRead → Type 0
-MapAnswers bytes v (Whole nodes lines) = WholeMap bytes v nodes lines
-MapAnswers bytes v (Refused why) = decode bytes ≡ refused (refusal_of why)
+abbrev pub MapAnswers : List ℕ → List ℕ → Result Counts Refusal → Type 0
+MapAnswers bytes v (Ok n) = WholeMap bytes v n.nodes n.lines
+MapAnswers bytes v (Err why) = decode bytes ≡ refused (refusal_of why)
 
 -- The work area was `w` and is `v`: after a refusal too, only the numbers that a call uses are changed.
-pub record MapIsRead (bytes w v : List ℕ) (r : MapRead) : Type 0 where
+pub record MapIsRead (bytes w v : List ℕ) (r : Result Counts Refusal) : Type 0 where
   pub answers : MapAnswers bytes v r
   pub kept : Kept 0 work_length w v

@@ -6,8 +6,7 @@ ghost use Rattle.depot_map.specs.Part.{fault_of, FieldRead};
 use buffers::number::{Number, number_at};
 use model::Refusal;
 
-// Why a number of the map is refused: 2 to 5, or 24. It holds nothing, and so lies beside the numbers of `Got` and not under them: a loop over lines then
-// keeps its position in a register.
+// Why a number of the map is refused: 2 to 5, or 24. It holds nothing, so that a loop over lines keeps its position in a register.
 #[derive(Clone, Copy)]
 pub enum Fault {
     Number,
@@ -17,38 +16,30 @@ pub enum Fault {
     Step,
 }
 
-// The last number that was read and the position after it; or why the map is refused.
-#[derive(Clone, Copy)]
-pub enum Read {
-    Got(u32, usize),
-    Refused(Fault),
-}
+impl From<Fault> for Refusal {
+    ghost from_gives = { λ why r. refusal_of r ≡ fault_of why };
 
-// The refusal that a fault is.
-pub fn refusal_of(why: Fault) -> Refusal
-    ensures { refusal_of result ≡ fault_of why }
-{
-    match why {
-        Fault::Number => Refusal::MapNumber,
-        Fault::Count => Refusal::MapCount,
-        Fault::Coordinate => Refusal::MapCoordinate,
-        Fault::Line => Refusal::MapLine,
-        Fault::Step => Refusal::MapStep,
+    #[tactic(auto, unfolding(model::specs::Refusal::refusal_of))]
+    fn from(why: Fault) -> Refusal {
+        match why {
+            Fault::Number => Refusal::MapNumber,
+            Fault::Count => Refusal::MapCount,
+            Fault::Coordinate => Refusal::MapCoordinate,
+            Fault::Line => Refusal::MapLine,
+            Fault::Step => Refusal::MapStep,
+        }
     }
 }
 
 // The number at byte `from`, held to the range `low` to `high`, outside of which the map is refused for `why`.
-pub fn field(map: &[u8], from: usize, low: u32, high: u32, why: Fault) -> Read
+pub fn field(map: &[u8], from: usize, low: u32, high: u32, why: Fault) -> Result<Number, Fault>
     ensures { FieldRead map.now from low high why result }
 {
-    let Number::Got(x, next) = number_at(map, from) else {
-        return Read::Refused(Fault::Number);
+    let Some(x) = number_at(map, from) else {
+        return Err(Fault::Number);
     };
-    if x < low {
-        return Read::Refused(why);
+    if x.value < low || high < x.value {
+        return Err(why);
     }
-    if high < x {
-        return Read::Refused(why);
-    }
-    Read::Got(x, next)
+    Ok(x)
 }

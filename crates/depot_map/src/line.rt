@@ -6,7 +6,8 @@ ghost use Rattle.std.specs.Prelude.{◌+◌, ◌-◌, ◌≤◌, ◌<◌, length
 ghost use Rattle.model.specs.Sector.{step_added};
 ghost use Rattle.depot_map.specs.Part.{StepsRead, AttributesRead, LineRead};
 
-use crate::field::{Fault, Read, field};
+use crate::field::{Fault, field};
+use buffers::number::Number;
 use fields::sector::sector;
 use model::limits::{GREATEST_LINE_LENGTH, GREATEST_STEP, STEP_ADDED};
 use work_area::{LINE_NUMBERS, LINES};
@@ -24,78 +25,58 @@ fn both_zero(east: u32, north: u32) -> bool
     east == STEP_ADDED && north == STEP_ADDED
 }
 
-// Two steps, from byte `from` on: their sector. That both are 0 is a fault of the north step.
-fn read_steps(map: &[u8], from: usize) -> Read
+// Two steps, from byte `from` on: their sector, and the position after them. That both are 0 is a fault of the north step.
+fn read_steps(map: &[u8], from: usize) -> Result<Number, Fault>
     ensures { StepsRead map.now from result }
 {
-    let why = Fault::Step;
-    let east = field(map, from, 0, GREATEST_STEP, why);
-    let Read::Got(east_step, after_east) = east else {
-        return east;
-    };
-    let north = field(map, after_east, 0, GREATEST_STEP, why);
-    let Read::Got(north_step, after_north) = north else {
-        return north;
-    };
-    if both_zero(east_step, north_step) {
-        return Read::Refused(why);
+    let east = field(map, from, 0, GREATEST_STEP, Fault::Step)?;
+    let north = field(map, east.next, 0, GREATEST_STEP, Fault::Step)?;
+    if both_zero(east.value, north.value) {
+        return Err(Fault::Step);
     }
-    Read::Got(sector(east_step, north_step), after_north)
+    Ok(Number {
+        value: sector(east.value, north.value),
+        next: north.next,
+    })
 }
 
-// What a line has besides its ends, for the line whose numbers start at `at`.
-fn read_attributes(map: &[u8], from: usize, work: &mut [u32], at: usize) -> Read
+// What a line has besides its ends, for the line whose numbers start at `at`: the position after it.
+fn read_attributes(map: &[u8], from: usize, work: &mut [u32], at: usize) -> Result<usize, Fault>
     requires { at + line_size ≤ length work.old }
     ensures { AttributesRead map.now from at work.old work.new result }
 {
     let why = Fault::Line;
-    let len = field(map, from, 1, GREATEST_LINE_LENGTH, why);
-    let Read::Got(line_length, after_len) = len else {
-        return len;
-    };
-    let frc = field(map, after_len, 0, GREATEST_FRC, why);
-    let Read::Got(class, after_frc) = frc else {
-        return frc;
-    };
-    let fow = field(map, after_frc, 0, GREATEST_FOW, why);
-    let Read::Got(form, after_fow) = fow else {
-        return fow;
-    };
-    let out = read_steps(map, after_fow);
-    let Read::Got(sector_out, after_out) = out else {
-        return out;
-    };
-    let back = read_steps(map, after_out);
-    let Read::Got(sector_back, _) = back else {
-        return back;
-    };
-    work[at + 2] = line_length;
-    work[at + 3] = class;
-    work[at + 4] = form;
-    work[at + 5] = sector_out;
-    work[at + 6] = sector_back;
-    back
+    let len = field(map, from, 1, GREATEST_LINE_LENGTH, why)?;
+    let frc = field(map, len.next, 0, GREATEST_FRC, why)?;
+    let fow = field(map, frc.next, 0, GREATEST_FOW, why)?;
+    let out = read_steps(map, fow.next)?;
+    let back = read_steps(map, out.next)?;
+    work[at + 2] = len.value;
+    work[at + 3] = frc.value;
+    work[at + 4] = fow.value;
+    work[at + 5] = out.value;
+    work[at + 6] = back.value;
+    Ok(back.next)
 }
 
-// Line `i` of a map of so many nodes, from byte `from` on. Equal ends are a fault of the end node's number.
-pub fn read_line(map: &[u8], from: usize, work: &mut [u32], i: usize, nodes: u32) -> Read
+// Line `i` of a map of so many nodes, from byte `from` on: the position after it. Equal ends are a fault of the end node's number.
+pub fn read_line(
+    map: &[u8],
+    from: usize,
+    work: &mut [u32],
+    i: usize,
+    nodes: u32,
+) -> Result<usize, Fault>
     requires { (work_length ≤ length work.old) × (i < greatest_line_count) × (1 ≤ nodes) }
     ensures { LineRead map.now from (nodes - 1) i work.old work.new result }
 {
-    let why = Fault::Line;
-    let start = field(map, from, 0, nodes - 1, why);
-    let Read::Got(start_node, after_start) = start else {
-        return start;
-    };
-    let end = field(map, after_start, 0, nodes - 1, why);
-    let Read::Got(end_node, after_end) = end else {
-        return end;
-    };
-    if start_node == end_node {
-        return Read::Refused(why);
+    let start = field(map, from, 0, nodes - 1, Fault::Line)?;
+    let end = field(map, start.next, 0, nodes - 1, Fault::Line)?;
+    if start.value == end.value {
+        return Err(Fault::Line);
     }
     let at = LINES + LINE_NUMBERS * i;
-    work[at] = start_node;
-    work[at + 1] = end_node;
-    read_attributes(map, after_end, work, at)
+    work[at] = start.value;
+    work[at + 1] = end.value;
+    read_attributes(map, end.next, work, at)
 }

@@ -8,10 +8,11 @@ use native.Mathlib.Nat.{add-mul, mul-add, mul-le-mul}
 use lib.Dec.{ltb, leb, eqb}
 use mir.Val.{bool_byte}
 use borrow.Author.Tests.{ltb-true, ltb-false, leb-true, leb-false, le-leb, lt-leb, eq-eqb, ne_eqb}
-use Rattle.model.specs.Sector.{Direction, step_added, greatest_step, direction, turned, turned_by, quadrant, within, squared, half, sector_of}
+use Rattle.model.specs.Sector.{Direction, step_added, direction, turned, turned_by, quadrant, within, squared, half, sector_of}
 use Rattle.model.proofs.Sectors.{First, Leads, quadrant_by, north_to_east, east_to_south, south_to_west, west_to_north}
 use Rattle.model.proofs.Squares.{squared_some, square_odd, sector_by_halves}
-use Rattle.fields.specs.Sector.{gap, Squared, later_half}
+use Rattle.std.specs.Int.{abs_diff}
+use Rattle.fields.specs.Sector.{Squared, later_half}
 use Rattle.fields.specs.declared.sector.Parts.{Parts}
 
 -- ---- the parts of a direction, and of its square
@@ -22,8 +23,8 @@ real_of d = d.north + d.south
 abbrev pub imaginary_of : Direction → ℕ
 imaginary_of d = d.east + d.west
 
-real_squared : (d : Direction) → real_of (squared d) ≡ gap (real_of d * real_of d) (imaginary_of d * imaginary_of d)
-unfolding squared gap
+real_squared : (d : Direction) → real_of (squared d) ≡ abs_diff (real_of d * real_of d) (imaginary_of d * imaginary_of d)
+unfolding squared
 real_squared d = refl
 
 imaginary_squared : (d : Direction) → imaginary_of (squared d) ≡ 2 * (real_of d * imaginary_of d)
@@ -34,14 +35,9 @@ imaginary_squared d =
     let lower = mul-add d.south d.east d.west in
     omega (arith, outer, upper, lower)
 
--- No part of steps is over 250, and none of their square over 125,000.
-pub gap_small : (x : ℕ) → x ≤ greatest_step → gap x step_added ≤ step_added
-unfolding gap
-gap_small x h = omega arith
-
+-- No part of the square of steps is over 125,000.
 pub square_small : {real imaginary : ℕ} {r : Parts} → real ≤ step_added → imaginary ≤ step_added → Squared real imaginary r →
     (r.real ≤ 125_000) × (r.imaginary ≤ 125_000)
-unfolding gap
 square_small a b s =
     let product = mul-le-mul a b in
     let real-square = mul-le-mul a a in
@@ -125,7 +121,7 @@ square_half : (d : Direction) {real imaginary h : ℕ} {r : Parts} → Leads d �
     Squared real imaginary r → (real_of (squared d) ≡ r.real) × (imaginary_of (squared d) ≡ r.imaginary) ×
     (half (within (squared d)) ≡ later_half h r.real r.imaginary)
 square_half d {h = h} {r = r} t real= imaginary= half= s =
-    let real : real_of (squared d) ≡ r.real = real_squared d ∙ ap₂ (λ x y. gap (x * x) (y * y)) real= imaginary= ∙ sym s.real_part in
+    let real : real_of (squared d) ≡ r.real = real_squared d ∙ ap₂ (λ x y. abs_diff (x * x) (y * y)) real= imaginary= ∙ sym s.real_part in
     let imaginary : imaginary_of (squared d) ≡ r.imaginary =
     imaginary_squared d ∙ ap₂ (λ x y. 2 * (x * y)) real= imaginary= ∙ sym s.imaginary_part
     in (

@@ -1,11 +1,9 @@
 -- The greatest length of a leg whose byte D is at most some number.
-use Rattle.std.specs.Prelude.{ℕ, ◌≤◌, length}
+use Rattle.std.specs.Prelude.{ℕ, ◌≤◌, Option, Some, None}
 use Rattle.model.specs.Field.{distance}
 use Rattle.model.specs.Reading.{greatest_leg_length}
 use Rattle.model.specs.Lines.{LineAttributes}
 use Rattle.fields.specs.declared.leg.Attributes.{Attributes}
-use Rattle.fields.specs.declared.leg.Arrival.{Arrival}
-use Rattle.fields.specs.declared.leg.Arrival.TheVariants.{Any, Matching}
 use Rattle.fields.specs.declared.leg.Leg.{Leg}
 use Rattle.model.specs.Reading as definitions
 
@@ -19,9 +17,9 @@ pub record LongestLeg (d r : ℕ) : Type 0 where
 unfoldable pub attributes_in : Attributes → LineAttributes
 attributes_in a = record { frc = a.frc; fow = a.fow; sector = a.sector }
 
-unfoldable pub arrival_in : Arrival → definitions.Arrival
-arrival_in Any = definitions.any
-arrival_in (Matching a) = definitions.matching (attributes_in a)
+unfoldable pub arrival_in : Option Attributes → definitions.Arrival
+arrival_in None = definitions.any
+arrival_in (Some a) = definitions.matching (attributes_in a)
 
 unfoldable pub leg_in : Leg → definitions.Leg
 leg_in leg =

@@ -1,14 +1,11 @@
 -- A direction as the code has it: a complex number, by the sizes of its parts.
-use Rattle.std.specs.Prelude.{ℕ, ◌+◌, ◌*◌, ◌-◌, ◌≡◌, cond, ltb, eqb}
+use Rattle.std.specs.Prelude.{ℕ, ◌*◌, ◌≡◌, cond, ltb, eqb}
+use Rattle.std.specs.Int.{abs_diff}
 use Rattle.fields.specs.declared.sector.Parts.{Parts}
-
--- How far two numbers are apart: one of the two differences is 0.
-unfoldable pub gap : ℕ → ℕ → ℕ
-gap a b = a - b + (b - a)
 
 -- The sizes of the parts of a square.
 pub record Squared (real imaginary : ℕ) (r : Parts) : Type 0 where
-  pub real_part : r.real ≡ gap (real * real) (imaginary * imaginary)
+  pub real_part : r.real ≡ abs_diff (real * real) (imaginary * imaginary)
   pub imaginary_part : r.imaginary ≡ 2 * (real * imaginary)
 
 -- In which half of its quadrant a direction is, 0 or 1, where that is an odd one, and where it is not.

@@ -15,6 +15,7 @@ const CIRCLE: u32 = 36_000_000;
 const LATITUDE_ADDED: u32 = 9_000_000;
 
 // The code of a coordinate that is not negative: c × 16,777,216 ÷ 36,000,000 and a half, with both sides of the division doubled.
+#[tactic(auto, unfolding(model::specs::Field::code_size))]
 fn code_size(c: u64) -> u64
     requires { c < 4_294_967_296 }
     ensures { result ≡ code_size c }
@@ -23,6 +24,7 @@ fn code_size(c: u64) -> u64
 }
 
 // The code of a stored coordinate, as 24 bits. A negative coordinate is rounded by its size, and then negated.
+#[tactic(auto, unfolding(model::specs::Field::code, model::specs::Field::code_size))]
 fn code(half: u32, c: u32) -> u32
     requires { half ≤ 18_000_000 }
     ensures { result ≡ code half c }
@@ -35,6 +37,7 @@ fn code(half: u32, c: u32) -> u32
 }
 
 // The longitude code of each node with this stored longitude.
+#[tactic(auto, unfolding(model::specs::Map::lon_code))]
 pub fn longitude_code(lon: u32) -> u32
     ensures { (a : Node) → a.lon ≡ lon → result ≡ lon_code a }
 {
@@ -42,35 +45,29 @@ pub fn longitude_code(lon: u32) -> u32
 }
 
 // The latitude code of each node with this stored latitude.
+#[tactic(auto, unfolding(model::specs::Map::lat_code))]
 pub fn latitude_code(lat: u32) -> u32
     ensures { (a : Node) → a.lat ≡ lat → result ≡ lat_code a }
 {
     code(LATITUDE_ADDED, lat)
 }
 
-// A difference as 16 bits, or none where it does not fit them.
-#[derive(Clone, Copy)]
-pub enum Difference16 {
-    Fits(u32),
-    TooFar,
-}
-
-// The difference from one stored coordinate to another. Sums are in 64 bits, so that every pair of numbers is taken.
-pub fn difference(from: u32, to: u32) -> Difference16
+// The difference from one stored coordinate to another as 16 bits, or none where it does not fit them. Sums are in 64 bits, so that every pair of numbers
+// is taken.
+#[tactic(auto, unfolding(model::specs::Difference::difference))]
+pub fn difference(from: u32, to: u32) -> Option<u32>
     ensures { DifferenceIs from to result }
 {
     let a = from as u64;
     let b = to as u64;
-    if b + 32_768 < a {
-        return Difference16::TooFar;
+    if b + 32_768 < a || a + 32_767 < b {
+        return None;
     }
-    if a + 32_767 < b {
-        return Difference16::TooFar;
-    }
-    Difference16::Fits(((b + 65_536 - a) % 65_536) as u32)
+    Some(((b + 65_536 - a) % 65_536) as u32)
 }
 
 // The difference from one longitude to another, brought round. It is held as a longitude is stored: `LONGITUDE_ADDED` stands for no difference.
+#[tactic(auto, unfolding(model::specs::Difference::lon_difference, model::specs::Difference::brought))]
 pub fn longitude_difference(from: u32, to: u32) -> u32
     requires { (from < circle) × (to < circle) }
     ensures { result ≡ lon_difference from to }
@@ -79,6 +76,7 @@ pub fn longitude_difference(from: u32, to: u32) -> u32
 }
 
 // The longitude `from` plus the difference `by` of 16 bits, which is negative from 32,768 on. The sum is brought round.
+#[tactic(auto, unfolding(model::specs::Difference::lon_sum, model::specs::Difference::brought, model::specs::Difference::signed))]
 pub fn longitude_sum(from: u32, by: u32) -> u32
     ensures { result ≡ lon_sum from (signed by) }
 {
@@ -90,6 +88,7 @@ pub fn longitude_sum(from: u32, by: u32) -> u32
 }
 
 // Whether `to` is `from` plus the difference `by`, which is negative from 32,768 on.
+#[tactic(auto, unfolding(model::specs::Difference::moved))]
 pub fn moved(from: u32, by: u32, to: u32) -> bool
     ensures { result ≡ moved from by to }
 {

@@ -6,6 +6,7 @@ ghost use Rattle.fields.specs.Leg.{LongestLeg};
 use model::limits::{DISTANCE_STEP, GREATEST_LEG_LENGTH};
 
 // Byte D of a length in centimetres.
+#[tactic(auto, unfolding(model::specs::Field::distance))]
 pub fn distance(length: u32) -> u32
     ensures { result ≡ distance length }
 {
@@ -13,6 +14,7 @@ pub fn distance(length: u32) -> u32
 }
 
 // The greatest length of a leg whose byte D is at most `d`.
+#[tactic(auto, unfolding(model::specs::Field::distance))]
 pub fn longest_leg(d: u32) -> u32
     ensures { LongestLeg d result }
 {
@@ -30,14 +32,7 @@ pub struct Attributes {
     pub sector: u32,
 }
 
-// How a leg must end: with any line, or, on the last leg, with a line of these attributes.
-#[derive(Clone, Copy)]
-pub enum Arrival {
-    Any,
-    Matching(Attributes),
-}
-
-// A leg between two nodes, as the bytes give it.
+// A leg between two nodes, as the bytes give it. The last one ends with a line of these attributes, each other with any line.
 #[derive(Clone, Copy)]
 pub struct Leg {
     pub from: usize,
@@ -45,7 +40,7 @@ pub struct Leg {
     pub leaves: Attributes,
     pub lowest: u32,
     pub distance: u32,
-    pub arrival: Arrival,
+    pub arrival: Option<Attributes>,
 }
 
 // A reading by its first and last line, its length and its count of lines.

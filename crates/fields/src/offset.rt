@@ -11,6 +11,7 @@ const HALF_STEPS: u64 = 2 * OFFSET_STEPS;
 
 // The byte of an offset that lies on its leg: 256 × offset ÷ leg and a half, with both sides of the division doubled. That may be 256, for which 255 is
 // written. 512 times the offset may take more than 32 bits.
+#[tactic(auto, unfolding(model::specs::Field::nearest_step, model::specs::Field::offset_byte))]
 pub fn offset_byte(leg: u32, offset: u32) -> u32
     requires { offset < leg }
     ensures { (result ≡ offset_byte leg offset) × (result < 256) }
@@ -22,49 +23,36 @@ pub fn offset_byte(leg: u32, offset: u32) -> u32
     nearest as u32
 }
 
-// The offsets that give a byte: from the least to the greatest of a span, or none.
-#[derive(Clone, Copy)]
-pub enum Offsets {
-    Between(Span),
-    Nowhere,
-}
-
 // The least offset from 1 on whose byte is at least `byte`: half way before `byte` 256ths of the leg, which are `own` 512ths of a centimetre, rounded up.
+// It is the leg's length where there is none.
+#[tactic(auto, using(crate::proofs::Offsets::half_before, crate::proofs::Offsets::before_within, crate::proofs::Offsets::none_from))]
 fn first_offset(leg: u32, byte: u32, own: u64) -> u32
-    requires { (byte ≤ greatest_offset_byte) × (own ≡ 2 * byte * leg) }
-    ensures { FirstOffset leg byte result }
+    requires { (byte ≤ greatest_offset_byte + 1) × (own ≡ 2 * byte * leg) }
+    ensures { FirstOffset leg byte result × (0 < byte → result ≤ leg) }
 {
     if byte == 0 {
         return 1;
     }
+    if byte > GREATEST_OFFSET_BYTE {
+        return leg;
+    }
     ((own - leg as u64 + (HALF_STEPS - 1)) / HALF_STEPS) as u32
 }
 
-// The least offset whose byte is greater than `byte`, half way past it, or the leg's length where there is none.
-fn first_past(leg: u32, byte: u32, own: u64) -> u32
-    requires { (byte ≤ greatest_offset_byte) × (own ≡ 2 * byte * leg) }
-    ensures { FirstOffset leg (byte + 1) result × (result ≤ leg) }
-{
-    if byte == GREATEST_OFFSET_BYTE {
-        return leg;
-    }
-    ((own + leg as u64 + (HALF_STEPS - 1)) / HALF_STEPS) as u32
-}
-
-// The offsets from 1 to below the leg's length that give the byte. They end where those of a greater byte start.
-pub fn span_of(leg: u32, byte: u32) -> Offsets
+// The offsets from 1 to below the leg's length that give the byte, if any. They end where those of a greater byte start.
+pub fn span_of(leg: u32, byte: u32) -> Option<Span>
     ensures { OffsetsOf leg byte result }
 {
     if GREATEST_OFFSET_BYTE < byte {
-        return Offsets::Nowhere;
+        return None;
     }
     let own = (2 * byte) as u64 * leg as u64;
     let first = first_offset(leg, byte, own);
-    let next = first_past(leg, byte, own);
+    let next = first_offset(leg, byte + 1, own + 2 * leg as u64);
     if next <= first {
-        return Offsets::Nowhere;
+        return None;
     }
-    Offsets::Between(Span {
+    Some(Span {
         least: first,
         greatest: next - 1,
     })

@@ -6,46 +6,42 @@ ghost use Rattle.model.specs.Work.{placed};
 ghost use Rattle.model.specs.Front.{front_bytes, same_map};
 ghost use Rattle.front.specs.Front.{FrontIs, FrontPut};
 
-use buffers::bytes::copy;
-use buffers::lesser;
-use buffers::number::{Number, number_at, put_number};
+use buffers::copy;
+use buffers::number::{number_at, put_number};
 use map_sum::map_sum;
 
 // Two numbers of at most five bytes.
 const MOST_BYTES: usize = 10;
 
-// What stands at the start of a message: a count, a sum, and where the bytes behind them start; or it cannot be read.
+// What stands at the start of a message: a count, a sum, and where the bytes behind them start.
 #[derive(Clone, Copy)]
-pub enum Front {
-    Read(u32, u32, usize),
-    Unreadable,
+pub struct Front {
+    pub count: u32,
+    pub sum: u32,
+    pub behind: usize,
 }
 
-// The front of a message.
-pub fn read_front(message: &[u8]) -> Front
+// The front of a message, if it can be read.
+pub fn read_front(message: &[u8]) -> Option<Front>
     ensures { FrontIs message.now result }
 {
-    let Number::Got(count, after) = number_at(message, 0) else {
-        return Front::Unreadable;
-    };
-    let Number::Got(sum, behind) = number_at(message, after) else {
-        return Front::Unreadable;
-    };
-    Front::Read(count, sum, lesser(behind, message.len()))
+    let count = number_at(message, 0)?;
+    let sum = number_at(message, count.next)?;
+    Some(Front {
+        count: count.value,
+        sum: sum.value,
+        behind: sum.next.min(message.len()),
+    })
 }
 
 // Whether a message's front is that of a map.
 pub fn same_map(map: &[u8], message: &[u8]) -> bool
     ensures { result ≡ same_map map.now message.now }
 {
-    let Front::Read(count, sum, _) = read_front(message) else {
+    let Some(front) = read_front(message) else {
         return false;
     };
-    if count as usize != map.len() {
-        return false;
-    }
-    let expected = map_sum(map);
-    sum == expected
+    front.count as usize == map.len() && front.sum == map_sum(map)
 }
 
 // Puts the front of a map at the start of `made`. The answer is how many bytes it has.
@@ -58,23 +54,16 @@ fn make_front(map: &[u8], made: &mut [u8]) -> usize
     count + put_number(&mut made[count..], sum)
 }
 
-// What putting a front comes to: how many bytes it has, or that it is longer than the buffer.
-#[derive(Clone, Copy)]
-pub enum Put {
-    Bytes(usize),
-    NoRoom,
-}
-
-// Puts the front of a map at the start of a buffer, if it fits.
-pub fn put_front(map: &[u8], buffer: &mut [u8]) -> Put
+// Puts the front of a map at the start of a buffer, if it fits: how many bytes it has.
+pub fn put_front(map: &[u8], buffer: &mut [u8]) -> Option<usize>
     requires { length map.now < 2 ^ 32 }
     ensures { FrontPut map.now buffer.old buffer.new result }
 {
-    let mut made = [0u8; MOST_BYTES];
+    let mut made = [0; MOST_BYTES];
     let count = make_front(map, &mut made);
     if buffer.len() < count {
-        return Put::NoRoom;
+        return None;
     }
     copy(&made[..count], buffer);
-    Put::Bytes(count)
+    Some(count)
 }

@@ -1,21 +1,19 @@
 -- Sole ways and readings: a leg that may be used is a sole way, and a sole way whose first line is alone is the only reading to its own terminus.
-use Prim.Native.Nat.{ℕ, ◌-◌, ◌≤◌, ◌<◌}
+use Prim.Native.Nat.{ℕ, ◌≤◌, ◌<◌}
 use mathlib.Core.Path.{◌≡◌, refl, sym, ◌∙◌, ap, subst}
-use mathlib.Core.Bool.{Bool}
 use mathlib.Core.List.{List}
 use native.Mathlib.Decide.{dec_lt}
 use native.Mathlib.Omega.{arith}
 use lib.ListN.{length, get_or}
 use lib.Seq.{slice}
-use lib.Dec.{eqb}
 use Rattle.model.specs.Map.{Map}
 use Rattle.model.specs.Field.{distance}
-use Rattle.model.specs.Lines.{line_at, Connected, total, lowest, first_of, last_of, leaving}
+use Rattle.model.specs.Lines.{line_at, total, lowest, first_of, last_of, leaving}
 use Rattle.model.specs.Reading.{Leg, Allowed, SameEnds, Reading}
-use Rattle.model.specs.Choice.{leg_of, from_node, good}
+use Rattle.model.specs.Choice.{leg_of, good}
 use Rattle.way_lengths.specs.declared.Terminus.{Terminus}
 use Rattle.way_lengths.specs.Ways.{line, Ends, Way}
-use Rattle.legs.specs.Verdict.{TerminusOf, ReadingTo}
+use Rattle.legs.specs.Verdict.{TerminusOf}
 use Rattle.legs.proofs.Readings.{EndOf, end_of}
 use Rattle.point_choice.specs.Cuts.{Tested}
 use Rattle.sole_ways.specs.SoleWays.{Marks, SoleWay, SoleLeg}

@@ -1,22 +1,22 @@
 -- Sole ways of the map turned round twice are those of the map; and the rows' numbers with the columns' are those of the legs tested good.
 use Prim.Native.Nat.{ℕ, ◌-◌, ◌≤◌, ◌<◌}
-use mathlib.Core.Path.{◌≡◌, refl, sym, ◌∙◌, ap, subst}
-use mathlib.Core.Bool.{Bool, true, false, cond}
+use mathlib.Core.Path.{◌≡◌, ap, subst}
+use mathlib.Core.Bool.{cond}
 use mathlib.Core.List.{List}
 use native.Mathlib.Omega.{arith}
 use lib.ListN.{length, get_or}
 use lib.Seq.{slice, length-slice}
 use lib.Dec.{eqb}
 use Rattle.model.specs.Map.{Line, Map}
-use Rattle.model.specs.Lines.{line_at, total, lowest, first_of}
+use Rattle.model.specs.Lines.{lowest}
 use Rattle.model.specs.Choice.{good}
-use Rattle.model.specs.LegTests.{turn, tested_good}
+use Rattle.model.specs.LegTests.{tested_good}
 use Rattle.work_area.specs.Mirror.{mirror}
 use Rattle.way_lengths.specs.declared.Terminus.{Terminus}
 use Rattle.way_lengths.specs.Ways.{line, node}
 use Rattle.turning.proofs.Straight.{Alike, mirrored_twice, alike_back, line_alike, total_alike, lowest_alike, way_alike}
 use Rattle.point_choice.specs.Cuts.{Tested}
-use Rattle.sole_ways.specs.SoleWays.{mark, Marks, SoleUnder, SoleWay, own_end, SoleLeg, Asked, RowsTested}
+use Rattle.sole_ways.specs.SoleWays.{mark, Marks, SoleUnder, own_end, SoleLeg, Asked, RowsTested}
 use Rattle.sole_ways.proofs.Marks.{marks_both, mark_sound, mark_complete}
 use Rattle.leg_tests.specs.LegTests.{Sifted}
 

@@ -100,16 +100,16 @@ ends_there m l e = sym (ap (λ (x : Line). x.start) (line_mirrored m l)) ∙ e
 
 -- ---- the columns
 
--- The columns up to position `j` are tested, and the others are as they were.
+-- The columns before position `j` are tested, and the others are as they were.
 pub record Columns (m : Map) (lines : ℕ) (s : List ℕ) (a b w v : List ℕ) (j : ℕ) : Type 0 where
-  pub tested : (i k : ℕ) → i < k → k ≤ j → Sifted (Tested (good m) s i k) (mark a i k) (mark b i k)
-  pub rest : (i k : ℕ) → i < k → j < k → k ≤ length s → mark b i k ≡ mark a i k
+  pub tested : (i k : ℕ) → i < k → k < j → Sifted (Tested (good m) s i k) (mark a i k) (mark b i k)
+  pub rest : (i k : ℕ) → i < k → j ≤ k → k ≤ length s → mark b i k ≡ mark a i k
   pub noted : Noted m lines s b
   pub kept : Kept 0 (65 * length s) a b
   pub worked : Worked m lines w v
 
 module _ {m : Map} {lines : ℕ} {s : List ℕ} {a w : List ℕ} where
-  pub columns_start : Noted m lines s a → Set m lines w → Columns m lines s a a w w 0
+  pub columns_start : Noted m lines s a → Set m lines w → Columns m lines s a a w w 1
   columns_start noted set =
       record {
         tested = λ i k h l. absurd (omega arith);
@@ -120,30 +120,30 @@ module _ {m : Map} {lines : ℕ} {s : List ℕ} {a w : List ℕ} where
       }
 
   -- The next column has sole ways only.
-  pub columns_sole : {b v : List ℕ} {j : ℕ} → j < length s → SoleLegs m s a → Columns m lines s a b w v j → SoleColumn m s (j + 1) b
-  columns_sole {j = j} room sole k i h one = sole i (j + 1) h (omega arith) (sym (k.rest i (j + 1) h (omega arith) (omega arith)) ∙ one)
+  pub columns_sole : {b v : List ℕ} {j : ℕ} → j ≤ length s → SoleLegs m s a → Columns m lines s a b w v j → SoleColumn m s j b
+  columns_sole {j = j} room sole k i h one = sole i j h room (sym (k.rest i j h (omega arith) room) ∙ one)
 
-  pub columns_on : {b c v u : List ℕ} {j : ℕ} → length s ≤ 64 → j < length s → Columns m lines s a b w v j → ColumnTested m lines s (j + 1) b c v u →
+  pub columns_on : {b c v u : List ℕ} {j : ℕ} → length s ≤ 64 → 0 < j → j ≤ length s → Columns m lines s a b w v j → ColumnTested m lines s j b c v u →
       Columns m lines s a c w u (j + 1)
-  columns_on {b} {c} {j = j} few room k column =
+  columns_on {b} {c} {j = j} few some room k column =
       record {
-        tested = λ i q h l. tested i q h l (dec_lt q (j + 1));
+        tested = λ i q h l. tested i q h l (dec_lt q j);
         rest = λ i q h l u. column.kept.others i q (omega arith) (λ e. omega arith) ∙ k.rest i q h (omega arith) u;
         noted = noted_kept m lines s (omega arith) column.kept k.noted;
         kept = kept_then k.kept (kept_within (omega arith) (omega arith) column.kept.kept);
         worked = worked_then k.worked column.worked;
       }
     where
-      tested : (i q : ℕ) → i < q → q ≤ j + 1 → Dec (q < j + 1) → Sifted (Tested (good m) s i q) (mark a i q) (mark c i q)
+      tested : (i q : ℕ) → i < q → q < j + 1 → Dec (q < j) → Sifted (Tested (good m) s i q) (mark a i q) (mark c i q)
       tested i q h l (yes earlier) =
           subst (Sifted (Tested (good m) s i q) (mark a i q)) (sym (column.kept.others i q (omega arith) (λ e. omega arith))) (k.tested i q h (omega arith))
       tested i q h l (no here) =
-          let e : q ≡ j + 1 = omega arith in
+          let e : q ≡ j = omega arith in
           subst (λ (x : ℕ). Sifted (Tested (good m) s i x) (mark a i x) (mark c i x)) (sym e)
-          (subst (λ (y : ℕ). Sifted (Tested (good m) s i (j + 1)) y (mark c i (j + 1))) (k.rest i (j + 1) (omega arith) (omega arith) (omega arith))
+          (subst (λ (y : ℕ). Sifted (Tested (good m) s i j) y (mark c i j)) (k.rest i j (omega arith) (omega arith) (omega arith))
           (column.tested i (omega arith)))
 
-  pub columns_end : {b v : List ℕ} {j : ℕ} → length s ≤ j → Columns m lines s a b w v j → LegsSifted m lines s a b w v
+  pub columns_end : {b v : List ℕ} {j : ℕ} → length s < j → Columns m lines s a b w v j → LegsSifted m lines s a b w v
   columns_end h k = record { tested = λ i q before l. k.tested i q before (omega arith); kept = k.kept; worked = k.worked }
 
 -- What was said after the notes is said of the table before them.

@@ -1,5 +1,5 @@
 -- The lists of the lines that arrive at the nodes of a stretch while they are made.
-use Rattle.std.specs.Prelude.{ℕ, ◌+◌, ◌-◌, ◌≤◌, ◌<◌, ◌≡◌, List, length, get_or}
+use Rattle.std.specs.Prelude.{ℕ, ◌+◌, ◌-◌, ◌≤◌, ◌<◌, ◌≡◌, List, get_or}
 use Rattle.model.specs.Map.{Map}
 use Rattle.model.specs.Lines.{line_at}
 use Rattle.work_area.specs.Mirror.{mirror}

@@ -18,11 +18,9 @@ pub fn list_firsts(work: &[u32], lines: usize, stretch: &[u32], arrivals: &mut [
     ensures { (m : Map) → Set m lines work.now
         → Firsts m lines stretch.now (length stretch.now) arrivals.old arrivals.new }
 {
-    let mut j: usize = 0;
-    while j < stretch.len() {
+    for j in 0..stretch.len() {
         let v = node_of(work, lines, stretch, j, END);
-        j += 1;
-        arrivals[j] = first_leaving(work, lines, v) as u32;
+        arrivals[j + 1] = first_leaving(work, lines, v) as u32;
     }
 }
 
@@ -32,9 +30,7 @@ pub fn list_nexts(work: &[u32], lines: usize, arrivals: &mut [u32])
     requires set { (m : Map) × Set m lines work.now }
     ensures { (m : Map) → Set m lines work.now → Nexts m lines lines arrivals.old arrivals.new }
 {
-    let mut l: usize = 0;
-    while l < lines {
-        l += 1;
-        arrivals[ARRIVALS + (l - 1)] = next_leaving(work, lines, l) as u32;
+    for l in 0..lines {
+        arrivals[ARRIVALS + l] = next_leaving(work, lines, l + 1) as u32;
     }
 }

@@ -21,12 +21,10 @@ pub fn list_leaving(work: &mut [u32], lines: usize)
     ensures { (m : Map) → Set m lines work.old → Listed m lines lines work.old work.new }
 {
     fill(work, FIRSTS, NODES, 0);
-    let mut l: usize = 0;
-    while l < lines {
+    for l in 0..lines {
         let v = wide(field(work, l, START));
         work[NEXTS + l] = work[FIRSTS + v];
         work[FIRSTS + v] = (l + 1) as u32;
-        l += 1;
     }
 }
 

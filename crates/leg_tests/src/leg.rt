@@ -12,8 +12,8 @@ ghost use Rattle.fields.specs.Leg.{arrival_in, leg_in};
 ghost use Rattle.stretches.specs.Stretch.{Known};
 ghost use Rattle.leg_tests.specs.LegTests.{leg_from, Fits, Measured};
 
-use fields::coordinate::{Difference16, LONGITUDE_ADDED, difference, longitude_difference};
-use fields::leg::{Arrival, Leg, distance};
+use fields::coordinate::{LONGITUDE_ADDED, difference, longitude_difference};
+use fields::leg::{Attributes, Leg, distance};
 use stretches::lines::{attributes_of, coordinate, node_of};
 use work_area::{END, SECTOR_BACK, SECTOR_OUT, START};
 
@@ -21,10 +21,7 @@ use work_area::{END, SECTOR_BACK, SECTOR_OUT, START};
 fn near(from: u32, to: u32) -> bool
     ensures { Decides (Near from to) result }
 {
-    match difference(from, to) {
-        Difference16::Fits(_) => true,
-        Difference16::TooFar => false,
-    }
+    difference(from, to).is_some()
 }
 
 // Whether the differences between two nodes fit, that of their longitudes brought round.
@@ -58,16 +55,16 @@ pub fn leg_fits(work: &[u32], lines: usize, stretch: &[u32], i: usize, j: usize)
 }
 
 // How the leg to position `j` ends: with any line, or, on the last leg, as its last line does.
-fn arrival_to(work: &[u32], lines: usize, stretch: &[u32], j: usize) -> Arrival
+fn arrival_to(work: &[u32], lines: usize, stretch: &[u32], j: usize) -> Option<Attributes>
     requires known { Known lines stretch.now × (0 < j) × (j ≤ length stretch.now) }
     requires held { (m : Map) × Held work.now lines m }
     ensures { (m : Map) → Held work.now lines m
         → arrival_in result ≡ cond (eqb j (length stretch.now)) (matching (arriving m (get_or stretch.now (j - 1) 0))) any }
 {
     if j < stretch.len() {
-        return Arrival::Any;
+        return None;
     }
-    Arrival::Matching(attributes_of(work, lines, stretch, j - 1, SECTOR_BACK))
+    Some(attributes_of(work, lines, stretch, j - 1, SECTOR_BACK))
 }
 
 // The leg from position `i` to position `j`, of this lowest class and length, as its bytes will say.

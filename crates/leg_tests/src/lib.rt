@@ -46,10 +46,8 @@ fn note_alone(work: &[u32], lines: usize, stretch: &[u32], table: &mut [u8])
     ensures noted { (m : Map) → Held work.now lines m → Leaving m lines work.now
         → Noted m lines stretch.now table.new }
 {
-    let mut i: usize = 0;
-    while i < stretch.len() {
+    for i in 0..stretch.len() {
         table[POSITIONS * i] = alone_mark(work, lines, stretch, i);
-        i += 1;
     }
 }
 
@@ -101,9 +99,7 @@ fn sift_legs(work: &mut [u32], lines: usize, stretch: &[u32], table: &mut [u8])
 {
     list_leaving(work, lines);
     note_alone(work, lines, stretch, table);
-    let mut j: usize = 0;
-    while j < stretch.len() {
-        j += 1;
+    for j in 1..stretch.len() + 1 {
         test_to(work, lines, stretch, j, table);
     }
 }

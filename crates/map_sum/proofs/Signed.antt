@@ -4,11 +4,10 @@ use mathlib.Core.Path.{◌≡◌, refl, sym, ◌∙◌, ap}
 use mathlib.Core.Bool.{Bool, true, false, cond}
 use native.Mathlib.Nat.{mul-add, mul-le-mul}
 use native.Mathlib.Omega.{arith}
-use lib.Dec.{T, ltb}
+use lib.Dec.{ltb}
 use lib.IntN.{ℤ, pos, negsuc, sub_ℕ, neg_ℤ, nat_abs, ◌+ℤ◌, ◌*ℤ◌}
-use lib.Signed.{non_neg}
 use borrow.Author.Tests.{ltb-true, ltb-false}
-use mir.Syntax.{w16, w32, w64}
+use mir.Syntax.{w16, w32}
 use mir.Val.{SFits}
 
 -- `z` is `a` less `d`.
@@ -72,22 +71,10 @@ abs_times b z m n h k =
 pub net_pos : (n : ℕ) → Net (pos n) n 0
 net_pos n = omega arith
 
-pub not_below : (z : ℤ) (a d : ℕ) → Net z a d → d ≤ a → T (non_neg z)
-not_below (pos n) a d h k = tt
-not_below (negsuc n) a d h k = absurd (omega arith)
-
-pub its_size : (z : ℤ) → T (non_neg z) → pos (nat_abs z) ≡ z
-its_size (pos n) h = refl
-its_size (negsuc n) h = absurd h
-
 -- A number far within the range fits.
 pub fits32 : (z : ℤ) → nat_abs z ≤ 2_147_483_647 → SFits w32 z
 fits32 (pos n) h = record { sfits = omega arith }
 fits32 (negsuc n) h = record { sfits = omega arith }
-
-pub fits64 : (z : ℤ) → nat_abs z ≤ 9_223_372_036_854_775_807 → SFits w64 z
-fits64 (pos n) h = record { sfits = omega arith }
-fits64 (negsuc n) h = record { sfits = omega arith }
 
 pub abs16 : (z : ℤ) → SFits w16 z → nat_abs z ≤ 32_768
 abs16 (pos n) h = omega (arith, h.sfits)

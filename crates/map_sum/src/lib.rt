@@ -6,7 +6,6 @@ ghost use Rattle.model.specs.Front.{sum_modulus, summed, map_sum};
 ghost use Rattle.map_sum.specs.Blocks.{dot, powers, low_weights, high_weights};
 
 use crate::weights::{BLOCK, HIGH, LOW};
-use buffers::bytes::wide;
 
 mod weights;
 
@@ -25,7 +24,7 @@ fn weighed(sum: i32, byte: u8, weight: i16) -> i32
     requires { nat_abs sum ≤ 526_417_920 }
     ensures { (result ≡ sum +ℤ pos byte *ℤ weight) × (nat_abs result ≤ nat_abs sum + 8_355_840) }
 {
-    sum + byte as i32 * weight as i32
+    sum + i32::from(byte) * i32::from(weight)
 }
 
 // A block's sum out of those by the two parts of the weights, and a multiple of the modulus so that it is not negative.
@@ -33,7 +32,7 @@ fn joined(high: i32, low: i32) -> u64
     requires { (nat_abs high ≤ 534_773_760) × (nat_abs low ≤ 534_773_760) }
     ensures { (pos result ≡ pos 65_536 *ℤ high +ℤ low +ℤ pos 35_184_372_047_872) × (result < 2 ^ 47) }
 {
-    (65_536 * high as i64 + low as i64 + ABOVE) as u64
+    (65_536 * i64::from(high) + i64::from(low) + ABOVE) as u64
 }
 
 // The sum of the block that starts at byte `at`, up to a multiple of the modulus.
@@ -44,11 +43,9 @@ fn block_sum(map: &[u8], at: usize, low: &[i16; BLOCK], high: &[i16; BLOCK]) -> 
 {
     let mut low_sum: i32 = 0;
     let mut high_sum: i32 = 0;
-    let mut i: usize = 0;
-    while i < BLOCK {
+    for i in 0..BLOCK {
         low_sum = weighed(low_sum, map[at + i], low[i]);
         high_sum = weighed(high_sum, map[at + i], high[i]);
-        i += 1;
     }
     joined(high_sum, low_sum)
 }
@@ -59,10 +56,8 @@ fn rest_sum(map: &[u8], from: usize, start: u64) -> u32
     ensures { result ≡ summed start (drop from map.now) }
 {
     let mut sum = start;
-    let mut i = from;
-    while i < map.len() {
-        sum = (sum * SUM_FACTOR + wide(map[i]) as u64) % SUM_MODULUS;
-        i += 1;
+    for byte in &map[from..] {
+        sum = (sum * SUM_FACTOR + u64::from(*byte)) % SUM_MODULUS;
     }
     sum as u32
 }
@@ -74,10 +69,9 @@ pub fn map_sum(map: &[u8]) -> u32
     let low = LOW;
     let high = HIGH;
     let mut sum: u64 = 0;
-    let mut at: usize = 0;
-    while BLOCK <= map.len() - at {
-        sum = (sum * BLOCK_FACTOR + block_sum(map, at, &low, &high)) % SUM_MODULUS;
-        at += BLOCK;
+    let blocks = map.len() / BLOCK;
+    for i in 0..blocks {
+        sum = (sum * BLOCK_FACTOR + block_sum(map, i * BLOCK, &low, &high)) % SUM_MODULUS;
     }
-    rest_sum(map, at, sum)
+    rest_sum(map, blocks * BLOCK, sum)
 }

@@ -9,8 +9,8 @@ use lib.Seq.{take-append-le, drop-append-le}
 use lib.Dec.{leb, eqb}
 use Rattle.model.specs.declared.Message.{Message}
 use Rattle.model.specs.declared.Message.TheVariants.{Closed, Open}
-use Rattle.model.specs.declared.MessageAnswer.{MessageAnswer}
-use Rattle.model.specs.declared.MessageAnswer.TheVariants.{Now}
+use Rattle.model.specs.Answer.{MessageAnswer}
+use Rattle.std.specs.Prelude.{Ok, Err}
 use Rattle.model.specs.Refusal.{Refused, row}
 use Rattle.model.specs.Work.{work_length, cleared}
 use Rattle.model.specs.Front.{front_bytes}
@@ -22,14 +22,13 @@ use Rattle.model.specs.HostMessage.{HostMessage, message_of, host_message, host_
 use Rattle.model.proofs.Rows.{From, at, opens_rows}
 use Rattle.message_laws.proofs.Parts.{placed_in}
 use Rattle.message_laws.proofs.Histories.{message_histories}
-use Rattle.model.specs.declared.MessageAnswer.TheVariants as Answer
 
 -- The message that a host means after a call is the one that the call leaves.
 meant : (given : HostMessage) (a : MessageAnswer) → message_of (host_message given a) ≡ stays (message_of given) a
 unfolding message_of host_message
-meant given (Now (Closed finished)) = refl
-meant given (Now (Open finished count)) = refl
-meant given (Answer.Refused why) = refl
+meant given (Ok (Closed finished)) = refl
+meant given (Ok (Open finished count)) = refl
+meant given (Err why) = refl
 
 -- A host's call, and what it is to the definitions.
 record Means (given : HostMessage) (buffer : List ℕ) (call : Call) (a : HostMessage) (buffer' : List ℕ) : Type 0 where
@@ -89,14 +88,14 @@ unfolding message_of host_started
 meant_started bs = refl
 
 start_meant : {mb b₀ : List ℕ} {h₀ : HostMessage} {b₁ : List ℕ} → HostStartCall mb b₀ h₀ b₁ → h₀.refusal ≡ 0 →
-    StartCall mb area b₀ (Now (message_of h₀)) (cleared area) b₁
+    StartCall mb area b₀ (Ok (message_of h₀)) (cleared area) b₁
 unfolding host_started
 start_meant {mb} {b₀} {h₀} {b₁} call accepted =
     let d = call.answered in
     go d.outcome d.asked d.answers d.buffer_after
   where
     go : (o : StartOutcome) → Starts mb work_length (length b₀) o → h₀ ≡ host_started o → b₁ ≡ buffer_started o b₀ →
-        StartCall mb area b₀ (Now (message_of h₀)) (cleared area) b₁
+        StartCall mb area b₀ (Ok (message_of h₀)) (cleared area) b₁
     go (started bs) asked e b =
         record {
           called =
@@ -138,9 +137,9 @@ begun_meant b =
 
 tells : (mb : List ℕ) (given : HostMessage) {answer : MessageAnswer} {o : CallOutcome} → AnswerTells mb answer o → HostTells mb (host_message given answer) o
 unfolding host_message
-tells mb given (now {c}) = (no_refusal (state_of mb c), meant given (Now (state_of mb c)))
+tells mb given (now {c}) = (no_refusal (state_of mb c), meant given (Ok (state_of mb c)))
   where
-    no_refusal : (m : Message) → (host_message given (Now m)).refusal ≡ 0
+    no_refusal : (m : Message) → (host_message given (Ok m)).refusal ≡ 0
     no_refusal (Closed finished) = refl
     no_refusal (Open finished count) = refl
 tells mb given refusal = refl

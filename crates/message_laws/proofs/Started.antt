@@ -11,8 +11,8 @@ use borrow.Author.Tests.{leb-true, le-leb, lt-leb, le-ltb}
 use Rattle.model.specs.declared.Refusal.{Refusal}
 use Rattle.model.specs.declared.Message.{Message}
 use Rattle.model.specs.declared.Message.TheVariants.{Closed}
-use Rattle.model.specs.declared.MessageAnswer.{MessageAnswer}
-use Rattle.model.specs.declared.MessageAnswer.TheVariants.{Now}
+use Rattle.model.specs.Answer.{MessageAnswer}
+use Rattle.std.specs.Prelude.{Ok, Err}
 use Rattle.model.specs.Refusal.{Refused, row, refusal_of}
 use Rattle.model.specs.Map.{Map, MapAnswer, whole, decode}
 use Rattle.model.specs.Work.{work_length, placed}
@@ -26,7 +26,6 @@ use Rattle.model.proofs.Opened.{opened}
 use Rattle.model.proofs.MapLengths.{map_few}
 use Rattle.model.proofs.Fronts.{front_few}
 use Rattle.message_laws.proofs.Steps.{whole_sound, Holds}
-use Rattle.model.specs.declared.MessageAnswer.TheVariants as Answer
 
 -- What an answered start leaves.
 pub record Start (mb b₀ : List ℕ) (m₀ : Message) (b₁ : List ℕ) : Type 0 where
@@ -39,7 +38,7 @@ pub record Start (mb b₀ : List ℕ) (m₀ : Message) (b₁ : List ℕ) : Type 
 
 -- ---- an answer that is no refusal
 
-told_started : {a : MessageAnswer} {o : StartOutcome} {m : Message} → StartAnswers a o → a ≡ Now m →
+told_started : {a : MessageAnswer} {o : StartOutcome} {m : Message} → StartAnswers a o → a ≡ Ok m →
     (bs : List ℕ) × (o ≡ started bs) × (m ≡ Closed (length bs))
 told_started {m = m} (now {bs = bs}) e = let is : Closed (length bs) ≡ m = cc in (bs, refl, sym is)
 told_started refusal e = absurd (let z : ◌≡◌ {A = ℕ} 0 1 = cc in omega arith)
@@ -56,7 +55,7 @@ on_map mb room bs e = go (leb (length (front_bytes mb)) room) refl e
     go true t e = let same : bs ≡ front_bytes mb = cc in (same, leb-true (length (front_bytes mb)) room t)
     go false t e = absurd (not_refused bs (row 28) e)
 
-pub start_so : {mb work b₀ work' b₁ : List ℕ} {m₀ : Message} → StartCall mb work b₀ (Now m₀) work' b₁ → Start mb b₀ m₀ b₁
+pub start_so : {mb work b₀ work' b₁ : List ℕ} {m₀ : Message} → StartCall mb work b₀ (Ok m₀) work' b₁ → Start mb b₀ m₀ b₁
 unfolding buffer_started
 start_so {mb} {work} {b₀} {work'} {b₁} call =
     let d = call.called.answered in
@@ -89,12 +88,12 @@ start_holds {mb} {b₀} s =
 
 -- ---- a refusal
 
-told_refused : {a : MessageAnswer} {o : StartOutcome} {why : Refusal} → StartAnswers a o → a ≡ Answer.Refused why → (r : Refused) × (o ≡ StartOutcome.refused r)
+told_refused : {a : MessageAnswer} {o : StartOutcome} {why : Refusal} → StartAnswers a o → a ≡ Err why → (r : Refused) × (o ≡ StartOutcome.refused r)
 told_refused now e = absurd (let z : ◌≡◌ {A = ℕ} 0 1 = cc in omega arith)
 told_refused (refusal {why = v}) e = (refusal_of v, refl)
 
 -- "A refused start changes nothing": the message under way goes on.
-pub refused_start : {mb work buffer work' buffer' : List ℕ} {why : Refusal} → StartCall mb work buffer (Answer.Refused why) work' buffer' → buffer' ≡ buffer
+pub refused_start : {mb work buffer work' buffer' : List ℕ} {why : Refusal} → StartCall mb work buffer (Err why) work' buffer' → buffer' ≡ buffer
 unfolding buffer_started
 refused_start {buffer = buffer} call =
     let d = call.called.answered in

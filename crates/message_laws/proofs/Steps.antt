@@ -11,8 +11,8 @@ use Rattle.model.specs.declared.Refusal.{Refusal}
 use Rattle.model.specs.declared.Refusal.TheVariants.{MessageOrder, MessageFull}
 use Rattle.model.specs.declared.Message.{Message}
 use Rattle.model.specs.declared.Message.TheVariants.{Closed, Open}
-use Rattle.model.specs.declared.MessageAnswer.{MessageAnswer}
-use Rattle.model.specs.declared.MessageAnswer.TheVariants.{Now, Refused}
+use Rattle.model.specs.Answer.{MessageAnswer}
+use Rattle.std.specs.Prelude.{Ok, Err}
 use Rattle.model.specs.Refusal.{number_of, refusal_of}
 use Rattle.model.specs.Work.{placed}
 use Rattle.model.specs.Reference.{longest_reference}
@@ -76,12 +76,12 @@ nothing (b ∷ l) e = absurd (omega arith)
 -- ---- a refusal changes nothing; else the message is another one
 
 kept : {mb b₀ : List ℕ} {c : Content} {m : Message} {buffer : List ℕ} (why : Refusal) (call : Call) → Holds mb b₀ c m buffer →
-    outcome mb (room b₀) c call ≡ refused (number_of (refusal_of why)) → Step mb b₀ c m call (Refused why) buffer
+    outcome mb (room b₀) c call ≡ refused (number_of (refusal_of why)) → Step mb b₀ c m call (Err why) buffer
 unfolding left
-kept {mb} why call h e = record { tells = subst (AnswerTells mb (Refused why)) (sym e) refusal; holds = rw e h }
+kept {mb} why call h e = record { tells = subst (AnswerTells mb (Err why)) (sym e) refusal; holds = rw e h }
 
 turned : {mb b₀ : List ℕ} {c c' : Content} {m m' : Message} {buffer' : List ℕ} (call : Call) → outcome mb (room b₀) c call ≡ done c' →
-    Holds mb b₀ c' m' buffer' → Step mb b₀ c m call (Now m') buffer'
+    Holds mb b₀ c' m' buffer' → Step mb b₀ c m call (Ok m') buffer'
 unfolding left
 turned call e h = record { tells = rw (e, h.state) now; holds = rw e h }
 
@@ -111,7 +111,7 @@ module _ (mb b₀ : List ℕ) (m : Message) (buffer : List ℕ) where
           let f = length (finished_of mb rs) in
           let in_most : end_of f (length r) ≤ longest_message = omega (arith, partial_length mb rs r) in
           let fit : fits f (length r) longest_message ≡ true = fits_so f (length r) longest_message short in_most in_most in
-          let so : a ≡ Now (Closed (end_of f (length r))) = e ∙ ap closing h.state ∙ rw (fit, ne_eqb (length r) 0 (λ z. omega arith)) in
+          let so : a ≡ Ok (Closed (end_of f (length r))) = e ∙ ap closing h.state ∙ rw (fit, ne_eqb (length r) 0 (λ z. omega arith)) in
           let same = finished_append mb rs r in
           rw so
           (turned closes refl
@@ -142,7 +142,7 @@ module _ (mb b₀ : List ℕ) (m : Message) (buffer : List ℕ) where
     same_length = ap length h.bytes ∙ placed_length (content_bytes mb (partial rs bs)) b₀ (omega arith)
 
     -- With nothing to add.
-    empty_step : length portion ≡ 0 → Step mb b₀ (partial rs bs) m (adds portion) (Now (Open (length (finished_of mb rs)) (length bs))) buffer
+    empty_step : length portion ≡ 0 → Step mb b₀ (partial rs bs) m (adds portion) (Ok (Open (length (finished_of mb rs)) (length bs))) buffer
     unfolding state_of
     empty_step zero-long =
         let empty : portion ≡ [] = nothing portion zero-long in
@@ -157,7 +157,7 @@ module _ (mb b₀ : List ℕ) (m : Message) (buffer : List ℕ) where
 
     -- With something that fits.
     longer_step : fits (length (finished_of mb rs)) (length bs + length portion) (length buffer) ≡ true →
-        Step mb b₀ (partial rs bs) m (adds portion) (Now (Open (length (finished_of mb rs)) (length bs + length portion)))
+        Step mb b₀ (partial rs bs) m (adds portion) (Ok (Open (length (finished_of mb rs)) (length bs + length portion)))
         (take (length (finished_of mb rs)) buffer ++ extended (length bs) (drop (length (finished_of mb rs)) buffer) portion)
     unfolding state_of
     longer_step fit =
@@ -178,8 +178,8 @@ module _ (mb b₀ : List ℕ) (m : Message) (buffer : List ℕ) where
 
     by_tests : (t u : Bool) → eqb (length portion) 0 ≡ t → fits (length (finished_of mb rs)) (length bs + length portion) (length buffer) ≡ u →
         Step mb b₀ (partial rs bs) m (adds portion)
-        (cond t (Now (Open (length (finished_of mb rs)) (length bs)))
-        (cond u (Now (Open (length (finished_of mb rs)) (length bs + length portion))) (Refused MessageFull)))
+        (cond t (Ok (Open (length (finished_of mb rs)) (length bs)))
+        (cond u (Ok (Open (length (finished_of mb rs)) (length bs + length portion))) (Err MessageFull)))
         (cond t buffer
         (cond u (take (length (finished_of mb rs)) buffer ++ extended (length bs) (drop (length (finished_of mb rs)) buffer) portion) buffer))
     unfolding number_of refusal_of

@@ -7,8 +7,8 @@ use native.Mathlib.Omega.{arith}
 use lib.ListN.{length, get_or, get_or-eq_default}
 use Rattle.model.specs.declared.Message.{Message}
 use Rattle.model.specs.declared.Message.TheVariants.{Closed}
-use Rattle.model.specs.declared.MessageAnswer.{MessageAnswer}
-use Rattle.model.specs.declared.MessageAnswer.TheVariants.{Now}
+use Rattle.model.specs.Answer.{MessageAnswer}
+use Rattle.std.specs.Prelude.{Ok}
 use Rattle.model.specs.MessageCall.{finished_number}
 use Rattle.model.specs.MessageHistory.{Content, whole, partial, finished, content_bytes, Call, closes, CallOutcome, done, refused, outcome, left, after, Made, Begun, room, state_of, AnswerTells, now, refusal, MessageHistories}
 use Rattle.model.proofs.Every.{every_at}
@@ -17,21 +17,21 @@ use Rattle.message_laws.proofs.Histories.{holding, proper, message_histories}
 -- ---- closing
 
 -- An answer that tells a message was not refused.
-done_is : (mb : List ℕ) (m : Message) (o : CallOutcome) → AnswerTells mb (Now m) o → (c : Content) → o ≡ done c → m ≡ state_of mb c
+done_is : (mb : List ℕ) (m : Message) (o : CallOutcome) → AnswerTells mb (Ok m) o → (c : Content) → o ≡ done c → m ≡ state_of mb c
 done_is mb m o t c e = go t refl e
   where
-    go : {a : MessageAnswer} {o : CallOutcome} → AnswerTells mb a o → a ≡ Now m → o ≡ done c → m ≡ state_of mb c
+    go : {a : MessageAnswer} {o : CallOutcome} → AnswerTells mb a o → a ≡ Ok m → o ≡ done c → m ≡ state_of mb c
     go (now {c = d}) a e = let same : d ≡ c = cc in let told : state_of mb d ≡ m = cc in sym told ∙ ap (state_of mb) same
     go refusal a e = absurd (let z : ◌≡◌ {A = ℕ} 0 1 = cc in omega arith)
 
-pub not_refused : (mb : List ℕ) (m : Message) (n : ℕ) → AnswerTells mb (Now m) (refused n) → ⊥
+pub not_refused : (mb : List ℕ) (m : Message) (n : ℕ) → AnswerTells mb (Ok m) (refused n) → ⊥
 not_refused mb m n t = go t refl refl
   where
-    go : {a : MessageAnswer} {o : CallOutcome} → AnswerTells mb a o → a ≡ Now m → o ≡ refused n → ⊥
+    go : {a : MessageAnswer} {o : CallOutcome} → AnswerTells mb a o → a ≡ Ok m → o ≡ refused n → ⊥
     go now a e = let z : ◌≡◌ {A = ℕ} 0 1 = cc in omega arith
     go refusal a e = let z : ◌≡◌ {A = ℕ} 0 1 = cc in omega arith
 
-counts : (mb : List ℕ) (room : ℕ) (c : Content) (m : Message) → AnswerTells mb (Now m) (outcome mb room c closes) →
+counts : (mb : List ℕ) (room : ℕ) (c : Content) (m : Message) → AnswerTells mb (Ok m) (outcome mb room c closes) →
     m ≡ Closed (length (content_bytes mb (left c (outcome mb room c closes))))
 unfolding outcome left content_bytes state_of
 counts mb room (whole rs) m t = absurd (not_refused mb m 27 t)
@@ -39,7 +39,7 @@ counts mb room (partial rs []) m t = absurd (not_refused mb m 27 t)
 counts mb room (partial rs (b ∷ bs)) m t = done_is mb m _ t _ refl
 
 module _ {mb b₀ : List ℕ} {calls : List Call} {m : Message} {buffer : List ℕ} (history : Begun mb b₀ calls m buffer) where
-  pub closing_counts : {m' : Message} {buffer' : List ℕ} → Made m buffer closes (Now m') buffer' →
+  pub closing_counts : {m' : Message} {buffer' : List ℕ} → Made m buffer closes (Ok m') buffer' →
       m' ≡ Closed (length (content_bytes mb (after mb (room b₀) (closes ∷ calls))))
   unfolding MessageHistories after
   closing_counts {m'} made = counts mb (room b₀) (after mb (room b₀) calls) m' ((message_histories mb b₀ calls m buffer history).answers made)

@@ -10,7 +10,7 @@ use lib.Seq.{take_at, get_or-append_seam}
 use lib.Dec.{leb}
 use Rattle.model.specs.declared.Span.{Span}
 use Rattle.model.specs.declared.Message.{Message}
-use Rattle.model.specs.declared.MessageAnswer.TheVariants.{Now}
+use Rattle.std.specs.Prelude.{Ok}
 use Rattle.model.specs.Stretch.{Stretch}
 use Rattle.model.specs.Reference.{longest_reference, parse}
 use Rattle.model.specs.Work.{placed}
@@ -30,21 +30,20 @@ use Rattle.model.proofs.PointTrip.{point_trip}
 use Rattle.model.proofs.OfMessage.{by_itself, out_of_it}
 use Rattle.message_laws.proofs.Histories.{message_histories}
 use Rattle.message_laws.proofs.Told.{not_refused}
-use Rattle.model.specs.declared.WriteAnswer.TheVariants as Writer
-use Rattle.model.specs.declared.PointWriteAnswer.TheVariants as PointWriter
+use Rattle.model.specs.Answer.{bytes_written}
 
 -- ---- opening, adding and closing
 
 -- What an addition makes of a message with an empty reference open, where closing it then is not refused.
 closed_so : (mb : List ℕ) (room : ℕ) (rs : List (List ℕ)) (bytes : List ℕ) (m' : Message) (c : Content) →
-    c ≡ left (partial rs []) (outcome mb room (partial rs []) (adds bytes)) → AnswerTells mb (Now m') (outcome mb room c closes) →
+    c ≡ left (partial rs []) (outcome mb room (partial rs []) (adds bytes)) → AnswerTells mb (Ok m') (outcome mb room c closes) →
     left c (outcome mb room c closes) ≡ whole (rs ++ bytes ∷ [])
 unfolding outcome left lengthened
 closed_so mb room rs bytes m' c e t =
     go (leb (length bytes) longest_reference && leb (length (content_bytes mb (partial rs bytes))) room) bytes e
   where
     nothing : c ≡ partial rs [] → ⊥
-    nothing e = not_refused mb m' 27 (subst (λ (c : Content). AnswerTells mb (Now m') (outcome mb room c closes)) e t)
+    nothing e = not_refused mb m' 27 (subst (λ (c : Content). AnswerTells mb (Ok m') (outcome mb room c closes)) e t)
 
     go : (t : Bool) (bs : List ℕ) → c ≡ left (partial rs []) (cond t (done (partial rs bs)) (refused 28)) →
         left c (outcome mb room c closes) ≡ whole (rs ++ bs ∷ [])
@@ -54,7 +53,7 @@ closed_so mb room rs bytes m' c e t =
 
 put_so : (mb b₀ : List ℕ) (calls : List Call) (m : Message) (buffer : List ℕ) (rs : List (List ℕ)) (bytes : List ℕ) →
     Begun mb b₀ (adds bytes ∷ opens ∷ calls) m buffer → after mb (room b₀) calls ≡ whole rs → (m' : Message) (buffer' : List ℕ) →
-    Made m buffer closes (Now m') buffer' → Sent mb bytes (length rs) (take (finished_bytes m') buffer')
+    Made m buffer closes (Ok m') buffer' → Sent mb bytes (length rs) (take (finished_bytes m') buffer')
 unfolding after left outcome MessageHistories
 put_so mb b₀ calls m buffer rs bytes b is m' buffer' made =
     let before = after mb (room b₀) (adds bytes ∷ opens ∷ calls) in
@@ -121,7 +120,7 @@ unfolding placed
 first_bytes bs before after count size e = ap (take count) e ∙ take_at bs (drop (length bs) before) count size
 
 wrote : {mb : List ℕ} {s : Stretch} {tests : ℕ} {work before work' bytes : List ℕ} {count made excess : ℕ} →
-    WriteCall mb s tests work before (Writer.Written count made excess) work' bytes →
+    WriteCall mb s tests work before (Ok (bytes_written count made excess)) work' bytes →
     Writes mb s tests (length work) (length before) (written (take count bytes) made excess)
 unfolding bytes_after
 wrote {mb} {s} {tests} {work} {before} {bytes = bytes} {count} {made} {excess} call =
@@ -131,7 +130,7 @@ wrote {mb} {s} {tests} {work} {before} {bytes = bytes} {count} {made} {excess} c
     subst (Writes mb s tests (length work) (length before)) (t.1 ∙ ap (λ (l : List ℕ). written l made excess) (sym first)) d.asked
 
 wrote_point : {mb : List ℕ} {p : GivenPoint} {work before work' bytes : List ℕ} {count : ℕ} →
-    PointWriteCall mb p work before (PointWriter.Written count) work' bytes →
+    PointWriteCall mb p work before (Ok count) work' bytes →
     PointWrites mb p (length work) (length before) (PointWriteOutcome.written (take count bytes))
 unfolding point_bytes_after
 wrote_point {mb} {p} {work} {before} {bytes = bytes} {count} call =

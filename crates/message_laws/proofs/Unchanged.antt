@@ -12,8 +12,8 @@ use Rattle.model.specs.declared.Refusal.{Refusal}
 use Rattle.model.specs.declared.Refusal.TheVariants.{MessageFull}
 use Rattle.model.specs.declared.Message.{Message}
 use Rattle.model.specs.declared.Message.TheVariants.{Closed, Open}
-use Rattle.model.specs.declared.MessageAnswer.{MessageAnswer}
-use Rattle.model.specs.declared.MessageAnswer.TheVariants.{Now, Refused}
+use Rattle.model.specs.Answer.{MessageAnswer}
+use Rattle.std.specs.Prelude.{Ok, Err}
 use Rattle.model.specs.Work.{placed}
 use Rattle.model.specs.Message.{longest_message, length_bytes, framed}
 use Rattle.model.specs.MessageCall.{end_of, fits, adding, so_far, extended, buffer_added, Adds}
@@ -22,25 +22,25 @@ use Rattle.message_laws.proofs.Framing.{framed_length}
 use Rattle.message_laws.proofs.Fitting.{fit_of, end_is, behind_finished}
 
 pub empty_addition : {finished count : ℕ} {buffer buffer' : List ℕ} {a : MessageAnswer} → Adds (Open finished count) buffer [] a buffer' →
-    (a ≡ Now (Open finished count)) × (buffer' ≡ buffer)
+    (a ≡ Ok (Open finished count)) × (buffer' ≡ buffer)
 unfolding adding buffer_added
 empty_addition e = (e.answers, e.buffer_after)
 
-not_now : {m : Message} {why : Refusal} → Refused why ≡ Now m → ⊥
+not_now : {m : Message} {why : Refusal} → ◌≡◌ {A = MessageAnswer} (Err why) (Ok m) → ⊥
 not_now e = let z : ◌≡◌ {A = ℕ} 0 1 = cc in omega arith
 
-pub refusal_changes_nothing : {m : Message} {why : Refusal} {buffer buffer' portion : List ℕ} → Adds m buffer portion (Refused why) buffer' → buffer' ≡ buffer
+pub refusal_changes_nothing : {m : Message} {why : Refusal} {buffer buffer' portion : List ℕ} → Adds m buffer portion (Err why) buffer' → buffer' ≡ buffer
 unfolding adding buffer_added
 refusal_changes_nothing {m} {why} {buffer} {buffer'} {portion} e = go m e.answers e.buffer_after
   where
     by_tests : (finished count : ℕ) (t u : Bool) →
-        Refused why ≡ cond t (Now (Open finished count)) (cond u (Now (Open finished (count + length portion))) (Refused MessageFull)) →
+        Err why ≡ cond t (Ok (Open finished count)) (cond u (Ok (Open finished (count + length portion))) (Err MessageFull)) →
         buffer' ≡ cond t buffer (cond u (take finished buffer ++ extended count (drop finished buffer) portion) buffer) → buffer' ≡ buffer
     by_tests finished count true u a b = b
     by_tests finished count false true a b = absurd (not_now a)
     by_tests finished count false false a b = b
 
-    go : (m : Message) → Refused why ≡ adding m (length buffer) portion → buffer' ≡ buffer_added m buffer portion → buffer' ≡ buffer
+    go : (m : Message) → Err why ≡ adding m (length buffer) portion → buffer' ≡ buffer_added m buffer portion → buffer' ≡ buffer
     go (Closed finished) a b = b
     go (Open finished count) a b = by_tests finished count (eqb (length portion) 0) (fits finished (count + length portion) (length buffer)) a b
 

@@ -10,5 +10,5 @@ unfoldable pub cleared : List ℕ → List ℕ
 cleared work = cond (ltb (length work) work_length) work (replicate work_length 0 ++ drop work_length work)
 
 -- "The result stands first in its buffer, the rest unchanged."
-unfoldable pub placed : List ℕ → List ℕ → List ℕ
+unfoldable pub placed : {A : Type 0} → List A → List A → List A
 placed result buffer = result ++ drop (length result) buffer

@@ -16,11 +16,11 @@ use Rattle.work_area.proofs.Holding.{held, held_kept}
 use Rattle.depot_map.specs.Answer.{WholeMap}
 use Rattle.search_cells.specs.Promises.{Linked}
 use Rattle.opening.specs.declared.Opened.{Opened}
-use Rattle.opening.specs.declared.Opened.TheVariants.{Ready, Refused}
+use Rattle.std.specs.Prelude.{Result, Ok, Err}
 use Rattle.opening.specs.Opened.{ReadyMap, OpenAnswers, MapOpened}
 
 pub opened : {bytes w u v : List ℕ} {nodes lines : ℕ} → WholeMap bytes u nodes lines → Kept 0 work_length w u →
-    ((m : Map) → Mirrored u lines m → Linked u lines m v) → MapOpened bytes w v (Ready nodes lines)
+    ((m : Map) → Mirrored u lines m → Linked u lines m v) → MapOpened bytes w v (Ok (record { nodes = nodes; lines = lines }))
 opened whole kept links =
     let h = held whole.held in
     let l = links (mirror whole.map) (mirrored h) in
@@ -34,9 +34,9 @@ opened whole kept links =
       kept = kept_over (omega arith) kept l.kept;
     }
 
-module _ {bytes w v : List ℕ} {r : Opened} (o : MapOpened bytes w v r) where
-  pub opened_ready : {nodes lines : ℕ} → r ≡ Ready nodes lines → ReadyMap bytes v nodes lines
-  opened_ready e = subst (λ (q : Opened). OpenAnswers bytes v q) e o.answers
+module _ {bytes w v : List ℕ} {r : Result Opened Refusal} (o : MapOpened bytes w v r) where
+  pub opened_ready : {ready : Opened} → r ≡ Ok ready → ReadyMap bytes v ready.nodes ready.lines
+  opened_ready e = subst (λ (q : Result Opened Refusal). OpenAnswers bytes v q) e o.answers
 
-  pub opened_refused : {why : Refusal} → r ≡ Refused why → decode bytes ≡ refused (refusal_of why)
-  opened_refused e = subst (λ (q : Opened). OpenAnswers bytes v q) e o.answers
+  pub opened_refused : {why : Refusal} → r ≡ Err why → decode bytes ≡ refused (refusal_of why)
+  opened_refused e = subst (λ (q : Result Opened Refusal). OpenAnswers bytes v q) e o.answers

@@ -5,28 +5,27 @@ ghost use Rattle.std.specs.Prelude.{◌≤◌, length};
 ghost use Rattle.model.specs.Work.{work_length};
 ghost use Rattle.opening.specs.Opened.{MapOpened};
 
-use depot_map::{MapRead, read_map};
+use depot_map::read_map;
 use model::Refusal;
 use search_cells::adjacency::link;
 
-// A map that is ready, with its counts of nodes and lines; or why its bytes are refused.
+// The counts of nodes and lines of a map that is ready.
 #[derive(Clone, Copy)]
-pub enum Opened {
-    Ready(u32, usize),
-    Refused(Refusal),
+pub struct Opened {
+    pub nodes: u32,
+    pub lines: usize,
 }
 
 // Opens the map of these bytes.
-pub fn open_map(map: &[u8], work: &mut [u32]) -> Opened
+pub fn open_map(map: &[u8], work: &mut [u32]) -> Result<Opened, Refusal>
     requires { work_length ≤ length work.old }
     ensures { MapOpened map.now work.old work.new result }
 {
-    match read_map(map, work) {
-        MapRead::Whole(nodes, count) => {
-            let lines = count as usize;
-            link(work, lines);
-            Opened::Ready(nodes, lines)
-        }
-        MapRead::Refused(why) => Opened::Refused(why),
-    }
+    let count = read_map(map, work)?;
+    let lines = count.lines as usize;
+    link(work, lines);
+    Ok(Opened {
+        nodes: count.nodes,
+        lines,
+    })
 }

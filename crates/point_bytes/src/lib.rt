@@ -6,16 +6,9 @@ ghost use Rattle.model.specs.Work.{placed};
 ghost use Rattle.model.specs.PointAlong.{shortest_point, greatest_mark};
 ghost use Rattle.point_bytes.specs.PointForm.{FormOf, with_marks, without_marks};
 
-use buffers::bytes::copy;
+use buffers::copy;
 use model::Refusal;
 use references::reference::{Reference, byte_at};
-
-// What some bytes are: a point along line, or why not.
-#[derive(Clone, Copy)]
-pub enum Form {
-    Sound,
-    Refused(Refusal),
-}
 
 // What tells a point along line from a line reference: its orientation and the side of road.
 #[derive(Clone, Copy)]
@@ -44,30 +37,24 @@ impl Marks {
 }
 
 // Whether the bytes are a point along line, or the first of refusals 12 to 15.
-pub fn form_of(bytes: &[u8]) -> Form
+pub fn form_of(bytes: &[u8]) -> Result<(), Refusal>
     ensures { FormOf bytes.now result }
 {
     let n = bytes.len();
-    if n < Marks::SHORTEST {
-        return Form::Refused(Refusal::ReferenceLength);
-    }
-    if Marks::LONGEST < n {
-        return Form::Refused(Refusal::ReferenceLength);
+    if n < Marks::SHORTEST || Marks::LONGEST < n {
+        return Err(Refusal::ReferenceLength);
     }
     if bytes[0] != Marks::STATUS {
-        return Form::Refused(Refusal::ReferenceStatus);
+        return Err(Refusal::ReferenceStatus);
     }
     let r = byte_at(bytes, Marks::R);
-    if 128 <= r {
-        return Form::Refused(Refusal::ReferenceBits);
-    }
-    if r / 32 % 2 == 1 {
-        return Form::Refused(Refusal::ReferenceBits);
+    if 128 <= r || r / 32 % 2 == 1 {
+        return Err(Refusal::ReferenceBits);
     }
     if n - Marks::SHORTEST != (r / 64 % 2) as usize {
-        return Form::Refused(Refusal::ReferenceFlags);
+        return Err(Refusal::ReferenceFlags);
     }
-    Form::Sound
+    Ok(())
 }
 
 // The marks that stand in the bytes of a point along line.
@@ -94,6 +81,7 @@ pub fn put_line(bytes: &[u8], line: &mut [u8])
 }
 
 // Makes the bytes of a line reference with two points those of a point along line.
+#[tactic(auto, unfolding(crate::specs::PointForm::with_marks))]
 pub fn put_marks(bytes: &mut [u8], marks: Marks)
     requires shortest_point_in_bounds { (shortest_point ≤ length bytes.old) × (get_or bytes.old 7 0 < 64) × (get_or bytes.old 14 0 < 64) }
     requires orientation_le_greatest_mark { (marks.orientation ≤ greatest_mark) × (marks.side ≤ greatest_mark) }

@@ -5,12 +5,15 @@ use mathlib.Core.List.{List}
 use native.Mathlib.Decide.{dec_lt, ℕ_discrete}
 use native.Mathlib.Numerals.{add-one}
 use native.Mathlib.Omega.{arith}
-use lib.ListN.{length, get_or, set}
-use lib.Seq.{get_or-set_same, get_or-set_other}
+use lib.ListN.{length, get_or, replicate, length-replicate, drop, length-take, length-drop}
+use borrow.Rule.Slice.PartMut.{put_mid, mid_of}
+use borrow.Author.Rules.{rules}
+use Rattle.std.proofs.lemmas.List.{places}
+use Rattle.std.proofs.Common.{Option}
 use Rattle.model.specs.LegTests.{legs_before, turn}
-use Rattle.buffers.specs.Kept.{Kept}
-use Rattle.buffers.proofs.Kept.{kept_none, kept_then, kept_set, kept_within}
-use Rattle.point_choice.specs.Cuts.{GoodIn, Fewest}
+use Rattle.buffers.specs.Kept.{Kept, Filled}
+use Rattle.buffers.proofs.Kept.{kept_none, kept_then, kept_within}
+use Rattle.point_choice.specs.Cuts.{GoodIn, FewestAnswers}
 use Rattle.point_choice.specs.NotTested.{GoodOrNotTested, good, not_tested, RowHoped, Hoped}
 use Rattle.point_choice.proofs.Routes.{fewest_same}
 
@@ -36,21 +39,27 @@ module _ (n tests i end left j : ℕ) (inside : j ≤ n) (after : i < j) (e : le
 
 -- ---- a row
 
--- Its legs past position `end` up to position `j` have the number 1.
-pub row_none : (i end : ℕ) (a : List ℕ) → RowHoped end i end a a
-row_none i end a = record { ones = λ j h l. absurd (omega arith); kept = kept_none }
-
-pub row_more : (i end j : ℕ) (a b : List ℕ) → end ≤ j → 65 * i + (j + 1) < length b → RowHoped j i end a b →
-    RowHoped (j + 1) i end a (set b (65 * i + (j + 1)) 1)
-row_more i end j a b h room r =
+-- A part of a table that is filled.
+pub part_filled : (a count e x : ℕ) (xs ys : List ℕ) → e ≡ a + count → e ≤ length xs → ys ≡ replicate (length (mid_of a (e - a) xs)) x →
+    Filled a count x xs (put_mid a (e - a) xs ys)
+part_filled a count e x xs ys is inside all =
+    let n : length (mid_of a (e - a) xs) ≡ count = omega (arith, length-take (e - a) (drop a xs), length-drop a xs) in
+    let all : ys ≡ replicate count x = rw n at all in
+    let size : length ys ≡ count = rw all (length-replicate count x) in
     record {
-      ones = λ k after upto. go k after upto (dec_lt k (j + 1));
-      kept = kept_then (kept_within (omega arith) (omega arith) r.kept) (kept_set (65 * i + (j + 1)) 1 (omega arith) (omega arith));
+      filled = λ l below. rw all (search (rules, places));
+      kept = record { same = search (rules, places); below = λ k h. search (rules, places); above = λ k h. search (rules, places) };
     }
-  where
-    go : (k : ℕ) → end < k → k ≤ j + 1 → Dec (k < j + 1) → get_or (set b (65 * i + (j + 1)) 1) (65 * i + k) 0 ≡ 1
-    go k after upto (yes earlier) = get_or-set_other b (65 * i + (j + 1)) (65 * i + k) 1 0 (λ e. omega arith) ∙ r.ones k after (omega arith)
-    go k after upto (no last) = let e : k ≡ j + 1 = omega arith in rw e (get_or-set_same b (65 * i + (j + 1)) 1 0 room)
+
+-- Its legs past position `end` get the number 1.
+pub row_filled : (n i end : ℕ) {a b : List ℕ} → end ≤ n → Filled (65 * i + end + 1) (n - end) 1 a b → RowHoped n i end a b
+row_filled n i end within f =
+    record {
+      ones = λ j after upto.
+          let e : 65 * i + end + 1 + (j - (end + 1)) ≡ 65 * i + j = omega arith in
+          rw e at (f.filled (j - (end + 1)) (omega arith));
+      kept = kept_within (omega arith) (omega arith) f.kept;
+    }
 
 -- ---- the rows before row `i`
 
@@ -117,5 +126,6 @@ rows_all all rows =
     }
 
 -- The fewest legs over the table then.
-pub hoped_fewest : {n tests legs : ℕ} {a b : List ℕ} → Hoped n tests a b → Fewest (GoodIn b) n 0 legs → Fewest (GoodOrNotTested n tests a) n 0 legs
-hoped_fewest h f = fewest_same h.only h.each f
+pub hoped_fewest : {n tests : ℕ} {a b : List ℕ} (legs : Option ℕ) → Hoped n tests a b → FewestAnswers (GoodIn b) n legs →
+    FewestAnswers (GoodOrNotTested n tests a) n legs
+hoped_fewest legs h f = fewest_same h.only h.each legs f

@@ -5,7 +5,8 @@ use mathlib.Core.Logic.{inl, inr}
 use mathlib.Core.List.{List, [], ◌∷◌}
 use native.Mathlib.Omega.{arith}
 use lib.ListN.{length}
-use Rattle.point_choice.specs.Cuts.{Route, there, leg, FurtherFirst, same, more, later, Best, NoRoute, Fewest}
+use Rattle.std.proofs.Common.{Option, None, Some}
+use Rattle.point_choice.specs.Cuts.{Route, there, leg, FurtherFirst, same, more, later, Best, NoRoute, Fewest, FewestAnswers}
 
 head_le : {a b : ℕ} {xs ys : List ℕ} → FurtherFirst (a ∷ xs) (b ∷ ys) → b ≤ a
 head_le same = omega arith
@@ -63,8 +64,8 @@ module _ {good : ℕ → ℕ → Type 0} {n : ℕ} where
   told_le {cs = cs} (inl (os, best, e)) r = omega (arith, best.fewest cs r)
   told_le (inr (e, none)) r = absurd (none _ r)
 
-  pub told_some : {i b : ℕ} → Fewest good n i b → (b ≡ 65 → ⊥) → (cs : List ℕ) × Best good n i cs
-  told_some (inl (cs, best, e)) h = (cs, best)
+  pub told_some : {i b : ℕ} → Fewest good n i b → (b ≡ 65 → ⊥) → (cs : List ℕ) × Best good n i cs × (length cs ≡ b)
+  told_some (inl f) h = f
   told_some (inr (e, none)) h = absurd (h e)
 
   pub told_none : {i b : ℕ} → n ≤ 64 → Fewest good n i b → b ≡ 65 → NoRoute good n i
@@ -85,6 +86,6 @@ module _ {P Q : ℕ → ℕ → Type 0} {n : ℕ} (f : (i j : ℕ) → i < j →
         furthest = λ others r e. b.furthest others (wider g r) e;
       }
 
-  pub fewest_same : {i legs : ℕ} → Fewest P n i legs → Fewest Q n i legs
-  fewest_same (inl (cs, b, e)) = inl (cs, best_same b, e)
-  fewest_same (inr (e, none)) = inr (e, λ cs r. none cs (wider g r))
+  pub fewest_same : (legs : Option ℕ) → FewestAnswers P n legs → FewestAnswers Q n legs
+  fewest_same (Some legs) (cs, b, e) = (cs, best_same b, e)
+  fewest_same None none = λ cs r. none cs (wider g r)

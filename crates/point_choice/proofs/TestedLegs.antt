@@ -3,8 +3,9 @@
 use Prim.Native.Nat.{ℕ, ◌+◌, ◌*◌, ◌-◌, ◌≤◌, ◌<◌}
 use mathlib.Core.Path.{◌≡◌, refl, sym, ◌∙◌, ap, subst}
 use mathlib.Core.Bool.{Bool, true, false}
-use mathlib.Core.Logic.{◌≢◌, inl, inr}
 use mathlib.Core.List.{List}
+use Rattle.std.proofs.Common.{Option, None, Some}
+use Rattle.std.specs.Option.{IsSomeAnd}
 use native.Mathlib.Decide.{dec_lt}
 use native.Mathlib.Omega.{arith}
 use borrow.Author.Tests.{eq-eqb, eqb-true}
@@ -15,11 +16,10 @@ use Rattle.model.specs.Choice.{LegTest, Chosen}
 use Rattle.model.specs.LegTests.{turn, GoodOrUntested, tested_good, good_or_untested, NoChoice, Fewest}
 use Rattle.model.proofs.LegTests.{Filled, tested_filled, untested_filled}
 use Rattle.buffers.specs.Decides.{Decides}
-use Rattle.point_choice.specs.Cuts.{GoodIn, Best, NoRoute, cut_legs, Tested, Sound, Complete}
+use Rattle.point_choice.specs.Cuts.{GoodIn, Best, NoRoute, FewestAnswers, cut_legs, Tested, Sound, Complete}
 use Rattle.point_choice.specs.NotTested.{GoodOrNotTested}
-use Rattle.point_choice.proofs.Routes.{short, wider}
+use Rattle.point_choice.proofs.Routes.{wider}
 use Rattle.point_choice.proofs.Choosing.{legs_count, choice, routed, no_choice, chosen}
-use Rattle.point_choice.specs.Cuts as cuts
 
 -- The number of each leg is 1 where it is tested good after so many tests.
 abbrev pub AllSaid : LegTest → List ℕ → ℕ → List ℕ → Type 0
@@ -65,9 +65,9 @@ module _ (test : LegTest) (some : Filled test) (lines : List ℕ) (made : ℕ) (
   none_tested none = no_choice (tested_good test lines made) lines (tested_filled some lines made) (tested_complete test lines made table said) none
 
   -- The fewest legs when untested legs count as good, or that there is no choice even so.
-  pub untested_fewest : {legs : ℕ} → 0 < length lines → cuts.Fewest (GoodOrNotTested (length lines) made table) (length lines) 0 legs → legs ≢ 65 →
+  pub untested_fewest : {legs : ℕ} → 0 < length lines → FewestAnswers (GoodOrNotTested (length lines) made table) (length lines) (Some legs) →
       Fewest (good_or_untested test lines made) lines legs
-  untested_fewest l (inl (cs, b, e)) has =
+  untested_fewest l (cs, b, e) =
       record {
         legs = cut_legs lines 0 cs;
         choice = choice (good_or_untested test lines made) lines (untested_sound test lines made table said) l b.route;
@@ -76,18 +76,15 @@ module _ (test : LegTest) (some : Filled test) (lines : List ℕ) (made : ℕ) (
             let r = routed (good_or_untested test lines made) lines (untested_filled some lines made) (untested_complete test lines made table said) c in
             omega (arith, e, b.fewest r.0 r.1, sym (legs_count lines 0 r.0) ∙ ap length r.2);
       }
-  untested_fewest l (inr (e, none)) has = absurd (has e)
 
-  pub none_untested : {legs : ℕ} → length lines ≤ 64 → cuts.Fewest (GoodOrNotTested (length lines) made table) (length lines) 0 legs → legs ≡ 65 →
-      NoChoice (good_or_untested test lines made) lines
-  none_untested few (inl (cs, b, e)) is = absurd (omega (arith, e, is, short b.route))
-  none_untested few (inr (e, none)) is =
+  pub none_untested : FewestAnswers (GoodOrNotTested (length lines) made table) (length lines) None → NoChoice (good_or_untested test lines made) lines
+  none_untested none =
       no_choice (good_or_untested test lines made) lines (untested_filled some lines made) (untested_complete test lines made table said) none
 
 -- A route of legs tested good is one of legs that are good or not tested: there is one then, of no more legs.
-pub no_fewer : {n made legs : ℕ} {table cs : List ℕ} → n ≤ 64 → Best (GoodIn table) n 0 cs → cuts.Fewest (GoodOrNotTested n made table) n 0 legs →
-    (legs ≢ 65) × (legs ≤ length cs)
-no_fewer {cs = cs} few b (inl (os, best, e)) =
+pub no_fewer : {n : ℕ} {cs : List ℕ} (made : ℕ) (table : List ℕ) (hoped : Option ℕ) → Best (GoodIn table) n 0 cs → FewestAnswers (GoodOrNotTested n made table) n hoped →
+    IsSomeAnd hoped (λ legs. legs ≤ length cs)
+no_fewer {cs = cs} made table (Some legs) b (os, best, e) =
     let fewer = best.fewest cs (wider (λ i j h l one. GoodOrNotTested.good one) b.route) in
-    (λ is. omega (arith, e, is, short best.route), omega (arith, e, fewer))
-no_fewer {cs = cs} few b (inr (e, none)) = absurd (none cs (wider (λ i j h l one. GoodOrNotTested.good one) b.route))
+    omega (arith, e, fewer)
+no_fewer {cs = cs} made table None b none = none cs (wider (λ i j h l one. GoodOrNotTested.good one) b.route)

@@ -1,10 +1,8 @@
 -- Where a stretch of `n` lines is cut into legs, given which legs are good (paper 01, "What counts as a reading", last paragraph).
 -- Position `i` is before line `i`, and position `n` is the end. The leg from `i` to `j` has the lines between.
-use Rattle.std.specs.Prelude.{ℕ, suc, ◌+◌, ◌*◌, ◌≤◌, ◌<◌, ◌≡◌, ◌⊎◌, Bool, List, [], ◌∷◌, ◌++◌, length, get_or, drop, eqb}
+use Rattle.std.specs.Prelude.{ℕ, suc, ◌+◌, ◌*◌, ◌≤◌, ◌<◌, ◌≡◌, ◌⊎◌, Bool, List, [], ◌∷◌, ◌++◌, length, get_or, drop, eqb, Option, None, Some}
 use Rattle.std.proofs.Math.Seq.{slice}
 use Rattle.model.specs.Choice.{LegTest}
-use Rattle.point_choice.specs.declared.Cut.{Cut}
-use Rattle.point_choice.specs.declared.Cut.TheVariants.{Nowhere, Legs}
 
 -- The good legs of a table: number 65 × i + j is 1.
 abbrev pub GoodIn : List ℕ → ℕ → ℕ → Type 0
@@ -42,10 +40,15 @@ FirstCut good n i to legs = ((cs : List ℕ) × Best good n i (to ∷ cs) × (su
 abbrev pub TellsFewest : (ℕ → ℕ → Type 0) → ℕ → List ℕ → ℕ → Type 0
 TellsFewest good n best i = (k : ℕ) → i ≤ k → k ≤ n → Fewest good n k (get_or best k 0)
 
+-- An answer on the number of legs of the route to take from the start.
+abbrev pub FewestAnswers : (ℕ → ℕ → Type 0) → ℕ → Option ℕ → Type 0
+FewestAnswers good n None = NoRoute good n 0
+FewestAnswers good n (Some legs) = (cs : List ℕ) × Best good n 0 cs × (length cs ≡ legs)
+
 -- An answer, with what the cuts' buffer held before and holds after it: 0 and the cuts of the route to take in front, or no change.
-abbrev pub CutAnswers : (ℕ → ℕ → Type 0) → ℕ → Cut → List ℕ → List ℕ → Type 0
-CutAnswers good n Nowhere before after = NoRoute good n 0 × (after ≡ before)
-CutAnswers good n (Legs k) before after =
+abbrev pub CutAnswers : (ℕ → ℕ → Type 0) → ℕ → Option ℕ → List ℕ → List ℕ → Type 0
+CutAnswers good n None before after = NoRoute good n 0 × (after ≡ before)
+CutAnswers good n (Some k) before after =
     (cs : List ℕ) × Best good n 0 cs × (length cs ≡ k) × (after ≡ (0 ∷ cs) ++ drop (k + 1) before)
 
 -- The legs that cuts from `i` on make of some lines.

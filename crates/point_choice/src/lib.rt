@@ -3,22 +3,15 @@
 #![tactic(auto)]
 
 ghost use Rattle.std.specs.Prelude.{◌+◌, ◌*◌, ◌≤◌, ◌<◌, length};
-ghost use Rattle.point_choice.specs.Cuts.{GoodIn, Fewest, FirstCut, TellsFewest, CutAnswers};
+ghost use Rattle.point_choice.specs.Cuts.{GoodIn, FirstCut, TellsFewest, FewestAnswers, CutAnswers};
 
 pub mod untested;
 
 // The greatest count of a stretch's positions: one more than of its lines.
 const POSITIONS: usize = 65;
 
-// The count of legs where there is no route: more than any route has.
-pub const NO_ROUTE: usize = 65;
-
-// No route of good legs, or how many legs the one to take has.
-#[derive(Clone, Copy)]
-pub enum Cut {
-    Nowhere,
-    Legs(usize),
-}
+// The count of legs where there is no route: more than any route has, so that two counts compare as numbers.
+const NO_ROUTE: usize = 65;
 
 // Where the first leg of the route to take ends, and how many legs it has: `NO_ROUTE` where there is none.
 #[derive(Clone, Copy)]
@@ -35,9 +28,7 @@ fn first_cut(good: &[u8], n: usize, best: &[usize; POSITIONS], i: usize) -> Next
 {
     let mut to = i;
     let mut least = 64;
-    let mut j = i;
-    while j < n {
-        j += 1;
+    for j in i + 1..n + 1 {
         let after = best[j];
         if good[POSITIONS * i + j] == 1 {
             if after <= least {
@@ -57,30 +48,29 @@ fn fewest(good: &[u8], n: usize) -> [usize; POSITIONS]
 {
     let mut best = [NO_ROUTE; POSITIONS];
     best[n] = 0;
-    let mut i = n;
-    while 0 < i {
-        i -= 1;
+    for i in (0..n).rev() {
         best[i] = first_cut(good, n, &best, i).legs;
     }
     best
 }
 
-// How many legs the route to take has: `NO_ROUTE` where there is none.
-fn fewest_legs(good: &[u8], n: usize) -> usize
+// How many legs the route to take has, or `None` where there is none.
+fn fewest_legs(good: &[u8], n: usize) -> Option<usize>
     requires { (n ≤ 64) × (65 * n ≤ length good.now) }
-    ensures { Fewest (GoodIn good.now) n 0 result }
+    ensures { FewestAnswers (GoodIn good.now) n result }
 {
-    fewest(good, n)[0]
+    let legs = fewest(good, n)[0];
+    if legs == NO_ROUTE { None } else { Some(legs) }
 }
 
-// The route to take: `cuts` gets 0 and then where each leg ends.
-pub fn choose(good: &[u8], n: usize, cuts: &mut [u32]) -> Cut
+// How many legs the route to take has, or `None` where there is none: `cuts` gets 0 and then where each leg ends.
+pub fn choose(good: &[u8], n: usize, cuts: &mut [u32]) -> Option<usize>
     requires { (n ≤ 64) × (65 * n ≤ length good.now) × (n < length cuts.old) }
     ensures { CutAnswers (GoodIn good.now) n result cuts.old cuts.new }
 {
     let best = fewest(good, n);
     if best[0] == NO_ROUTE {
-        return Cut::Nowhere;
+        return None;
     }
     cuts[0] = 0;
     let mut i = 0;
@@ -90,5 +80,5 @@ pub fn choose(good: &[u8], n: usize, cuts: &mut [u32]) -> Cut
         k += 1;
         cuts[k] = i as u32;
     }
-    Cut::Legs(k)
+    Some(k)
 }

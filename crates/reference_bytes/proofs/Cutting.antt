@@ -55,16 +55,24 @@ module _ {m : Map} {lines table : List ℕ} {legs : ℕ} {cs : List ℕ} (k : Cu
     pub part_is : take (to - from) (drop from lines) ≡ cut_leg lines cs t
     part_is = lent_part from to lines ordered inside ∙ rw (start, end)
 
-    pub part_known : {w : List ℕ} {n : ℕ} → Held w n m → Known n (take (to - from) (drop from lines))
+  whole_part : take (cut_at cs (t + 1) - cut_at cs t) (drop (cut_at cs t) lines) ≡ cut_leg lines cs t
+  whole_part = lent_part (cut_at cs t) (cut_at cs (t + 1)) lines (omega (arith, here.0)) here.1
+
+  -- By the lines that are lent for the leg.
+  module _ {ls : List ℕ} (e : ls ≡ cut_leg lines cs t) where
+    pub part_known : {w : List ℕ} {n : ℕ} → Held w n m → Known n ls
     part_known h =
-        subst (λ (n : ℕ). Known n (take (to - from) (drop from lines))) h.line_count
-        (known_take _ (drop from lines) (to - from) (known_drop _ lines from k.known))
+        subst (λ (n : ℕ). Known n ls) h.line_count
+        (subst (λ (xs : List ℕ). Known (length m.lines) xs) (whole_part ∙ sym e)
+        (known_take _ (drop (cut_at cs t) lines) (cut_at cs (t + 1) - cut_at cs t) (known_drop _ lines (cut_at cs t) k.known)))
 
-    pub part_good : Good m (eqb (cut_at cs (t + 1)) (length lines)) (take (to - from) (drop from lines))
-    part_good = rw part_is leg_good
+    pub part_good : Good m (eqb (cut_at cs (t + 1)) (length lines)) ls
+    part_good = rw e leg_good
 
-    pub part_few : length (take (to - from) (drop from lines)) ≤ 64
-    part_few = omega (arith, length-take (to - from) (drop from lines), inside, k.few)
+    pub part_few : length ls ≤ 64
+    part_few =
+        omega
+        (arith, ap (λ (xs : List ℕ). length xs) (e ∙ sym whole_part), length-take (cut_at cs (t + 1) - cut_at cs t) (drop (cut_at cs t) lines), here.1, k.few)
 
 pub cut_known : {m : Map} {lines table : List ℕ} {legs : ℕ} {cs w : List ℕ} {n : ℕ} → CutInto m lines table legs cs → Held w n m → Known n lines
 cut_known {lines = lines} k h = subst (λ (n : ℕ). Known n lines) h.line_count k.known

@@ -1,5 +1,5 @@
 -- What is put into the byte buffer (paper 01, "The bytes"; refusal 11).
-use Rattle.std.specs.Prelude.{ℕ, ◌+◌, ◌≤◌, ◌<◌, ◌≡◌, cond, List, [], ◌∷◌, ◌++◌, length, get_or, eqb}
+use Rattle.std.specs.Prelude.{ℕ, Option, Some, None, ◌+◌, ◌≤◌, ◌<◌, ◌≡◌, cond, List, [], ◌∷◌, ◌++◌, length, get_or, eqb}
 use Rattle.std.proofs.Math.Seq.{slice}
 use Rattle.model.specs.Map.{Map, lon_code, lat_code}
 use Rattle.model.specs.Lines.{LineAttributes, line_at, node_at, total, first_of, last_of, arriving}
@@ -9,8 +9,6 @@ use Rattle.model.specs.Choice.{good, from_node, offset_of}
 use Rattle.model.specs.Work.{placed}
 use Rattle.stretches.specs.Stretch.{Known}
 use Rattle.point_choice.specs.Cuts.{Route, Tested}
-use Rattle.reference_bytes.specs.declared.Stored.{Stored}
-use Rattle.reference_bytes.specs.declared.Stored.TheVariants.{Bytes, Short}
 
 -- Where leg `t` starts, by the cuts; and its lines.
 abbrev pub cut_at : List ℕ → ℕ → ℕ
@@ -55,6 +53,6 @@ end_bytes m lines first last pos neg =
 
 -- An answer, with what the buffer held before and holds after it, for these bytes: they stand first and the rest is unchanged, or they
 -- need more room than there is and nothing is changed.
-abbrev pub Puts : List ℕ → List ℕ → List ℕ → Stored → Type 0
-Puts bs before after (Bytes n) = (n ≡ length bs) × (n ≤ length before) × (after ≡ placed bs before)
-Puts bs before after Short = (length before < length bs) × (after ≡ before)
+abbrev pub Puts : List ℕ → List ℕ → List ℕ → Option ℕ → Type 0
+Puts bs before after (Some n) = (n ≡ length bs) × (n ≤ length before) × (after ≡ placed bs before)
+Puts bs before after None = (length before < length bs) × (after ≡ before)

@@ -3,7 +3,6 @@
 
 ghost use Rattle.std.specs.Prelude.{◌≡◌, ℕ, ◌+◌, ◌*◌, ◌-◌, ◌≤◌, ◌<◌, List, [], ◌++◌, length};
 ghost use Rattle.model.specs.Map.{Map};
-ghost use Rattle.model.specs.Lines.{total};
 ghost use Rattle.model.specs.Reference.{point_bytes};
 ghost use Rattle.model.specs.Choice.{points_of, stretch_bytes};
 ghost use Rattle.work_area.specs.Area.{Held};
@@ -32,13 +31,6 @@ const POSITIVE: u32 = 64;
 
 const NEGATIVE: u32 = 32;
 
-// The count of bytes that were put, or that there is too little room for them.
-#[derive(Clone, Copy)]
-pub enum Stored {
-    Bytes(usize),
-    Short,
-}
-
 // Puts the status byte and the codes of the first point.
 fn put_start(work: &[u32], lines: usize, stretch: &[u32], bytes: &mut [u8])
     requires known { Known lines stretch.now × (0 < length stretch.now) × (7 ≤ length bytes.old) }
@@ -66,42 +58,14 @@ fn put_point(bytes: &mut [u8], at: usize, point: Point)
     put2(bytes, at + 5, point.lat);
 }
 
-// The point that leg `t` starts at.
-fn leg_point(
-    work: &[u32],
-    lines: usize,
-    stretch: &[u32],
-    cuts: &[u32],
-    legs: usize,
-    t: usize,
-) -> Point
+// The lines of leg `t`.
+fn leg_of<'a>(stretch: &'a [u32], cuts: &[u32], legs: usize, t: usize) -> &'a [u32]
     requires t_lt_legs { (t < legs) × (legs < length cuts.now) }
-    requires by_index { (m : Map) × (cs : List ℕ) × Held work.now lines m × CutInto m stretch.now cuts.now legs cs }
-    ensures { (m : Map) → (cs : List ℕ) → Held work.now lines m
-        → CutInto m stretch.now cuts.now legs cs → PointIs m (cut_leg stretch.now cs t) result }
+    requires by_index { (m : Map) × (cs : List ℕ) × CutInto m stretch.now cuts.now legs cs }
+    ensures { (m : Map) → (cs : List ℕ) → CutInto m stretch.now cuts.now legs cs
+        → result.now ≡ cut_leg stretch.now cs t }
 {
-    let from = wide(cuts[t]);
-    let to = wide(cuts[t + 1]);
-    point_of(work, lines, &stretch[from..to])
-}
-
-// The length of leg `t`.
-fn leg_length(
-    work: &[u32],
-    lines: usize,
-    stretch: &[u32],
-    cuts: &[u32],
-    legs: usize,
-    t: usize,
-) -> u32
-    requires t_lt_legs { (t < legs) × (legs < length cuts.now) }
-    requires by_index { (m : Map) × (cs : List ℕ) × Held work.now lines m × CutInto m stretch.now cuts.now legs cs }
-    ensures { (m : Map) → (cs : List ℕ) → Held work.now lines m
-        → CutInto m stretch.now cuts.now legs cs → result ≡ total m (cut_leg stretch.now cs t) }
-{
-    let from = wide(cuts[t]);
-    let to = wide(cuts[t + 1]);
-    total_length(work, lines, &stretch[from..to]) as u32
+    &stretch[wide(cuts[t])..wide(cuts[t + 1])]
 }
 
 // Puts the points but the last, one after another.
@@ -119,19 +83,19 @@ fn put_points(
         → CutInto m stretch.now cuts.now legs cs
         → bytes.new ≡ put_at 7 (point_bytes (points_of m (cut_legs stretch.now 0 cs)) []) bytes.old }
 {
-    let mut t: usize = 0;
-    while t < legs {
-        let point = leg_point(work, lines, stretch, cuts, legs, t);
+    for t in 0..legs {
+        let leg = leg_of(stretch, cuts, legs, t);
+        let point = point_of(work, lines, leg);
         put_point(
             bytes,
             Reference::FIRST_P + Reference::MIDDLE_POINT * t,
             point,
         );
-        t += 1;
     }
 }
 
 // The flag of an offset, which is set where it is not 0.
+#[tactic(auto, unfolding(crate::specs::Put::flagged))]
 fn flag(offset: u32, weight: u32) -> u32
     ensures { (result ≡ flagged offset weight) × (result ≤ weight) }
 {
@@ -195,13 +159,13 @@ fn put_end(
 {
     let at = Reference::FIRST_P + Reference::MIDDLE_POINT * legs;
     let a = attributes_of(work, lines, stretch, stretch.len() - 1, SECTOR_BACK);
-    let first = leg_length(work, lines, stretch, cuts, legs, 0);
-    let last = leg_length(work, lines, stretch, cuts, legs, legs - 1);
+    let first = total_length(work, lines, leg_of(stretch, cuts, legs, 0)) as u32;
+    let last = total_length(work, lines, leg_of(stretch, cuts, legs, legs - 1)) as u32;
     put_last(bytes, at, a, pos, neg);
     put_offsets(bytes, at + 2, first, pos, last, neg)
 }
 
-// Puts the reference of a stretch that is cut into legs, if the buffer has room for it: the count of its bytes.
+// Puts the reference of a stretch that is cut into legs, if the buffer has room for it: the count of its bytes, or none where it has not.
 pub fn put(
     work: &[u32],
     lines: usize,
@@ -211,7 +175,7 @@ pub fn put(
     pos: u32,
     neg: u32,
     bytes: &mut [u8],
-) -> Stored
+) -> Option<usize>
     requires legs_in_bounds { legs < length cuts.now }
     requires by_index { (m : Map) × (cs : List ℕ) × Held work.now lines m × CutInto m stretch.now cuts.now legs cs
         × Inside m (stretch_of stretch.now pos neg) }
@@ -226,10 +190,10 @@ pub fn put(
         + wide(flag(pos, 1))
         + wide(flag(neg, 1));
     if bytes.len() < length {
-        return Stored::Short;
+        return None;
     }
     put_start(work, lines, stretch, bytes);
     put_points(work, lines, stretch, cuts, legs, bytes);
     let n = put_end(work, lines, stretch, cuts, legs, pos, neg, bytes);
-    Stored::Bytes(n)
+    Some(n)
 }

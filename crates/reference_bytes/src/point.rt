@@ -7,7 +7,7 @@ ghost use Rattle.work_area.specs.Area.{Held};
 ghost use Rattle.stretches.specs.Stretch.{Known};
 ghost use Rattle.reference_bytes.specs.Point.{PointIs, DifferencesAre};
 
-use fields::coordinate::{Difference16, LONGITUDE_ADDED, difference, longitude_difference};
+use fields::coordinate::{LONGITUDE_ADDED, difference, longitude_difference};
 use fields::leg::distance;
 use stretches::lines::{attributes_of, coordinate, lowest_class, node_of, total_length};
 use work_area::{END, SECTOR_OUT, START};
@@ -34,10 +34,7 @@ fn near_difference(from: u32, to: u32) -> u32
     requires { Near from to }
     ensures { result ≡ difference from to }
 {
-    match difference(from, to) {
-        Difference16::Fits(d) => d,
-        Difference16::TooFar => 0,
-    }
+    difference(from, to).unwrap()
 }
 
 // The differences of a leg that may be used, that of longitudes brought round.
@@ -62,6 +59,7 @@ fn differences_of(work: &[u32], lines: usize, leg: &[u32]) -> Differences
 }
 
 // The point that a leg that may be used starts at.
+#[tactic(auto, using(crate::proofs::Points::small))]
 pub fn point_of(work: &[u32], lines: usize, leg: &[u32]) -> Point
     requires known { Known lines leg.now × (length leg.now ≤ 64) }
     requires held { (m : Map) × (last : Bool) × Held work.now lines m × Good m last leg.now }

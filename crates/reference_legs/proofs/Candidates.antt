@@ -13,22 +13,17 @@ use Rattle.fields.specs.declared.leg.Reading.{Reading}
 use Rattle.fields.specs.declared.leg.Verdict.{Verdict}
 use Rattle.fields.specs.declared.leg.Verdict.TheVariants.{Unread, One, Several}
 use Rattle.fields.specs.Leg.{arrival_in, leg_in}
-use Rattle.legs.specs.Verdict.{both_of, TwoLists, Says, StandsIn, ReadingTo, ToLines, Judged}
+use Rattle.legs.specs.Verdict.{both_of, Says, StandsIn, ReadingTo, ToLines, Judged}
 use Rattle.references.specs.Legs.{leg_at, legs_on}
-use Rattle.reference_legs.specs.Legs.{Put, PutOne}
+use Rattle.reference_legs.specs.declared.Sums.{Sums}
+use Rattle.reference_legs.specs.Legs.{Put, PutOne, Inserted, PlacesIn}
 use Rattle.reference_legs.specs.TerminusAt.{next_at, terminus_at}
 use Rattle.reference_legs.proofs.OneMore.{Walked, walk_on}
-use Rattle.reference_legs.proofs.Gathering.{Inserted}
+use Rattle.reference_legs.proofs.Gathering.{Gathering}
 use Rattle.model.specs.Reading as definitions
 
--- The end node of a leg.
-module _ (bytes places : List ℕ) (points k : ℕ) (leg : Leg) (e : leg_in leg ≡ leg_at bytes points places k) where
-  pub leg_to : leg.to ≡ get_or places (k + 1) 0
-  unfolding leg_in leg_at
-  leg_to = ap (λ (l : definitions.Leg). l.to) e
-
 -- The legs from leg `k` on: that leg, and those after it.
-pub legs_next : (bytes places : List ℕ) (points k : ℕ) → k < points →
+legs_next : (bytes places : List ℕ) (points k : ℕ) → k < points →
     legs_on bytes points places k (points - k) ≡ leg_at bytes points places k ∷ legs_on bytes points places (k + 1) (points - (k + 1))
 unfolding legs_on
 legs_next bytes places points k h = let more : points - k ≡ suc (points - (k + 1)) = omega arith in rw (more, legs_on)
@@ -36,6 +31,17 @@ legs_next bytes places points k h = let more : points - k ≡ suc (points - (k +
 pub legs_end : (bytes places : List ℕ) (points k : ℕ) → points ≤ k → legs_on bytes points places k (points - k) ≡ []
 unfolding legs_on
 legs_end bytes places points k h = let none : points - k ≡ 0 = omega arith in rw (none, legs_on)
+
+-- A leg that is to be read: it is the first of those left, and its end node is one of the map.
+module _ (m : Map) (bytes places : List ℕ) {points k : ℕ} (leg : Leg) (e : leg_in leg ≡ leg_at bytes points places k) (h : k < points) where
+  pub leg_next : {lines : ℕ} {all : List definitions.Leg} {w before out : List ℕ} {s : Sums} →
+      Gathering m lines all k (legs_on bytes points places k (points - k)) w before out s →
+      Gathering m lines all k (leg_in leg ∷ legs_on bytes points places (k + 1) (points - (k + 1))) w before out s
+  leg_next g = rw e (rw (legs_next bytes places points k h) at g)
+
+  pub leg_to : PlacesIn m points places → leg.to < length m.nodes
+  unfolding leg_in leg_at
+  leg_to known = let to : leg.to ≡ get_or places (k + 1) 0 = ap (λ (l : definitions.Leg). l.to) e in omega (arith, to, known (k + 1) (omega arith))
 
 -- The termini before `at` have been judged, with the lines of the one reading in the buffer from number `from` on. The buffer was `before` and is `out`.
 abbrev pub Tried : Map → ℕ → Leg → ℕ → List ℕ → List ℕ → List ℕ → List ℕ → ℕ → Verdict → Type 0
@@ -78,10 +84,10 @@ standing {m} {leg = leg} {to} {u = u} j r e = go (subst (λ (v : Verdict). Says 
     go (Says.one o n) = rw n at o.holds.reading.allowed.connected
 
 -- Several readings to some termini are several of the leg.
-pub several_tried : {m : Map} {lines : ℕ} {leg : Leg} {N : Reading → List ℕ → Type 0} {w v : List ℕ} {at : ℕ} →
-    Walked m lines leg N w v at Several → TwoLists (definitions.Reading m (leg_in leg))
-several_tried {m} {leg = leg} {N} {at = at} k = go k.judged.says
+pub several_tried : {m : Map} {lines : ℕ} {leg : Leg} {N : Reading → List ℕ → Type 0} {w v : List ℕ} {at : ℕ} {found : Verdict} →
+    found ≡ Several → Walked m lines leg N w v at found → Judged m lines (definitions.Reading m (leg_in leg)) N w v found
+several_tried {m} {leg = leg} {N} {at = at} {found} e k = record { says = rw e (go (rw e at k.judged.says)); set = k.judged.set; kept = k.judged.kept }
   where
-    go : Says m (ToLines m (leg_in leg) at) N Several → TwoLists (definitions.Reading m (leg_in leg))
+    go : Says m (ToLines m (leg_in leg) at) N Several → Says m (definitions.Reading m (leg_in leg)) N Several
     go (Says.several t) =
-        record { one = t.one; other = t.other; first = t.first.reading; second = t.second.reading; differ = t.differ }
+        Says.several (record { one = t.one; other = t.other; first = t.first.reading; second = t.second.reading; differ = t.differ })

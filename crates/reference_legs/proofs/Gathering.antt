@@ -17,11 +17,12 @@ use Rattle.model.specs.Outcome.{LegsRead, none, only, later, every, failed}
 use Rattle.model.specs.Work.{placed}
 use Rattle.model.proofs.Skipping.{total_append}
 use Rattle.model.proofs.Joining.{first_known}
+use Rattle.model.specs.declared.Refusal.TheVariants.{NoReading, SeveralReadings}
 use Rattle.fields.specs.declared.leg.Reading.{Reading}
-use Rattle.legs.specs.Verdict.{OneList, TwoLists, Says}
+use Rattle.legs.specs.Verdict.{OneList, Says}
 use Rattle.search_cells.specs.Area.{Set}
 use Rattle.reference_legs.specs.declared.Sums.{Sums}
-use Rattle.reference_legs.specs.Legs.{barred_with, sums_with, SumsOf, Laid, AllRead}
+use Rattle.reference_legs.specs.Legs.{barred_with, sums_with, SumsOf, Inserted, Laid, AllRead, LegFails}
 use Rattle.model.specs.Reading as definitions
 use Rattle.fields.specs.declared.leg.Verdict.TheVariants as verdict
 
@@ -70,8 +71,11 @@ unfolding banned_meeting
 meeting_more m [] ls = refl
 meeting_more m (ks ∷ lss) ls = rw (ne_eqb (length (ks ∷ lss)) 0 (λ z. omega arith)) (meeting_on m ks lss ls)
 
-abbrev none_yet : Sums
+abbrev pub none_yet : Sums
 none_yet = record { count = 0; length = 0; first = 0; last = 0; arrives = 0; barred = false }
+
+pub none_counted : (s : Sums) → (s.count ≡ 0) × ((s.length ≡ 0) × ((s.first ≡ 0) × ((s.last ≡ 0) × ((s.arrives ≡ 0) × (s.barred ≡ false))))) → s ≡ none_yet
+none_counted s (a, (b, (c, (d, (e, f))))) = λ i. record { count = a i; length = b i; first = c i; last = d i; arrives = e i; barred = f i }
 
 sums_none : (m : Map) → SumsOf m [] none_yet
 unfolding joined first_leg last_leg total last_of banned_meeting
@@ -115,10 +119,6 @@ connected_short f (single {l = l} known) = let a = f.line_ok l known in omega ar
 connected_short f (linked {l = l} known follows rest) = let a = f.line_ok l known in let b = connected_short f rest in omega arith
 
 -- ---- the lines in the buffer
-
--- Some lines stand in a buffer from number `from` on, where there is room for them.
-abbrev pub Inserted : ℕ → List ℕ → List ℕ → List ℕ → Type 0
-Inserted from ls before after = from + length ls ≤ length before → after ≡ take from before ++ (ls ++ drop (from + length ls) before)
 
 -- The first lines, and then those of one leg more.
 laid_more : (j ls before mid after : List ℕ) → length mid ≡ length before → Laid j before mid → Inserted (length j) ls mid after →
@@ -194,13 +194,14 @@ module _ {m : Map} {lines : ℕ} {all rest : List Leg} {leg : Leg} {k : ℕ} {w 
         laid = rw (joined_more g.lists ls) (laid_more (joined g.lists) ls before mid after same g.laid (rw g.sums.count n));
       }
 
-  pub gather_unread : {N : Reading → List ℕ → Type 0} → Says m (definitions.Reading m leg) N verdict.Unread → LegsRead m 0 all (failed 17 k)
-  gather_unread (Says.unread no_list) = g.passed.off 17 k (LegsRead.unread no_list)
+  pub gather_unread : {N : Reading → List ℕ → Type 0} → Says m (definitions.Reading m leg) N verdict.Unread → LegFails m all (NoReading k)
+  gather_unread (Says.unread no_list) = LegFails.unread (g.passed.off 17 k (LegsRead.unread no_list))
 
-  pub gather_several : TwoLists (definitions.Reading m leg) → LegsRead m 0 all (failed 18 k)
-  gather_several t =
-      g.passed.off 18 k
-      (LegsRead.several (record { one = t.one; other = t.other; first = t.first; second = t.second; differ = t.differ }))
+  pub gather_several : {N : Reading → List ℕ → Type 0} → Says m (definitions.Reading m leg) N verdict.Several → LegFails m all (SeveralReadings k)
+  gather_several (Says.several t) =
+      LegFails.several
+      (g.passed.off 18 k
+      (LegsRead.several (record { one = t.one; other = t.other; first = t.first; second = t.second; differ = t.differ })))
 
 pub gather_end : {m : Map} {lines : ℕ} {all : List Leg} {k : ℕ} {w before after : List ℕ} {s : Sums} → Gathering m lines all k [] w before after s →
     AllRead m all before after s

@@ -1,5 +1,4 @@
 -- Laws of legs that are read one after another.
-pub mod NotOne
 pub mod Gathering
 pub mod OneMore
 pub mod Candidates

@@ -1,5 +1,5 @@
 -- What is promised of the legs that are read one after another, and of the lines that are written.
-use Rattle.std.specs.Prelude.{ℕ, ◌+◌, ◌≤◌, ◌<◌, ◌≡◌, Bool, false, cond, ◌||◌, List, ◌++◌, length, get_or, take, drop, eqb}
+use Rattle.std.specs.Prelude.{ℕ, ◌+◌, ◌≤◌, ◌<◌, ◌≡◌, Bool, false, cond, ◌||◌, List, ◌++◌, length, get_or, take, drop, eqb, Result, Ok, Err}
 use Rattle.model.specs.Map.{Map}
 use Rattle.model.specs.Lines.{total, banned, last_of}
 use Rattle.model.specs.Choice.{first_leg, last_leg}
@@ -10,8 +10,8 @@ use Rattle.search_cells.specs.Area.{lines_from, Set}
 use Rattle.fields.specs.declared.leg.Reading.{Reading}
 use Rattle.fields.specs.declared.leg.Verdict.{Verdict}
 use Rattle.reference_legs.specs.declared.Sums.{Sums}
-use Rattle.reference_legs.specs.declared.Legs.{Legs}
-use Rattle.reference_legs.specs.declared.Legs.TheVariants.{Every, Unread, Several}
+use Rattle.model.specs.declared.Refusal.{Refusal}
+use Rattle.model.specs.declared.Refusal.TheVariants.{NoReading, SeveralReadings}
 use Rattle.fields.specs.declared.leg.Verdict.TheVariants as verdict
 
 -- Whether a banned turn stands where two legs meet, with one leg more, which is leg `k`: nothing stands before the first.
@@ -42,6 +42,10 @@ pub record Put (w : List ℕ) (from : ℕ) (before after : List ℕ) (v : Verdic
   pub unread : v ≡ verdict.Unread → after ≡ before
   pub several : v ≡ verdict.Several → after ≡ before
 
+-- Some lines stand in a buffer from number `from` on, where there is room for them.
+abbrev pub Inserted : ℕ → List ℕ → List ℕ → List ℕ → Type 0
+Inserted from ls before after = from + length ls ≤ length before → after ≡ take from before ++ (ls ++ drop (from + length ls) before)
+
 -- The nodes of the points are nodes of the map.
 abbrev pub PlacesIn : Map → ℕ → List ℕ → Type 0
 PlacesIn m points places = (k : ℕ) → k ≤ points → get_or places k 0 < length m.nodes
@@ -66,12 +70,16 @@ pub record AllRead (m : Map) (legs : List Leg) (before after : List ℕ) (s : Su
   pub sums : SumsOf m lists s
   pub laid : Laid (joined lists) before after
 
--- What an answer says of the legs, and of the buffer. Where a leg fails, nothing is said of the buffer.
-abbrev pub LegsTell : Map → List Leg → List ℕ → List ℕ → Legs → Type 0
-LegsTell m legs before after (Every s) = AllRead m legs before after s
-LegsTell m legs before after (Unread k) = LegsRead m 0 legs (failed 17 k)
-LegsTell m legs before after (Several k) = LegsRead m 0 legs (failed 18 k)
+-- The first leg without exactly one reading has none, or several.
+pub data LegFails (m : Map) (legs : List Leg) : Refusal → Type 0 where
+  unread : {k : ℕ} → LegsRead m 0 legs (failed 17 k) → LegFails m legs (NoReading k)
+  several : {k : ℕ} → LegsRead m 0 legs (failed 18 k) → LegFails m legs (SeveralReadings k)
 
-pub record LegsDone (m : Map) (lines : ℕ) (legs : List Leg) (w before after : List ℕ) (r : Legs) : Type 0 where
+-- What an answer says of the legs, and of the buffer. Where a leg fails, nothing is said of the buffer.
+abbrev pub LegsTell : Map → List Leg → List ℕ → List ℕ → Result Sums Refusal → Type 0
+LegsTell m legs before after (Ok s) = AllRead m legs before after s
+LegsTell m legs before after (Err why) = LegFails m legs why
+
+pub record LegsDone (m : Map) (lines : ℕ) (legs : List Leg) (w before after : List ℕ) (r : Result Sums Refusal) : Type 0 where
   pub tells : LegsTell m legs before after r
   pub set : Set m lines w

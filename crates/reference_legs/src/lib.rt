@@ -9,11 +9,15 @@ ghost use Rattle.work_area.specs.Area.{Held};
 ghost use Rattle.search_cells.specs.Area.{lines_from, Set};
 ghost use Rattle.references.specs.Form.{SoundBytes};
 ghost use Rattle.references.specs.Legs.{legs_at};
-ghost use Rattle.reference_legs.specs.Legs.{barred_with, sums_with, Put, PlacesIn, LegsDone};
+ghost use Rattle.fields.specs.Leg.{leg_in};
+ghost use Rattle.legs.specs.Verdict.{Judged};
+ghost use Rattle.reference_legs.specs.Legs.{barred_with, sums_with, Put, Inserted, PlacesIn, LegsDone};
+ghost use Rattle.model.specs.Reading as definitions;
 
 use banned_turns::banned;
-use fields::leg::{Reading, Verdict};
+use fields::leg::{Leg, Reading, Verdict};
 use legs::first_lines::both;
+use model::Refusal;
 use references::leg::leg_at;
 use termini::{first_terminus, next_terminus, read_terminus};
 use ways::write_lines;
@@ -22,7 +26,7 @@ pub mod termini;
 
 // Of the legs that are read: how many lines they have, how long they are together, and how long the first and the last of them are; the line
 // that the last of them arrives by, and whether a banned turn stands where two of them meet.
-#[derive(Clone, Copy)]
+#[derive(Clone, Copy, Default)]
 pub struct Sums {
     pub count: usize,
     pub length: u32,
@@ -30,14 +34,6 @@ pub struct Sums {
     pub last: u32,
     pub arrives: usize,
     pub barred: bool,
-}
-
-// Every leg has exactly one reading, or the first leg that has none or several.
-#[derive(Clone, Copy)]
-pub enum Legs {
-    Every(Sums),
-    Unread(u32),
-    Several(u32),
 }
 
 // Whether a banned turn stands where two legs meet, once leg `k` is one of them.
@@ -82,17 +78,14 @@ fn put_reading(work: &[u32], found: Verdict, out: &mut [u32], from: usize)
         return;
     };
     let room = out.len();
-    if room < from {
-        return;
-    }
-    if room - from < reading.count {
+    if room < from || room - from < reading.count {
         return;
     }
     write_lines(work, reading.first, &mut out[from..from + reading.count]);
 }
 
-// Reads every leg between the nodes in `places`, or up to the first without exactly one reading. The lines of the legs stand in `out` as long as
-// there is room.
+// Reads every leg between the nodes in `places`, up to the first without exactly one reading: that is refusal 17 or 18. The lines of the legs stand in
+// `out` as long as there is room.
 pub fn read_legs(
     bytes: &[u8],
     points: usize,
@@ -100,42 +93,33 @@ pub fn read_legs(
     work: &mut [u32],
     lines: usize,
     out: &mut [u32],
-) -> Legs
+) -> Result<Sums, Refusal>
     requires sound_bytes { SoundBytes bytes.now points × (points < length places.now) }
     requires set { (m : Map) × Set m lines work.old × PlacesIn m points places.now }
     ensures { (m : Map) → Set m lines work.old → PlacesIn m points places.now
         → LegsDone m lines (legs_at bytes.now points places.now) work.new out.old out.new result }
 {
-    let mut sums = Sums {
-        count: 0,
-        length: 0,
-        first: 0,
-        last: 0,
-        arrives: 0,
-        barred: false,
-    };
-    let mut k: usize = 0;
-    'legs: loop {
-        if points <= k {
-            break 'legs Legs::Every(sums);
-        }
-        let leg = leg_at(bytes, points, places, k);
-        let mut found = Verdict::Unread;
-        let mut at = first_terminus(work, lines, leg);
-        while 0 < at {
-            let more = read_terminus(work, lines, at, leg);
-            put_reading(work, more, out, sums.count);
-            found = both(found, more);
-            if let Verdict::Several = found {
-                break 'legs Legs::Several(k as u32);
+    let mut sums = Sums::default();
+    'legs: {
+        for k in 0..points {
+            let leg = leg_at(bytes, points, places, k);
+            let mut found = Verdict::Unread;
+            let mut at = first_terminus(work, lines, leg);
+            while 0 < at {
+                let more = read_terminus(work, lines, at, leg);
+                put_reading(work, more, out, sums.count);
+                found = both(found, more);
+                if let Verdict::Several = found {
+                    break 'legs Err(Refusal::SeveralReadings(k as u32));
+                }
+                at = next_terminus(work, lines, at, leg);
             }
-            at = next_terminus(work, lines, at, leg);
+            let Verdict::One(reading) = found else {
+                break 'legs Err(Refusal::NoReading(k as u32));
+            };
+            let barred = barred_with(work, lines, sums, k, reading);
+            sums = with_leg(sums, k, reading, barred);
         }
-        let Verdict::One(reading) = found else {
-            break 'legs Legs::Unread(k as u32);
-        };
-        let barred = barred_with(work, lines, sums, k, reading);
-        sums = with_leg(sums, k, reading, barred);
-        k += 1;
+        Ok(sums)
     }
 }

@@ -2,6 +2,7 @@
 use Prim.Native.Nat.{ℕ, suc, ◌+◌, ◌*◌, ◌-◌, ◌/◌, ◌%◌, ◌≤◌, ◌<◌}
 use mathlib.Core.Path.{◌≡◌, subst, ◌∙◌}
 use mathlib.Core.Bool.{cond, ◌||◌}
+use mathlib.Core.Logic.{◌⊎◌, inl, inr}
 use mathlib.Core.List.{List}
 use native.Mathlib.Omega.{arith}
 use lib.ListN.{length, get_or}
@@ -11,8 +12,7 @@ use Rattle.model.specs.Reference.{status_byte, shortest_reference, longest_refer
 use Rattle.model.specs.Refusal.{row, refusal_of}
 use Rattle.model.specs.declared.Refusal.{Refusal}
 use Rattle.references.specs.declared.reference.Reference.{Reference}
-use Rattle.references.specs.declared.reference.Form.{Form}
-use Rattle.references.specs.declared.reference.Form.TheVariants.{Sound, Refused}
+use Rattle.std.proofs.Common.{Result, Ok, Err}
 use Rattle.references.specs.Form.{SoundBytes, FormOf}
 use Rattle.references.specs.Legs.{place_p}
 
@@ -46,13 +46,10 @@ second_inside n at a b e f = omega arith
 -- ---- refusal 12
 
 module _ (bs : List ℕ) where
-  pub too_short : length bs < shortest_reference → parse bs ≡ refused (row 12)
+  pub other_length : (length bs < shortest_reference) ⊎ ((shortest_reference ≤ length bs) × (longest_reference < length bs)) → parse bs ≡ refused (row 12)
   unfolding parse
-  too_short h = rw (lt-ltb _ _ h, parse)
-
-  pub too_long : shortest_reference ≤ length bs → longest_reference < length bs → parse bs ≡ refused (row 12)
-  unfolding parse
-  too_long h i = rw (le-ltb _ _ h, lt-ltb _ _ i, parse)
+  other_length (inl h) = rw (lt-ltb _ _ h, parse)
+  other_length (inr (h, i)) = rw (le-ltb _ _ h, lt-ltb _ _ i, parse)
 
   pub too_much_over : shortest_reference ≤ length bs → length bs ≤ longest_reference → 2 < (length bs - shortest_reference) % 7 → parse bs ≡ refused (row 12)
   unfolding parse
@@ -77,9 +74,9 @@ module _ (bs : List ℕ) (long : shortest_reference ≤ length bs) (short : leng
       after_length ∙ rw (eq-eqb _ _ e, counted)
 
 -- What is known of the bytes once their form is known.
-module _ (bytes : List ℕ) (r : Form) (form : FormOf bytes r) where
-  pub sound_form : {q : Reference} → r ≡ Sound q → SoundBytes bytes q.points
-  sound_form e = subst (λ (f : Form). FormOf bytes f) e form
+module _ (bytes : List ℕ) (r : Result Reference Refusal) (form : FormOf bytes r) where
+  pub sound_form : {q : Reference} → r ≡ Ok q → SoundBytes bytes q.points
+  sound_form e = subst (λ (f : Result Reference Refusal). FormOf bytes f) e form
 
-  pub refused_form : {why : Refusal} → r ≡ Refused why → parse bytes ≡ refused (refusal_of why)
-  refused_form e = subst (λ (f : Form). FormOf bytes f) e form
+  pub refused_form : {why : Refusal} → r ≡ Err why → parse bytes ≡ refused (refusal_of why)
+  refused_form e = subst (λ (f : Result Reference Refusal). FormOf bytes f) e form

@@ -13,9 +13,10 @@ use Rattle.model.specs.Locate.{found, missing, seek}
 use Rattle.work_area.specs.Area.{Holds}
 use Rattle.work_area.proofs.Holding.{lon_at, lat_at}
 use Rattle.references.specs.declared.node.Sought.{Sought}
-use Rattle.references.specs.declared.node.NodeFound.{NodeFound}
-use Rattle.references.specs.declared.node.NodeFound.TheVariants.{At, Missing}
-use Rattle.references.specs.Node.{passes, found_in, Finds}
+use Rattle.std.proofs.Common.{Option, Some, None, Ok, Err}
+use Rattle.std.specs.Option.{ok_or}
+use Rattle.model.specs.declared.Refusal.{Refusal}
+use Rattle.references.specs.Node.{passes, Finds}
 
 module _ (test : Node → Bool) (nodes : List Node) (v : ℕ) (d : Node) (h : v < length nodes) where
   seek_here : test (get_or nodes v d) ≡ true → seek test v (drop v nodes) ≡ found v
@@ -51,13 +52,17 @@ not_any {m = m} holds test v e =
     let all : v ≡ length m.nodes = omega (arith, holds.node_count) in
     rw (all, drop-length m.nodes, seek)
 
--- What a search says once its answer is known.
-module _ {work : List ℕ} {nodes : ℕ} {sought : Sought} {r : NodeFound} (finds : Finds work nodes sought r) where
-  pub node_found : {v : ℕ} → r ≡ At v →
+-- What a search says once it is known whether a refusal stands in its answer's place.
+module _ {work : List ℕ} {nodes : ℕ} {sought : Sought} {r : Option ℕ} (finds : Finds work nodes sought r) (why : Refusal) where
+  pub node_found : {v : ℕ} → ok_or r why ≡ Ok v →
       (v < nodes) × ((m : Map) (lines : ℕ) → Holds work nodes lines m → seek (passes sought) 0 m.nodes ≡ found v)
-  unfolding found_in
-  node_found e = let f = subst (λ (q : NodeFound). Finds work nodes sought q) e finds in (f.below, f.first)
+  node_found {v} e =
+      let is : r ≡ Some v = grind arith in
+      let f = subst (λ (q : Option ℕ). Finds work nodes sought q) is finds in (f.below, f.first)
 
-  pub node_missing : r ≡ Missing → (m : Map) (lines : ℕ) → Holds work nodes lines m → seek (passes sought) 0 m.nodes ≡ missing
-  unfolding found_in
-  node_missing e = (subst (λ (q : NodeFound). Finds work nodes sought q) e finds).first
+  pub node_missing : {given : Refusal} → ok_or r why ≡ Err given →
+      (given ≡ why) × ((m : Map) (lines : ℕ) → Holds work nodes lines m → seek (passes sought) 0 m.nodes ≡ missing)
+  node_missing {given} e =
+      let is : r ≡ None = grind arith in
+      let same : given ≡ why = grind arith in
+      (same, (subst (λ (q : Option ℕ). Finds work nodes sought q) is finds).first)

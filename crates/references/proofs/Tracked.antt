@@ -9,17 +9,17 @@ use borrow.Author.Count.{below_more}
 use Rattle.model.specs.Map.{Node, Map}
 use Rattle.model.specs.Difference.{stands_at}
 use Rattle.model.specs.Reference.{at3, point_at, reference_at}
-use Rattle.model.specs.Locate.{found, missing, seek, located, no_node, locate}
+use Rattle.model.specs.Locate.{found, missing, seek, no_node, locate}
 use Rattle.work_area.specs.Area.{Holds}
 use Rattle.buffers.specs.Kept.{Kept}
 use Rattle.work_area.proofs.Holding.{lon_at, lat_at}
 use Rattle.work_area.proofs.Held.{node_path}
 use Rattle.references.specs.declared.node.Sought.{Sought}
 use Rattle.references.specs.declared.node.Sought.TheVariants.{Codes}
-use Rattle.references.specs.declared.points.Places.{Places}
-use Rattle.references.specs.declared.points.Places.TheVariants.{Found, NoNode}
+use Rattle.std.proofs.Common.{Result, Ok, Err}
+use Rattle.model.specs.declared.Refusal.{Refusal}
 use Rattle.references.specs.Node.{passes}
-use Rattle.references.specs.Legs.{place_p, sought_after, AllFound, PlacesOf, PlacesPut}
+use Rattle.references.specs.Legs.{place_p, sought_after, AllFound, PointMissing, PlacesOf, PlacesPut}
 use Rattle.buffers.proofs.Kept.{kept_then}
 use Rattle.references.proofs.Located.{next_node, PointsFound, Step, located_all, located_up_to}
 
@@ -91,9 +91,9 @@ module _ (bytes work : List ℕ) (nodes : ℕ) where
         located_up_to m bytes points places k inside (t.path m lines h) (sym (seeks_next h k (get_or places k 0) (t.below k (omega arith))) ∙ gone)
 
 -- What is known of the points once the answer on them is known.
-module _ {bytes work before after : List ℕ} {points nodes : ℕ} {r : Places} (put : PlacesPut bytes points work nodes before after r) where
-  pub all_found : r ≡ Found → AllFound bytes points work nodes after
-  all_found e = subst (λ (q : Places). PlacesOf bytes points work nodes after q) e put.answers
+module _ {bytes work before after : List ℕ} {points nodes : ℕ} {r : Result (Unit {0}) Refusal} (put : PlacesPut bytes points work nodes before after r) where
+  pub all_found : {x : Unit {0}} → r ≡ Ok x → AllFound bytes points work nodes after
+  all_found e = subst (λ (q : Result (Unit {0}) Refusal). PlacesOf bytes points work nodes after q) e put.answers
 
-  pub none_found : {k : ℕ} → r ≡ NoNode k → (m : Map) (lines : ℕ) → Holds work nodes lines m → locate m (reference_at bytes points) ≡ no_node k
-  none_found e = subst (λ (q : Places). PlacesOf bytes points work nodes after q) e put.answers
+  pub none_found : {why : Refusal} → r ≡ Err why → PointMissing bytes points work nodes why
+  none_found e = subst (λ (q : Result (Unit {0}) Refusal). PlacesOf bytes points work nodes after q) e put.answers

@@ -1,5 +1,5 @@
 -- The legs of a reference, from its bytes and the nodes of its points; and what is promised of those nodes.
-use Rattle.std.specs.Prelude.{ℕ, zero, suc, ◌+◌, ◌*◌, ◌≤◌, ◌<◌, ◌≡◌, cond, List, [], ◌∷◌, get_or, eqb}
+use Rattle.std.specs.Prelude.{ℕ, zero, suc, ◌+◌, ◌*◌, ◌≤◌, ◌<◌, ◌≡◌, cond, List, [], ◌∷◌, get_or, eqb, Result, Ok, Err}
 use Rattle.model.specs.Map.{Map}
 use Rattle.model.specs.Difference.{lon_sum, signed}
 use Rattle.model.specs.Reference.{at2, attributes, point_at, reference_at}
@@ -8,8 +8,8 @@ use Rattle.work_area.specs.Area.{Holds}
 use Rattle.buffers.specs.Kept.{Kept}
 use Rattle.references.specs.declared.node.Sought.{Sought}
 use Rattle.references.specs.declared.node.Sought.TheVariants.{Moved}
-use Rattle.references.specs.declared.points.Places.{Places}
-use Rattle.references.specs.declared.points.Places.TheVariants.{Found, NoNode}
+use Rattle.model.specs.declared.Refusal.{Refusal}
+use Rattle.model.specs.declared.Refusal.TheVariants.{NoNode}
 use Rattle.model.specs.Locate as definitions
 
 -- Where the P of point `k` stands.
@@ -52,13 +52,18 @@ pub record AllFound (bytes : List ℕ) (points : ℕ) (work : List ℕ) (nodes :
   pub located : (m : Map) (lines : ℕ) → Holds work nodes lines m →
       definitions.locate m (reference_at bytes points) ≡ definitions.located (legs_at bytes points places)
 
--- What an answer says of each map that the work area holds with so many nodes.
-abbrev pub PlacesOf : List ℕ → ℕ → List ℕ → ℕ → List ℕ → Places → Type 0
-PlacesOf bytes points work nodes places Found = AllFound bytes points work nodes places
-PlacesOf bytes points work nodes places (NoNode k) =
-    (m : Map) (lines : ℕ) → Holds work nodes lines m → definitions.locate m (reference_at bytes points) ≡ definitions.no_node k
+-- A refusal is that of a point without a node, on each map that the work area holds with so many nodes.
+pub record PointMissing (bytes : List ℕ) (points : ℕ) (work : List ℕ) (nodes : ℕ) (why : Refusal) : Type 0 where
+  pub point : ℕ
+  pub is : why ≡ NoNode point
+  pub missing : (m : Map) (lines : ℕ) → Holds work nodes lines m → definitions.locate m (reference_at bytes points) ≡ definitions.no_node point
 
--- The table of nodes was `before` and is `after`: only its first points + 1 numbers are changed, and after `NoNode` nothing is said of those.
-pub record PlacesPut (bytes : List ℕ) (points : ℕ) (work : List ℕ) (nodes : ℕ) (before after : List ℕ) (r : Places) : Type 0 where
+-- What an answer says of the points.
+abbrev pub PlacesOf : List ℕ → ℕ → List ℕ → ℕ → List ℕ → Result (Unit {0}) Refusal → Type 0
+PlacesOf bytes points work nodes places (Ok _) = AllFound bytes points work nodes places
+PlacesOf bytes points work nodes places (Err why) = PointMissing bytes points work nodes why
+
+-- The table of nodes was `before` and is `after`: only its first points + 1 numbers are changed, and after a refusal nothing is said of those.
+pub record PlacesPut (bytes : List ℕ) (points : ℕ) (work : List ℕ) (nodes : ℕ) (before after : List ℕ) (r : Result (Unit {0}) Refusal) : Type 0 where
   pub answers : PlacesOf bytes points work nodes after r
   pub kept : Kept 0 (points + 1) before after

@@ -6,18 +6,19 @@ ghost use Rattle.references.specs.Legs.{arrival_at, leg_at};
 
 use crate::reference::{Reference, attributes_at, byte_at};
 use buffers::wide;
-use fields::leg::{Arrival, Leg};
+use fields::leg::{Attributes, Leg};
 
-// How leg `k` ends: the last one as the last P and R say.
-fn arrival_at(bytes: &[u8], points: usize, k: usize) -> Arrival
+// The attributes that leg `k` ends with: the last one has those of the last P and R, no other has any.
+#[tactic(auto, unfolding(fields::specs::Leg::arrival_in, crate::specs::Legs::arrival_at))]
+fn arrival_at(bytes: &[u8], points: usize, k: usize) -> Option<Attributes>
     requires { SoundBytes bytes.now points × (k < points) }
     ensures { arrival_in result ≡ arrival_at bytes.now points k }
 {
     if k + 1 < points {
-        return Arrival::Any;
+        return None;
     }
     let last = Reference::MIDDLE_POINT * points;
-    Arrival::Matching(attributes_at(
+    Some(attributes_at(
         bytes,
         Reference::FIRST_P + last,
         Reference::FIRST_P + 1 + last,

@@ -14,13 +14,6 @@ pub enum Sought {
     Moved(u32, u32, u32),
 }
 
-// The number of the node, or none.
-#[derive(Clone, Copy)]
-pub enum NodeFound {
-    At(u32),
-    Missing,
-}
-
 // Whether the node with these stored coordinates is the one.
 fn is_sought(sought: Sought, lon: u32, lat: u32) -> bool
     ensures { (a : Node) → a.lon ≡ lon → a.lat ≡ lat → result ≡ passes sought a }
@@ -32,18 +25,16 @@ fn is_sought(sought: Sought, lon: u32, lat: u32) -> bool
     }
 }
 
-// The first of the map's nodes that is the one sought.
-pub fn find(work: &[u32], nodes: u32, sought: Sought) -> NodeFound
+// The number of the first of the map's nodes that is the one sought, or none.
+pub fn find(work: &[u32], nodes: u32, sought: Sought) -> Option<u32>
     requires { (work_length ≤ length work.now) × (nodes ≤ greatest_node_count) }
     ensures { Finds work.now nodes sought result }
 {
-    let mut v: u32 = 0;
-    while v < nodes {
+    for v in 0..nodes {
         let at = NODE_NUMBERS * v as usize;
         if is_sought(sought, work[at], work[at + 1]) {
-            return NodeFound::At(v);
+            return Some(v);
         }
-        v += 1;
     }
-    NodeFound::Missing
+    None
 }

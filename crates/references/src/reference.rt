@@ -4,7 +4,6 @@ ghost use Rattle.model.specs.Reference.{attributes, flags, spare_bits, offset_at
 ghost use Rattle.fields.specs.Leg.{attributes_in};
 ghost use Rattle.references.specs.Form.{FormOf, SoundBytes, offset_in};
 
-use buffers::bytes::wide;
 use fields::leg::Attributes;
 use model::Refusal;
 use model::limits::LONGEST_REFERENCE;
@@ -13,20 +12,6 @@ use model::limits::LONGEST_REFERENCE;
 #[derive(Clone, Copy)]
 pub struct Reference {
     pub points: usize,
-}
-
-// What some bytes are: a reference, or why not.
-#[derive(Clone, Copy)]
-pub enum Form {
-    Sound(Reference),
-    Refused(Refusal),
-}
-
-// An offset byte, only if flagged.
-#[derive(Clone, Copy)]
-pub enum Offset {
-    Absent,
-    Byte(u32),
 }
 
 impl Reference {
@@ -52,31 +37,28 @@ impl Reference {
     pub const FIRST_P: usize = 7;
 
     // The reference that the bytes are, or the first of refusals 12 to 15. What is over after whole points are offset bytes, at most 2.
-    pub fn of(bytes: &[u8]) -> Form
+    pub fn of(bytes: &[u8]) -> Result<Reference, Refusal>
         ensures { FormOf bytes.now result }
     {
         let n = bytes.len();
-        if n < Self::SHORTEST {
-            return Form::Refused(Refusal::ReferenceLength);
-        }
-        if Self::LONGEST < n {
-            return Form::Refused(Refusal::ReferenceLength);
+        if n < Self::SHORTEST || Self::LONGEST < n {
+            return Err(Refusal::ReferenceLength);
         }
         let left = (n - Self::SHORTEST) % Self::MIDDLE_POINT;
         if 2 < left {
-            return Form::Refused(Refusal::ReferenceLength);
+            return Err(Refusal::ReferenceLength);
         }
         if bytes[0] != Self::STATUS {
-            return Form::Refused(Refusal::ReferenceStatus);
+            return Err(Refusal::ReferenceStatus);
         }
         let points = (n - Self::SHORTEST) / Self::MIDDLE_POINT + 1;
         if spare_bits(bytes, points) {
-            return Form::Refused(Refusal::ReferenceBits);
+            return Err(Refusal::ReferenceBits);
         }
         if flag_count(byte_r(bytes, points)) != left {
-            return Form::Refused(Refusal::ReferenceFlags);
+            return Err(Refusal::ReferenceFlags);
         }
-        Form::Sound(Reference { points })
+        Ok(Reference { points })
     }
 }
 
@@ -85,7 +67,7 @@ pub fn byte_at(bytes: &[u8], i: usize) -> u32
     requires { i < length bytes.now }
     ensures { (result ≡ get_or bytes.now i 0) × (result < 256) }
 {
-    wide(bytes[i])
+    u32::from(bytes[i])
 }
 
 // Byte R, after the last point's P.
@@ -100,6 +82,7 @@ fn byte_r(bytes: &[u8], points: usize) -> u32
 }
 
 // How many offsets byte R flags.
+#[tactic(auto, unfolding(model::specs::Reference::flags))]
 fn flag_count(r: u32) -> usize
     ensures { result ≡ flags r }
 {
@@ -111,18 +94,17 @@ fn spare_bits(bytes: &[u8], points: usize) -> bool
     requires { (9 + 7 * points ≤ length bytes.now) × (points ≤ 64) }
     ensures { result ≡ spare_bits bytes.now 7 points }
 {
-    let mut k: usize = 0;
-    while k < points {
+    for k in 0..points {
         if 64 <= byte_at(bytes, Reference::FIRST_P + Reference::MIDDLE_POINT * k) {
             return true;
         }
-        k += 1;
     }
     64 <= byte_at(bytes, Reference::FIRST_P + Reference::MIDDLE_POINT * points)
         || 128 <= byte_r(bytes, points)
 }
 
 // What a P at byte `p` and a sector in byte `s` say of a line.
+#[tactic(auto, unfolding(model::specs::Reference::attributes, fields::specs::Leg::attributes_in))]
 pub fn attributes_at(bytes: &[u8], p: usize, s: usize) -> Attributes
     requires { (p < length bytes.now) × (s < length bytes.now) }
     ensures { attributes_in result ≡ attributes (get_or bytes.now p 0) (get_or bytes.now s 0) }
@@ -137,18 +119,20 @@ pub fn attributes_at(bytes: &[u8], p: usize, s: usize) -> Attributes
 }
 
 // The offset byte at `i`, if flagged.
-fn offset_at(bytes: &[u8], flagged: bool, i: usize) -> Offset
+#[tactic(auto, unfolding(model::specs::Reference::offset_at))]
+fn offset_at(bytes: &[u8], flagged: bool, i: usize) -> Option<u32>
     requires { flagged ≡ true → i < length bytes.now }
     ensures { offset_in result ≡ offset_at flagged bytes.now i }
 {
     if flagged {
-        return Offset::Byte(byte_at(bytes, i));
+        Some(byte_at(bytes, i))
+    } else {
+        None
     }
-    Offset::Absent
 }
 
 // The positive offset.
-pub fn positive_offset(bytes: &[u8], points: usize) -> Offset
+pub fn positive_offset(bytes: &[u8], points: usize) -> Option<u32>
     requires { SoundBytes bytes.now points }
     ensures { offset_in result ≡ (reference_at bytes.now points).pos }
 {
@@ -161,7 +145,7 @@ pub fn positive_offset(bytes: &[u8], points: usize) -> Offset
 }
 
 // The negative offset. Its byte stands after that of the positive one.
-pub fn negative_offset(bytes: &[u8], points: usize) -> Offset
+pub fn negative_offset(bytes: &[u8], points: usize) -> Option<u32>
     requires { SoundBytes bytes.now points }
     ensures { offset_in result ≡ (reference_at bytes.now points).neg }
 {

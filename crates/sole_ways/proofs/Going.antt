@@ -1,6 +1,6 @@
 -- Going along the stretch's lines after a search, while they are the only way.
 use Prim.Native.Nat.{ℕ, ◌+◌, ◌-◌, ◌≤◌, ◌<◌}
-use mathlib.Core.Path.{◌≡◌, refl, sym, ◌∙◌, ap, subst}
+use mathlib.Core.Path.{◌≡◌, sym, ◌∙◌, ap, subst}
 use mathlib.Core.List.{List, [], ◌∷◌, ◌++◌}
 use native.Mathlib.Omega.{arith}
 use lib.ListN.{length, get_or}
@@ -8,9 +8,8 @@ use lib.Seq.{slice}
 use Rattle.model.specs.Map.{Map}
 use Rattle.model.specs.Lines.{line_at, Connected, total, lowest, first_of}
 use Rattle.work_area.specs.Mirror.{mirror}
-use Rattle.work_area.proofs.Mirrored.{lines_mirrored}
 use Rattle.way_lengths.specs.Ways.{line, OnlyWay}
-use Rattle.search_cells.specs.Area.{Searched, Set, length_to, predecessor}
+use Rattle.search_cells.specs.Area.{length_to, predecessor}
 use Rattle.stretches.specs.Stretch.{Known}
 use Rattle.sole_ways.specs.declared.ahead.Along.{Along}
 use Rattle.sole_ways.specs.SoleWays.{SoleUnder, Follows, Advanced}

@@ -1,11 +1,11 @@
 -- Rows of the table tested in order: how many legs they have, and what their numbers say of the legs whose turn has come.
 use Prim.Native.Nat.{ℕ, zero, suc, ◌+◌, ◌*◌, ◌-◌, ◌≤◌, ◌<◌, min}
-use mathlib.Core.Path.{◌≡◌, refl, sym, ◌∙◌, ap, subst}
+use mathlib.Core.Path.{◌≡◌, refl, sym, ◌∙◌, subst}
 use mathlib.Core.List.{List}
 use native.Mathlib.Decide.{dec_lt, ℕ_discrete}
 use native.Mathlib.Omega.{arith}
 use native.Mathlib.Numerals.{add-one}
-use lib.ListN.{length, get_or}
+use lib.ListN.{length}
 use Rattle.model.specs.Map.{Map}
 use Rattle.model.specs.LegTests.{legs_before, turn, leg_count, tests_made}
 use Rattle.buffers.specs.Kept.{Kept}

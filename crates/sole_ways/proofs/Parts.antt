@@ -1,12 +1,11 @@
 -- A part of a stretch with one line more.
 use Prim.Native.Nat.{ℕ, ◌+◌, ◌≤◌, ◌<◌, max}
-use mathlib.Core.Path.{◌≡◌, refl, sym, ◌∙◌, ap, ap₂}
+use mathlib.Core.Path.{◌≡◌, sym, ◌∙◌, ap, ap₂}
 use mathlib.Core.List.{List}
 use native.Mathlib.Omega.{arith}
 use lib.ListN.{length, get_or}
-use lib.Seq.{slice}
 use Rattle.model.specs.Map.{Line, Map, greatest_line_count}
-use Rattle.model.specs.Lines.{line_at, total, lowest}
+use Rattle.model.specs.Lines.{line_at}
 use Rattle.work_area.specs.Mirror.{mirror}
 use Rattle.work_area.proofs.Mirrored.{line_mirrored}
 use Rattle.search_cells.specs.Area.{Set}

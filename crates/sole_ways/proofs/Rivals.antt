@@ -1,11 +1,10 @@
 -- Other lines that arrive where the stretch's own does: one that is as near is a rival, and where there is none the own way to the line is sole to the node.
-use Prim.Native.Nat.{ℕ, ◌+◌, ◌-◌, ◌≤◌, ◌<◌}
+use Prim.Native.Nat.{ℕ, ◌-◌, ◌≤◌, ◌<◌}
 use mathlib.Core.Path.{◌≡◌, refl, sym, ◌∙◌, ap, subst}
 use mathlib.Core.Logic.{◌≢◌}
 use mathlib.Core.List.{List}
 use native.Mathlib.Decide.{ℕ_discrete}
 use native.Mathlib.Omega.{arith}
-use lib.ListN.{length, get_or}
 use Rattle.model.specs.Map.{Line, Map}
 use Rattle.model.specs.Lines.{line_at, total, first_of, last_of}
 use Rattle.model.proofs.Joining.{last_known}

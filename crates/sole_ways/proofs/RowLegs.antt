@@ -6,6 +6,7 @@ use mathlib.Core.List.{List}
 use native.Mathlib.Omega.{arith}
 use lib.ListN.{length, get_or, set}
 use lib.Seq.{slice}
+use Rattle.std.proofs.Common.{Option, None, Some}
 use Rattle.model.specs.Map.{Map}
 use Rattle.model.specs.Reading.{greatest_leg_length}
 use Rattle.model.specs.Lines.{Connected, total, lowest}
@@ -20,7 +21,7 @@ use Rattle.sole_ways.specs.declared.part.Part.{Part}
 use Rattle.sole_ways.specs.declared.ahead.Along.{Along}
 use Rattle.sole_ways.specs.declared.test.SoleTest.{SoleTest}
 use Rattle.sole_ways.specs.declared.wall.Wall.{Wall}
-use Rattle.sole_ways.specs.SoleWays.{mark, SoleLeg, SoleWay, own_end, none_from, Measures, OneMore, Worked, Follows, FollowsIf, OnTrial, LegTested, WalledIf, Bars, RowBefore, RowCleared, RowTested}
+use Rattle.sole_ways.specs.SoleWays.{mark, SoleLeg, SoleWay, own_end, none_from, Measures, OneMore, Worked, Follows, FollowsIf, EndsBy, Arriving, OnTrial, LegTested, WalledIf, Bars, RowBefore, RowCleared, RowTested}
 use Rattle.sole_ways.proofs.Sole.{next_sole, none_further, none_longer}
 use Rattle.sole_ways.proofs.Slices.{lowest_then}
 use Rattle.sole_ways.proofs.Walls.{barred}
@@ -29,24 +30,24 @@ use Rattle.sole_ways.proofs.Parts.{measures_none}
 use Rattle.sole_ways.proofs.Rows.{RowUpTo, row_yes, row_no, row_stop}
 
 -- The legs up to the end of a part are tested.
-pub record InRow (m : Map) (lines : ℕ) (s : List ℕ) (i end : ℕ) (a b w v : List ℕ) (along : Along) (p : Part) : Type 0 where
+pub record InRow (m : Map) (lines : ℕ) (s : List ℕ) (i end : ℕ) (a b w v : List ℕ) (along : Option Along) (p : Part) : Type 0 where
   pub measured : Measures (mirror m) s p
   pub row : RowUpTo (mirror m) s i end a b p.to
-  pub start : along.to ≤ p.to
+  pub start : EndsBy along p.to
   pub follows : FollowsIf m lines s i v along
   pub worked : Worked m lines w v
 
 pub in_row_start : {m : Map} {lines : ℕ} (s : List ℕ) {i end : ℕ} {a w : List ℕ} → i ≤ length s → RowUpTo (mirror m) s i end a a i → Set m lines w →
-    InRow m lines s i end a a w w (record { class = 0; limit = 0; to = 0 }) (none_from i)
+    InRow m lines s i end a a w w None (none_from i)
 in_row_start {m} s {i = i} h row set =
-    record { measured = measures_none (mirror m) s i h; row = row; start = omega arith; follows = λ some. absurd (omega arith); worked = worked_none set }
+    record { measured = measures_none (mirror m) s i h; row = row; start = tt; follows = tt; worked = worked_none set }
 
 -- The numbers of the row before are still there.
 pub before_kept : {m : Map} {s : List ℕ} (i end : ℕ) {a b : List ℕ} → length s ≤ 64 → Kept (65 * i + i + 1) (65 * i + end + 1) a b →
     RowBefore m s i a → RowBefore m s i b
 before_kept i end few kept before some j h l e = before some j h l (sym (kept.below (65 * (i - 1) + j) (omega arith)) ∙ e)
 
-module _ {m : Map} {lines : ℕ} {s : List ℕ} {i end : ℕ} {a b w v : List ℕ} {along : Along} {p r : Part} (joint : Connected (mirror m) s)
+module _ {m : Map} {lines : ℕ} {s : List ℕ} {i end : ℕ} {a b w v : List ℕ} {along : Option Along} {p r : Part} (joint : Connected (mirror m) s)
     (inside : end ≤ length s) (first : p.from ≡ i) (after : i ≤ p.to) (room : p.to < end) (one : OneMore p r)
     (k : InRow m lines s i end a b w v along p) (next : Measures (mirror m) s r) where
   from_is : r.from ≡ i
@@ -55,10 +56,27 @@ module _ {m : Map} {lines : ℕ} {s : List ℕ} {i end : ℕ} {a b w v : List �
   to_is : r.to ≡ p.to + 1
   to_is = one.to
 
+  -- A search that ends by the part does so by the longer one.
+  start_on : (x : Option Along) → EndsBy x p.to → EndsBy x r.to
+  start_on None h = tt
+  start_on (Some x) h = omega (arith, to_is)
+
+  pub start_next : EndsBy along r.to
+  start_next = start_on along k.start
+
+  pub follows_next : FollowsIf m lines s r.from v along
+  follows_next = subst (λ (x : ℕ). FollowsIf m lines s x v along) (sym from_is) k.follows
+
   -- The next leg is one under test.
   pub on_trial : Known lines s → r.length ≤ greatest_leg_length → OnTrial m lines s r
   on_trial known short =
       record { known = known; connected = joint; measured = next; some = omega (arith, from_is, to_is, after); within = short }
+
+  -- What its test tells.
+  pub tested_next : {arrivals u : List ℕ} {t : SoleTest} → Known lines s → r.length ≤ greatest_leg_length → Arriving m lines s arrivals →
+      (Set m lines v → OnTrial m lines s r → Arriving m lines s arrivals → EndsBy along r.to → FollowsIf m lines s r.from v along → LegTested m lines s r v u t) →
+      LegTested m lines s r v u t
+  tested_next known short arriving test = test k.worked.set (on_trial known short) arriving start_next follows_next
 
   -- It is known to be sole by the row before.
   pub in_row_known : 65 * i + r.to < length b → RowBefore (mirror m) s i b → (0 < i) × (mark b (i - 1) r.to ≡ 1) →
@@ -70,7 +88,7 @@ module _ {m : Map} {lines : ℕ} {s : List ℕ} {i end : ℕ} {a b w v : List �
         measured = next;
         row = subst (λ (x : ℕ). RowUpTo (mirror m) s i end a (set b (65 * i + x) 1) x) (sym to_is)
             (row_yes after room k.row (omega (arith, to_is, fits)) (subst (SoleLeg (mirror m) s i) to_is here));
-        start = omega (arith, k.start, to_is);
+        start = start_on along k.start;
         follows = k.follows;
         worked = k.worked;
       }
@@ -85,11 +103,12 @@ module _ {m : Map} {lines : ℕ} {s : List ℕ} {i end : ℕ} {a b w v : List �
       (λ q h l. none_longer s joint i r.to q (omega (arith, to_is, after)) (omega (arith, to_is, h)) (omega (arith, l, inside)) (omega (arith, sum, long)))
 
   -- It has another way that is as short: so have the later ones.
-  pub in_row_barred : {wall : Wall} → WalledIf (mirror m) s wall → Bars wall r → RowTested m lines s i end a b w v
-  in_row_barred walled (some, from, to, class) =
+  pub in_row_barred : (wall : Option Wall) → WalledIf (mirror m) s wall → Bars wall r → RowTested m lines s i end a b w v
+  in_row_barred None walled h = absurd h
+  in_row_barred (Some wall) walled (from, to, class) =
       let classes = subst (λ (x : ℕ). r.class ≡ lowest (mirror m) (slice x r.to s)) from_is next.classes in
       row_stop k.row k.worked
-      (λ q h l. barred s joint (walled some) i q (omega (arith, from, from_is)) (omega (arith, to, to_is, h)) (omega (arith, l, inside))
+      (λ q h l. barred s joint walled i q (omega (arith, from, from_is)) (omega (arith, to, to_is, h)) (omega (arith, l, inside))
       (omega (arith, class, classes, lowest_then (mirror m) s i r.to q (omega (arith, to_is, after)) (omega (arith, to_is, h)) (omega (arith, l, inside)))))
 
   -- It is tested.
@@ -97,10 +116,10 @@ module _ {m : Map} {lines : ℕ} {s : List ℕ} {i end : ℕ} {a b w v : List �
     says : Decides (SoleWay (mirror m) (slice i r.to s) (own_end (mirror m) s r.to)) t.sole
     says = subst (λ (x : ℕ). Decides (SoleWay (mirror m) (slice x r.to s) (own_end (mirror m) s r.to)) t.sole) from_is tested.says
 
-    further : FollowsIf m lines s i u t.along
-    further some = subst (λ (x : ℕ). Follows m lines s x u t.along) from_is tested.follows
+    further : Follows m lines s i u t.along
+    further = subst (λ (x : ℕ). Follows m lines s x u t.along) from_is tested.follows
 
-    pub in_row_yes : 65 * i + r.to < length b → t.sole ≡ true → InRow m lines s i end a (set b (65 * i + r.to) 1) w u t.along r
+    pub in_row_yes : 65 * i + r.to < length b → t.sole ≡ true → InRow m lines s i end a (set b (65 * i + r.to) 1) w u (Some t.along) r
     in_row_yes fits e =
         let sole : SoleLeg (mirror m) s i r.to =
         record {
@@ -121,7 +140,7 @@ module _ {m : Map} {lines : ℕ} {s : List ℕ} {i end : ℕ} {a b w v : List �
     never e sole = subst (Decides (SoleWay (mirror m) (slice i r.to s) (own_end (mirror m) s r.to))) e says sole.sole
 
     -- It is not sole, but its lines are the only way to the last of them: a later one may be.
-    pub in_row_no : t.sole ≡ false → InRow m lines s i end a b w u t.along r
+    pub in_row_no : t.sole ≡ false → InRow m lines s i end a b w u (Some t.along) r
     in_row_no e =
         record {
           measured = next;
@@ -147,6 +166,6 @@ pub row_cleared_then : {m : Map} {lines : ℕ} {s : List ℕ} {i end : ℕ} {z a
 row_cleared_then c t = record { says = t.says; kept = kept_then c.kept t.kept; worked = t.worked }
 
 -- All legs of the row are tested.
-pub in_row_end : {m : Map} {lines : ℕ} {s : List ℕ} {i end : ℕ} {a b w v : List ℕ} {along : Along} {p : Part} → end ≤ p.to →
+pub in_row_end : {m : Map} {lines : ℕ} {s : List ℕ} {i end : ℕ} {a b w v : List ℕ} {along : Option Along} {p : Part} → end ≤ p.to →
     InRow m lines s i end a b w v along p → RowTested m lines s i end a b w v
 in_row_end h k = row_stop k.row k.worked (λ q after upto. absurd (omega arith))

@@ -1,6 +1,6 @@
 -- A row of the table: its numbers, one after another.
-use Prim.Native.Nat.{ℕ, ◌+◌, ◌*◌, ◌-◌, ◌≤◌, ◌<◌}
-use mathlib.Core.Path.{◌≡◌, refl, sym, ◌∙◌, subst}
+use Prim.Native.Nat.{ℕ, ◌+◌, ◌*◌, ◌≤◌, ◌<◌}
+use mathlib.Core.Path.{◌≡◌, sym, ◌∙◌, subst}
 use mathlib.Core.List.{List}
 use native.Mathlib.Decide.{dec_lt}
 use native.Mathlib.Omega.{arith}
@@ -8,25 +8,10 @@ use lib.ListN.{length, set}
 use lib.Seq.{get_or-set_same, get_or-set_other}
 use Rattle.model.specs.Map.{Map}
 use Rattle.buffers.specs.Kept.{Kept}
-use Rattle.buffers.proofs.Kept.{kept_none, kept_then, kept_set, kept_within}
+use Rattle.buffers.proofs.Kept.{kept_none, kept_then, kept_set}
 use Rattle.work_area.specs.Mirror.{mirror}
 use Rattle.sole_ways.specs.SoleWays.{mark, Marks, SoleLeg, Worked, RowCleared, RowTested}
 use Rattle.sole_ways.proofs.Marks.{marks_yes, marks_no}
-
--- One number more is 0.
-pub cleared_none : (i : ℕ) (a : List ℕ) → RowCleared i i a a
-cleared_none i a = record { cleared = λ j h l. absurd (omega arith); kept = kept_none }
-
-pub cleared_more : (i j : ℕ) (a b : List ℕ) → i ≤ j → 65 * i + (j + 1) < length b → RowCleared i j a b → RowCleared i (j + 1) a (set b (65 * i + (j + 1)) 0)
-cleared_more i j a b h room c =
-    record {
-      cleared = λ k after upto. go k after upto (dec_lt k (j + 1));
-      kept = kept_then (kept_within (omega arith) (omega arith) c.kept) (kept_set (65 * i + (j + 1)) 0 (omega arith) (omega arith));
-    }
-  where
-    go : (k : ℕ) → i < k → k ≤ j + 1 → Dec (k < j + 1) → mark (set b (65 * i + (j + 1)) 0) i k ≡ 0
-    go k after upto (yes earlier) = get_or-set_other b (65 * i + (j + 1)) (65 * i + k) 0 0 (λ e. omega arith) ∙ c.cleared k after (omega arith)
-    go k after upto (no last) = let e : k ≡ j + 1 = omega arith in rw e (get_or-set_same b (65 * i + (j + 1)) 0 0 room)
 
 -- The numbers up to position `j` answer, and those behind it are 0.
 pub record RowUpTo (m : Map) (s : List ℕ) (i end : ℕ) (a b : List ℕ) (j : ℕ) : Type 0 where

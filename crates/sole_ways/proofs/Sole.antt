@@ -1,5 +1,5 @@
 -- Sole ways: what a sole way says of a lesser class, of its later lines and of its first lines.
-use Prim.Native.Nat.{ℕ, ◌+◌, ◌-◌, ◌≤◌, ◌<◌, max}
+use Prim.Native.Nat.{ℕ, ◌-◌, ◌≤◌, ◌<◌}
 use mathlib.Core.Path.{◌≡◌, refl, sym, ◌∙◌, ap, subst}
 use mathlib.Core.Bool.{Bool, true, false, cond}
 use mathlib.Core.List.{List, [], ◌∷◌, ◌++◌, append-nil, append_cancel_left, append_cancel_right}
@@ -15,7 +15,7 @@ use Rattle.model.proofs.Joining.{filled}
 use Rattle.way_lengths.specs.declared.Terminus.{Terminus}
 use Rattle.way_lengths.specs.Ways.{line, node, Ends, Way}
 use Rattle.sole_ways.specs.SoleWays.{SoleUnder, SoleWay, own_end, SoleLeg}
-use Rattle.sole_ways.proofs.Slices.{slice_then, first_of_slice, last_of_slice, total_then, lowest_then, lowest_join, slice_connected, connected_other, connected_for}
+use Rattle.sole_ways.proofs.Slices.{slice_then, last_of_slice, total_then, lowest_then, lowest_join, slice_connected, connected_other, connected_for}
 
 -- A way of a class is one of a greater class, so a lesser class has fewer ways.
 pub way_wider : {m : Map} {c d : ℕ} {from to : Terminus} {ls : List ℕ} → c ≤ d → Way m c from to ls → Way m d from to ls

@@ -1,17 +1,13 @@
 -- One step further along the stretch's lines after a search: they are the only way again, or another way is as short.
 use Prim.Native.Nat.{ℕ, ◌+◌, ◌-◌, ◌≤◌, ◌<◌}
-use mathlib.Core.Path.{◌≡◌, refl, sym, ◌∙◌, ap, subst}
-use mathlib.Core.Logic.{⊎_elim}
+use mathlib.Core.Path.{◌≡◌, sym, ◌∙◌, ap, subst}
 use mathlib.Core.List.{List, [], ◌∷◌, ◌++◌}
 use native.Mathlib.Decide.{dec_lt, ℕ_discrete}
 use native.Mathlib.Omega.{arith}
-use lib.ListN.{length}
 use Rattle.model.specs.Map.{Map}
-use Rattle.model.specs.Lines.{line_at, Follows, total, first_of, last_of}
-use Rattle.model.proofs.Joining.{filled}
-use Rattle.way_lengths.specs.declared.Terminus.{Terminus}
-use Rattle.way_lengths.specs.Ways.{line, node, Ends, Way, OnlyWay}
-use Rattle.way_lengths.proofs.Plain.{total_more, way_more, last_known, grown_of}
+use Rattle.model.specs.Lines.{line_at, Follows, total, first_of}
+use Rattle.way_lengths.specs.Ways.{line, Way, OnlyWay}
+use Rattle.way_lengths.proofs.Plain.{total_more, way_more}
 use Rattle.way_lengths.proofs.Follows.{known}
 use Rattle.search_cells.specs.Area.{Searched, Tie, Predecessors, several, length_to, predecessor}
 use Rattle.search_cells.proofs.Holding.{few}

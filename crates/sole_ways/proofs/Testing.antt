@@ -6,24 +6,21 @@ use mathlib.Core.List.{List, [], ◌∷◌}
 use native.Mathlib.Omega.{arith}
 use lib.ListN.{length, get_or}
 use lib.Seq.{slice}
-use lib.Dec.{eqb}
 use borrow.Author.Tests.{eq-eqb, ne_eqb}
 use Rattle.model.specs.Map.{Map}
-use Rattle.model.specs.Reading.{greatest_leg_length}
 use Rattle.model.specs.Lines.{line_at, total, lowest}
 use Rattle.buffers.specs.Decides.{Decides}
 use Rattle.work_area.specs.Mirror.{mirror}
 use Rattle.work_area.proofs.Holding.{held_kept}
-use Rattle.work_area.proofs.Mirrored.{lines_mirrored}
-use Rattle.way_lengths.specs.Ways.{line, node, Way, OnlyWay}
+use Rattle.way_lengths.specs.Ways.{line, Way, OnlyWay}
 use Rattle.way_lengths.proofs.Plain.{way_one, total_one}
 use Rattle.search_cells.specs.Area.{Searched, Set, length_to}
 use Rattle.search.specs.Promises.{Finished}
-use Rattle.ways.proofs.Back.{near, short, longer, only_alone}
+use Rattle.ways.proofs.Back.{short, longer, only_alone}
 use Rattle.sole_ways.specs.declared.part.Part.{Part}
 use Rattle.sole_ways.specs.declared.ahead.Along.{Along}
 use Rattle.sole_ways.specs.declared.test.SoleTest.{SoleTest}
-use Rattle.sole_ways.specs.SoleWays.{SoleUnder, SoleWay, own_end, Follows, Serves, OnTrial, Worked, SearchedFor, Advanced, Arriving, Rival, Looked, LegTested, Served}
+use Rattle.sole_ways.specs.SoleWays.{SoleUnder, SoleWay, own_end, Follows, Serves, OnTrial, Worked, SearchedFor, Advanced, Rival, Looked, LegTested}
 use Rattle.sole_ways.proofs.Slices.{first_of_slice, slice_one, total_then, lowest_then}
 use Rattle.sole_ways.proofs.Sole.{sole_lower, sole_upto, own_ends}
 use Rattle.sole_ways.proofs.Steps.{sole_of}

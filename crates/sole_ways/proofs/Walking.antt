@@ -70,20 +70,23 @@ module _ {m : Map} {n c limit : ℕ} {from : Terminus} {w : List ℕ} {last : �
       }
 
   -- One line further back.
-  module _ {at class : ℕ} (k : WayBack m n limit w last at class) (some : 0 < predecessor w at) (one : predecessor w at < several) where
-    before : (predecessor w at - 1 < n) × (length_to w (predecessor w at - 1) < length_to w at)
-    before = tie_near s k.known k.near ((s.tied at k.known k.near).tie some one)
+  module _ {at class : ℕ} (p : ℕ) (k : WayBack m n limit w last at class) (one : (p + 1 ≡ predecessor w at) × (p + 1 < several)) where
+    tie : Tie m w p at
+    tie =
+        let e : predecessor w at - 1 ≡ p = omega (arith, one.0) in
+        subst (λ (l : ℕ). Tie m w l at) e ((s.tied at k.known k.near).tie (omega (arith, one.0)) (omega (arith, one)))
 
-    pub back_known : predecessor w at - 1 < n
+    before : (p < n) × (length_to w p < length_to w at)
+    before = tie_near s k.known k.near tie
+
+    pub back_known : p < n
     back_known = before.0
 
-    pub back_less : length_to w (predecessor w at - 1) < length_to w at
+    pub back_less : length_to w p < length_to w at
     back_less = before.1
 
-    pub back_on : {frc : ℕ} → frc ≡ (line_at m (predecessor w at - 1)).frc → WayBack m n limit w last (predecessor w at - 1) (max class frc)
+    pub back_on : {frc : ℕ} → frc ≡ (line_at m p).frc → WayBack m n limit w last p (max class frc)
     back_on e =
-        let tie = (s.tied at k.known k.near).tie some one in
-        let p = predecessor w at - 1 in
         record {
           known = back_known;
           near = omega (arith, back_less, k.near);
@@ -149,23 +152,23 @@ module _ {m : Map} {lines : ℕ} {s : List ℕ} {i : ℕ} {w : List ℕ} {along 
 
 -- Line `here` has one predecessor.
 module _ {m : Map} {lines c limit : ℕ} {from : Terminus} {w : List ℕ} {here x : ℕ} (found : Searched m lines c from limit w) (here< : here < lines)
-    (within : length_to w here ≤ limit) (some : 0 < x) (one : (x ≡ predecessor w here) × (x < several)) where
-  last_tie : Tie m w (x - 1) here
+    (within : length_to w here ≤ limit) (one : (x + 1 ≡ predecessor w here) × (x + 1 < several)) where
+  last_tie : Tie m w x here
   last_tie =
-      let e : predecessor w here - 1 ≡ x - 1 = omega (arith, one.0) in
-      subst (λ (l : ℕ). Tie m w l here) e ((found.tied here here< within).tie (omega (arith, one.0, some)) (omega (arith, one)))
+      let e : predecessor w here - 1 ≡ x = omega (arith, one.0) in
+      subst (λ (l : ℕ). Tie m w l here) e ((found.tied here here< within).tie (omega (arith, one.0)) (omega (arith, one)))
 
-  pub last_known : x - 1 < lines
+  pub last_known : x < lines
   last_known = omega (arith, last_tie.known, found.held.line_count)
 
 -- It stands at position `to`, and its predecessor is another line than the stretch's own and as near.
 pub last_joins : (m : Map) {lines c limit : ℕ} {from : Terminus} (s : List ℕ) {w : List ℕ} (to : ℕ) {here before x : ℕ} →
-    Searched (mirror m) lines c from limit w → here < lines → length_to w here ≤ limit → 0 < x → (x ≡ predecessor w here) × (x < several) →
-    here ≡ get_or s to 0 → before ≡ get_or s (to - 1) 0 → x - 1 ≢ before → length_to w (x - 1) ≤ length_to w before → Joins m lines s to w (x - 1)
-last_joins m s {w = w} to {x = x} found here< within some one is own differs near =
+    Searched (mirror m) lines c from limit w → here < lines → length_to w here ≤ limit → (x + 1 ≡ predecessor w here) × (x + 1 < several) →
+    here ≡ get_or s to 0 → before ≡ get_or s (to - 1) 0 → x ≢ before → length_to w x ≤ length_to w before → Joins m lines s to w x
+last_joins m s {w = w} to {x = x} found here< within one is own differs near =
     record {
-      known = last_known found here< within some one;
-      follows = subst (model.Follows (mirror m) (x - 1)) is (last_tie found here< within some one).follows;
+      known = last_known found here< within one;
+      follows = subst (model.Follows (mirror m) x) is (last_tie found here< within one).follows;
       differs = λ same. differs (same ∙ sym own);
       near = omega (arith, near, ap (length_to w) own);
     }

@@ -4,8 +4,9 @@ use Rattle.work_area.specs.Area.{search_from, search_to}
 use Rattle.work_area.specs.Mirror.{mirror}
 use Rattle.model.specs.Map.{Map}
 use Rattle.model.specs.Reading.{greatest_leg_length}
-use Rattle.std.specs.Prelude.{ℕ, ◌+◌, ◌*◌, ◌-◌, ◌≤◌, ◌<◌, max, ◌≡◌, cond, false, ◌≢◌, List, length, get_or, eqb}
+use Rattle.std.specs.Prelude.{ℕ, ◌+◌, ◌*◌, ◌-◌, ◌≤◌, ◌<◌, max, ◌≡◌, cond, false, ◌≢◌, List, length, get_or, eqb, Option, IfSome}
 use Rattle.std.proofs.Math.Seq.{slice}
+use Rattle.std.specs.Option.{IsSomeAnd}
 use Rattle.model.specs.Lines.{line_at, Connected, total, lowest, first_of}
 use Rattle.model.specs.LegTests.{turn}
 use Rattle.buffers.specs.Decides.{Decides}
@@ -81,9 +82,13 @@ pub record Follows (m : Map) (lines : ℕ) (s : List ℕ) (i : ℕ) (w : List �
   pub near : length_to w (get_or s (r.to - 1) 0) ≤ r.limit
   pub only : OnlyWay (mirror m) r.class (line (get_or s i 0)) (line (get_or s (r.to - 1) 0)) (length_to w (get_or s (r.to - 1) 0)) (slice i r.to s)
 
--- The same where some search is done for this row: `to` is not 0.
-abbrev pub FollowsIf : Map → ℕ → List ℕ → ℕ → List ℕ → Along → Type 0
-FollowsIf m lines s i w r = 0 < r.to → Follows m lines s i w r
+-- The same where some search is done for this row.
+abbrev pub FollowsIf : Map → ℕ → List ℕ → ℕ → List ℕ → Option Along → Type 0
+FollowsIf m lines s i w r = IfSome r (λ along. Follows m lines s i w along)
+
+-- It is gone along no further than to a position.
+abbrev pub EndsBy : Option Along → ℕ → Type 0
+EndsBy r to = IfSome r (λ along. along.to ≤ to)
 
 -- It serves a part: it went over lines of its class, as far as it is long.
 pub record Serves (p : Part) (r : Along) : Type 0 where
@@ -175,13 +180,13 @@ pub record Walled (m : Map) (s : List ℕ) (wall : Wall) : Type 0 where
   pub differs : last ≢ get_or s (wall.to - 1) 0
   pub short : total m other ≤ total m (slice wall.from wall.to s)
 
--- The same where some wall is known: `to` is not 0.
-abbrev pub WalledIf : Map → List ℕ → Wall → Type 0
-WalledIf m s wall = 0 < wall.to → Walled m s wall
+-- The same where some wall is known.
+abbrev pub WalledIf : Map → List ℕ → Option Wall → Type 0
+WalledIf m s r = IfSome r (λ wall. Walled m s wall)
 
--- The part has both ends of the way, and a class that allows it.
-abbrev pub Bars : Wall → Part → Type 0
-Bars wall p = (0 < wall.to) × (p.from ≤ wall.from) × (wall.to ≤ p.to) × (wall.class ≤ p.class)
+-- A wall is known, and the part has both ends of the way, and a class that allows it.
+abbrev pub Bars : Option Wall → Part → Type 0
+Bars r p = IsSomeAnd r (λ wall. (p.from ≤ wall.from) × (wall.to ≤ p.to) × (wall.class ≤ p.class))
 
 -- ---- a row of legs
 

@@ -11,11 +11,10 @@ use crate::part::{Part, one_more};
 use buffers::wide;
 use model::limits::GREATEST_LEG_LENGTH;
 use search::search;
-use stretches::lines::greater;
 use way_lengths::Terminus;
 
 // What a search from the first line of a row's legs serves: lines up to a class, and lengths up to a limit. Up to position `to` the stretch's lines are
-// the only way of their length. `to` is 0 where nothing is searched yet.
+// the only way of their length.
 #[derive(Clone, Copy)]
 pub struct Along {
     pub class: u32,
@@ -23,28 +22,11 @@ pub struct Along {
     pub to: usize,
 }
 
-pub const NOT_SEARCHED: Along = Along {
-    class: 0,
-    limit: 0,
-    to: 0,
-};
-
-// A length, or the greatest that a leg can have where that is less.
-fn within_leg(len: u32) -> u32
-    ensures { result ≡ min len greatest_leg_length }
-{
-    if GREATEST_LEG_LENGTH < len {
-        GREATEST_LEG_LENGTH
-    } else {
-        len
-    }
-}
-
 // The length to look ahead to from a leg: its own or `reach`, the greater of them, and no more than a leg can have.
 pub fn goal_for(len: u32, reach: u32) -> u32
     ensures { result ≡ min (max len reach) greatest_leg_length }
 {
-    within_leg(greater(len, reach))
+    len.max(reach).min(GREATEST_LEG_LENGTH)
 }
 
 // A longer part for a search to look ahead to, so that it serves later legs too: up to `goal` or to position `end`, over lines up to the class `most`.
@@ -93,7 +75,7 @@ pub fn search_ahead(
 {
     let goal = goal_for(part.length, reach);
     let far = look_ahead(work, lines, stretch, part, end, most, goal);
-    let limit = within_leg(far.length);
+    let limit = far.length.min(GREATEST_LEG_LENGTH);
     let from = part.from;
     search(
         work,

@@ -60,14 +60,12 @@ pub fn advance(
         → lowest (mirror m) (slice from to stretch.now) ≤ before.class
         → Advanced m lines stretch.now from to work.now before result }
 {
-    let mut at = before.to;
-    while at < to {
+    for at in before.to..to {
         if !steps_on(work, lines, stretch, at) {
             return at;
         }
-        at += 1;
     }
-    at
+    to
 }
 
 // Whether line `l` is as near as line `own`, and another.

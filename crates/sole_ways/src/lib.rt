@@ -14,7 +14,6 @@ ghost use Rattle.sole_ways.specs.SoleWays.{Blank, Arriving, RowsTested};
 
 use model::limits::GREATEST_LEG_LENGTH;
 use row::{Row, test_row};
-use wall::NO_WALL;
 
 pub mod ahead;
 pub mod along;
@@ -25,14 +24,6 @@ mod wall;
 
 // How long the legs of the first row are guessed to get: 1 km, a fifteenth of the longest leg.
 const FIRST_REACH: u32 = GREATEST_LEG_LENGTH / 15;
-
-// The last position that legs from position `i` are tested to, of `count`, where `left` tests may be made.
-fn row_end(i: usize, count: usize, left: usize) -> usize
-    requires { i < count }
-    ensures { result ≡ min count (i + left) }
-{
-    if left < count - i { i + left } else { count }
-}
 
 // Tests as many legs as it may, or all: the tests made. Number 65 * i + j of the table becomes 1 where the leg from position `i` to position `j` is tested and is a
 // sole way that is no longer than a leg can be.
@@ -54,17 +45,15 @@ pub fn test_rows(
     let mut left = tests;
     let mut row = Row {
         reach: FIRST_REACH,
-        wall: NO_WALL,
+        wall: None,
     };
-    let mut i: usize = 0;
-    while i < stretch.len() {
+    for i in 0..stretch.len() {
         if left == 0 {
             return tests;
         }
-        let end = row_end(i, stretch.len(), left);
+        let end = i + left.min(stretch.len() - i);
         row = test_row(work, lines, stretch, i, end, arrivals, row, table);
         left -= end - i;
-        i += 1;
     }
     tests - left
 }

@@ -7,7 +7,7 @@ ghost use Rattle.work_area.specs.Mirror.{mirror};
 ghost use Rattle.stretches.specs.Stretch.{Known};
 ghost use Rattle.sole_ways.specs.SoleWays.{none_from, Measures, OneMore};
 
-use stretches::lines::{field_of, greater};
+use stretches::lines::field_of;
 use work_area::{FRC, LENGTH};
 
 #[derive(Clone, Copy)]
@@ -38,12 +38,12 @@ pub fn one_more(work: &[u32], lines: usize, stretch: &[u32], part: Part) -> Part
     ensures measures { (m : Map) → Held work.now lines m → Measures (mirror m) stretch.now part
         → Measures (mirror m) stretch.now result }
 {
-    let class = greater(part.class, field_of(work, lines, stretch, part.to, FRC));
+    let frc = field_of(work, lines, stretch, part.to, FRC);
     let length = part.length + field_of(work, lines, stretch, part.to, LENGTH);
     Part {
         from: part.from,
         to: part.to + 1,
-        class,
+        class: part.class.max(frc),
         length,
     }
 }

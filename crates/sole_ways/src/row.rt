@@ -9,7 +9,6 @@ ghost use Rattle.buffers.specs.Kept.{Kept};
 ghost use Rattle.stretches.specs.Stretch.{Known};
 ghost use Rattle.sole_ways.specs.SoleWays.{mark, Arriving, WalledIf, RowBefore, RowCleared, RowTested};
 
-use crate::ahead::NOT_SEARCHED;
 use crate::part::{none_from, one_more};
 use crate::test::test_sole;
 use crate::wall::{Wall, bars, find_wall};
@@ -23,11 +22,8 @@ fn clear_row(table: &mut [u8], i: usize, end: usize)
     requires { (i < end) × (end ≤ 64) × (65 * end ≤ length table.old) }
     ensures { RowCleared i end table.old table.new }
 {
-    let mut j = i;
-    while j < end {
-        j += 1;
-        table[POSITIONS * i + j] = 0;
-    }
+    let row = POSITIONS * i;
+    table[row + i + 1..row + end + 1].fill(0);
 }
 
 // Whether the leg to position `j` from the position before `i` is a sole way. Then that from `i` is one too.
@@ -45,7 +41,7 @@ fn is_known(table: &[u8], i: usize, j: usize) -> bool
 #[derive(Clone, Copy)]
 pub struct Row {
     pub reach: u32,
-    pub wall: Wall,
+    pub wall: Option<Wall>,
 }
 
 // Tests the legs from position `i` up to position `end`, after the row `before`.
@@ -71,7 +67,7 @@ pub fn test_row(
     let reach = before.reach;
     let wall = before.wall;
     clear_row(table, i, end);
-    let mut along = NOT_SEARCHED;
+    let mut last = None;
     let mut part = none_from(i);
     while part.to < end {
         part = one_more(work, lines, stretch, part);
@@ -87,8 +83,9 @@ pub fn test_row(
         if is_known(table, i, j) {
             table[POSITIONS * i + j] = 1;
         } else {
-            let test = test_sole(work, lines, stretch, part, end, arrivals, reach, along);
-            along = test.along;
+            let test = test_sole(work, lines, stretch, part, end, arrivals, reach, last);
+            let along = test.along;
+            last = Some(along);
             if test.sole {
                 table[POSITIONS * i + j] = 1;
             } else if along.to < j {

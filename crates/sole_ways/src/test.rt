@@ -1,12 +1,12 @@
 // The test of one leg of a row: whether its lines are a sole way.
-ghost use Rattle.std.specs.Prelude.{◌≡◌, true, ◌+◌, ◌/◌, ◌≤◌, ◌<◌, length, get_or};
+ghost use Rattle.std.specs.Prelude.{◌≡◌, true, ◌≤◌, ◌<◌, length, get_or};
 ghost use Rattle.std.proofs.Math.Seq.{slice};
 ghost use Rattle.model.specs.Map.{Map};
 ghost use Rattle.model.specs.Reading.{greatest_leg_length};
 ghost use Rattle.work_area.specs.Mirror.{mirror};
 ghost use Rattle.search_cells.specs.Area.{Set};
 ghost use Rattle.buffers.specs.Decides.{Decides};
-ghost use Rattle.sole_ways.specs.SoleWays.{SoleUnder, own_end, OnTrial, Follows, FollowsIf, Serves, Advanced, Arriving, Served, Looked, LegTested};
+ghost use Rattle.sole_ways.specs.SoleWays.{SoleUnder, own_end, OnTrial, Follows, FollowsIf, EndsBy, Serves, Advanced, Arriving, Served, Looked, LegTested};
 
 use crate::ahead::{Along, search_ahead};
 use crate::along::{advance, has_rival};
@@ -22,16 +22,8 @@ pub struct SoleTest {
     pub along: Along,
 }
 
-// A guess of how long the legs of a row get, once one of them has this length. For the first search of a row it is `reach`, what the row before came to. A
-// row that goes on past that is likely to go on for some legs more.
-fn guess(len: u32, reach: u32, searched: usize) -> u32
-    requires { len ≤ greatest_leg_length }
-    ensures { (0 < searched → result ≡ len + len / 2) × (searched ≡ 0 → result ≡ reach) }
-{
-    if 0 < searched { len + len / 2 } else { reach }
-}
-
-// The search that serves a part: the last one of the row, or one that is made now.
+// The search that serves a part: the last one of the row, or one that is made now. How long the legs of the row get is guessed: for its first search it is
+// `reach`, what the row before came to; a row that goes on past that is likely to go on for some legs more.
 fn serve(
     work: &mut [u32],
     lines: usize,
@@ -39,23 +31,24 @@ fn serve(
     part: Part,
     end: usize,
     reach: u32,
-    before: Along,
+    before: Option<Along>,
 ) -> Along
     requires end_in_bounds { end ≤ length stretch.now }
-    requires set { (m : Map) × Set m lines work.old × OnTrial m lines stretch.now part × (before.to ≤ part.to)
+    requires set { (m : Map) × Set m lines work.old × OnTrial m lines stretch.now part × EndsBy before part.to
         × FollowsIf m lines stretch.now part.from work.old before }
-    ensures { (m : Map) → Set m lines work.old → OnTrial m lines stretch.now part → before.to ≤ part.to
+    ensures { (m : Map) → Set m lines work.old → OnTrial m lines stretch.now part → EndsBy before part.to
         → FollowsIf m lines stretch.now part.from work.old before
         → Served m lines stretch.now part work.old work.new result }
 {
-    if 0 < before.to {
-        if part.class <= before.class {
-            if part.length <= before.limit {
-                return before;
+    let mut far = reach;
+    if let Some(last) = before {
+        if part.class <= last.class {
+            if part.length <= last.limit {
+                return last;
             }
         }
+        far = part.length + part.length / 2;
     }
-    let far = guess(part.length, reach, before.to);
     search_ahead(work, lines, stretch, part, end, LOWEST_CLASS, far)
 }
 
@@ -124,13 +117,13 @@ pub fn test_sole(
     end: usize,
     arrivals: &[u32],
     reach: u32,
-    before: Along,
+    before: Option<Along>,
 ) -> SoleTest
     requires stretch_len_bound { (length stretch.now ≤ 64) × (end ≤ length stretch.now) }
     requires set { (m : Map) × Set m lines work.old × OnTrial m lines stretch.now part × Arriving m lines stretch.now arrivals.now
-        × (before.to ≤ part.to) × FollowsIf m lines stretch.now part.from work.old before }
+        × EndsBy before part.to × FollowsIf m lines stretch.now part.from work.old before }
     ensures { (m : Map) → Set m lines work.old → OnTrial m lines stretch.now part
-        → Arriving m lines stretch.now arrivals.now → before.to ≤ part.to
+        → Arriving m lines stretch.now arrivals.now → EndsBy before part.to
         → FollowsIf m lines stretch.now part.from work.old before
         → LegTested m lines stretch.now part work.old work.new result }
 {

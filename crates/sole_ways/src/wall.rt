@@ -1,6 +1,6 @@
 // Walls: where another way comes to a line of the stretch as soon as the stretch itself. It leaves the stretch somewhere, and no leg that has both places can
 // be a sole way, whatever row it is of. So the rows that follow need no search to find that way again.
-ghost use Rattle.std.specs.Prelude.{◌≡◌, ◌-◌, ◌≤◌, ◌<◌, length, get_or};
+ghost use Rattle.std.specs.Prelude.{◌≡◌, ◌+◌, ◌-◌, ◌≤◌, ◌<◌, IfSome, length, get_or};
 ghost use Rattle.model.specs.Map.{Map, greatest_line_count};
 ghost use Rattle.model.specs.Lines.{Connected};
 ghost use Rattle.model.specs.Work.{work_length};
@@ -14,11 +14,9 @@ use crate::ahead::Along;
 use crate::part::Part;
 use buffers::wide;
 use search_cells::cells::{SEVERAL, length_to, predecessor_at};
-use stretches::lines::greater;
 use work_area::{FRC, field};
 
-// Another way, over lines up to a class, leaves the stretch behind the line at position `from` and is back at the node at position `to`. `to` is 0 where
-// none is known.
+// Another way, over lines up to a class, leaves the stretch behind the line at position `from` and is back at the node at position `to`.
 #[derive(Clone, Copy)]
 pub struct Wall {
     pub from: usize,
@@ -26,38 +24,35 @@ pub struct Wall {
     pub class: u32,
 }
 
-pub const NO_WALL: Wall = Wall {
-    from: 0,
-    to: 0,
-    class: 0,
-};
-
-// Whether the part, and each longer one from its start, has another way that is as short.
-pub fn bars(wall: Wall, part: Part) -> bool
+// Whether a wall is known, and so the part, and each longer one from its start, has another way that is as short.
+pub fn bars(wall: Option<Wall>, part: Part) -> bool
     ensures { Decides (Bars wall part) result }
 {
-    if wall.to == 0 {
+    let Some(wall) = wall else {
         return false;
-    }
+    };
     if wall.from < part.from {
         return false;
     }
     if part.to < wall.to {
         return false;
     }
-    if part.class < wall.class {
-        return false;
-    }
-    true
+    wall.class <= part.class
 }
 
-// 1 + the predecessor of line `l`, or 0 where there is none or there are several.
-fn one_before(work: &[u32], l: usize) -> usize
+// The predecessor of line `l`, or `None` where there is none or there are several.
+fn one_before(work: &[u32], l: usize) -> Option<usize>
     requires { (l < greatest_line_count) × (work_length ≤ length work.now) }
-    ensures { 0 < result → (result ≡ predecessor work.now l) × (result < several) }
+    ensures { IfSome result (λ x. (x + 1 ≡ predecessor work.now l) × (x + 1 < several)) }
 {
     let x = predecessor_at(work, l);
-    if x < SEVERAL { wide(x) } else { 0 }
+    if x == 0 {
+        return None;
+    }
+    if SEVERAL <= x {
+        return None;
+    }
+    Some(wide(x) - 1)
 }
 
 // Goes back from line `last` by predecessors: the wall from where it meets the stretch behind position `i`, or `old`.
@@ -68,8 +63,8 @@ fn walk_back(
     i: usize,
     along: Along,
     last: usize,
-    old: Wall,
-) -> Wall
+    old: Option<Wall>,
+) -> Option<Wall>
     requires known { Known lines stretch.now × (along.to < length stretch.now) × (0 < along.to) }
     requires set { (m : Map) × Set m lines work.now × Follows m lines stretch.now i work.now along
         × Joins m lines stretch.now along.to work.now last }
@@ -84,17 +79,16 @@ fn walk_back(
     while i < k {
         let own = wide(stretch[k]);
         if at == own {
-            return Wall { from: k, to, class };
+            return Some(Wall { from: k, to, class });
         }
         if length_to(work, at) <= length_to(work, own) {
             k -= 1;
         } else {
-            let x = one_before(work, at);
-            if x == 0 {
+            let Some(x) = one_before(work, at) else {
                 return old;
-            }
-            at = x - 1;
-            class = greater(class, field(work, at, FRC));
+            };
+            at = x;
+            class = class.max(field(work, at, FRC));
         }
     }
     old
@@ -107,8 +101,8 @@ pub fn find_wall(
     stretch: &[u32],
     i: usize,
     along: Along,
-    old: Wall,
-) -> Wall
+    old: Option<Wall>,
+) -> Option<Wall>
     requires known { Known lines stretch.now × (along.to < length stretch.now) }
     requires set { (m : Map) × Set m lines work.now × Follows m lines stretch.now i work.now along }
     ensures { (m : Map) → Set m lines work.now → Connected (mirror m) stretch.now
@@ -120,11 +114,9 @@ pub fn find_wall(
     if along.limit < length_to(work, here) {
         return old;
     }
-    let x = one_before(work, here);
-    if x == 0 {
+    let Some(last) = one_before(work, here) else {
         return old;
-    }
-    let last = x - 1;
+    };
     let before = wide(stretch[to - 1]);
     if last == before {
         return old;

@@ -1,6 +1,6 @@
 -- A stretch's checks one after another: what each refuses, and what remains where none does.
 use Prim.Native.Nat.{ℕ, zero, suc, ◌+◌, ◌-◌, ◌≤◌, ◌<◌}
-use mathlib.Core.Path.{◌≡◌, refl, ◌∙◌, ap}
+use mathlib.Core.Path.{◌≡◌, refl, sym, ◌∙◌, ap}
 use mathlib.Core.Bool.{Bool, true, false, cond, ◌||◌}
 use mathlib.Core.List.{List, [], ◌∷◌}
 use native.Mathlib.Omega.{arith}
@@ -15,6 +15,7 @@ use Rattle.model.specs.Stretch.{Stretch, greatest_stretch, unknown, apart, gap, 
 use Rattle.model.proofs.Tests.{neither}
 use Rattle.model.proofs.Skipping.{Left, taken, no_pair, meet}
 use Rattle.stretches.specs.declared.stretch.Remaining.{Remaining}
+use Rattle.work_area.specs.Area.{Held}
 use Rattle.stretches.specs.Stretch.{Known, part_of, Leaves, Passes}
 use Rattle.stretches.proofs.Stretches.{known_all, known_drop}
 
@@ -60,6 +61,10 @@ module _ (m : Map) (s : Stretch) where
             let p : check_stretch m s ≡ remains (part_of s r) = passed below ∙ ap remains l.same in
             let k = (taken m s (part_of s r) p).1.below in
             record { ordered = omega (arith, some_taken m (r.to - r.from) (drop r.from s.lines) (omega arith)); inside = l.inside; checked = p }
+
+-- Where no line is unknown, each is one of the map's.
+pub known_of : {m : Map} {lines : ℕ} {work : List ℕ} (ls : List ℕ) → Held work lines m → false ≡ unknown m ls → Known lines ls
+known_of {m = m} ls held e = rw held.line_count at (known_all m ls (sym e))
 
 -- Known lines without a gap and without a banned pair are connected.
 connected_of : (m : Map) (ls : List ℕ) → 0 < length ls → Known (length m.lines) ls → gap m ls ≡ false → banned_pair m ls ≡ false → Connected m ls

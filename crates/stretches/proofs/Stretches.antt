@@ -61,18 +61,6 @@ module _ (m : Map) (ls : List ℕ) (i : ℕ) (pos : 0 < i) (h : i < length ls) w
   gap_on same = pair_on (apart m) ls i pos h (rw (eq-eqb _ _ same))
 
 module _ (m : Map) (ls : List ℕ) where
-  pub unknown_here : (i : ℕ) → i < length ls → length m.lines ≤ get_or ls i 0 → unknown m (drop i ls) ≡ true
-  unfolding unknown
-  unknown_here i h u = rw (drop_next ls i h, le-leb _ _ u)
-
-  pub unknown_on : (i : ℕ) → i < length ls → get_or ls i 0 < length m.lines → unknown m (drop i ls) ≡ unknown m (drop (i + 1) ls)
-  unfolding unknown
-  unknown_on i h k = rw (drop_next ls i h, lt-leb _ _ k)
-
-  pub unknown_none : (i : ℕ) → i ≡ length ls → unknown m (drop i ls) ≡ false
-  unfolding unknown
-  unknown_none i e = rw (drop_end ls i e)
-
   pub total_none : 0 ≡ total m (take 0 ls)
   unfolding total
   total_none = refl

@@ -1,11 +1,10 @@
 -- What is said of a stretch as it is given, on a map that the work area holds (paper 01, "A stretch"; refusals 7 to 9).
-use Rattle.std.specs.Prelude.{ℕ, ◌-◌, ◌≤◌, ◌<◌, ◌≡◌, List, length, get_or, take, drop}
+use Rattle.std.specs.Prelude.{ℕ, ◌-◌, ◌≤◌, ◌<◌, ◌≡◌, List, length, get_or, take, drop, Result, Ok, Err}
+use Rattle.model.specs.declared.Refusal.{Refusal}
 use Rattle.model.specs.Refusal.{refusal_of}
 use Rattle.model.specs.Map.{Map}
 use Rattle.model.specs.Stretch.{Stretch, skip, remaining, remains, refused, check_stretch, stretch_of}
 use Rattle.stretches.specs.declared.stretch.Remaining.{Remaining}
-use Rattle.stretches.specs.declared.stretch.Checked.{Checked}
-use Rattle.stretches.specs.declared.stretch.Checked.TheVariants.{Remains, Refused}
 
 -- Each of these is one of so many lines.
 abbrev pub Known : ℕ → List ℕ → Type 0
@@ -32,6 +31,6 @@ pub record Passes (m : Map) (s : Stretch) (r : Remaining) : Type 0 where
   pub checked : check_stretch m s ≡ remains (part_of s r)
 
 -- What an answer says of a stretch.
-abbrev pub Checks : Map → Stretch → Checked → Type 0
-Checks m s (Remains r) = Passes m s r
-Checks m s (Refused why) = check_stretch m s ≡ refused (refusal_of why)
+abbrev pub Checks : Map → Stretch → Result Remaining Refusal → Type 0
+Checks m s (Ok r) = Passes m s r
+Checks m s (Err why) = check_stretch m s ≡ refused (refusal_of why)

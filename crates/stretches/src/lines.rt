@@ -1,7 +1,7 @@
 // Lines of a stretch and the nodes at their ends, as the map in the work area has them.
 ghost use Rattle.work_area.specs.Area.{line_size, node_numbers, line_numbers, Held};
 ghost use Rattle.model.specs.Map.{Map};
-ghost use Rattle.std.specs.Prelude.{◌≡◌, ◌≤◌, ◌<◌, max, length, get_or};
+ghost use Rattle.std.specs.Prelude.{◌≡◌, ◌≤◌, ◌<◌, length, get_or};
 ghost use Rattle.model.specs.Lines.{line_at, node_at, total, lowest};
 ghost use Rattle.fields.specs.Leg.{attributes_in};
 ghost use Rattle.stretches.specs.Stretch.{Known};
@@ -28,18 +28,10 @@ pub fn total_length(work: &[u32], lines: usize, list: &[u32]) -> usize
     ensures { (m : Map) → Held work.now lines m → result ≡ total m list.now }
 {
     let mut sum: usize = 0;
-    let mut i: usize = 0;
-    while i < list.len() {
+    for i in 0..list.len() {
         sum += wide(field_of(work, lines, list, i, LENGTH));
-        i += 1;
     }
     sum
-}
-
-pub fn greater(a: u32, b: u32) -> u32
-    ensures { result ≡ max a b }
-{
-    if a < b { b } else { a }
 }
 
 // The lowest class of some lines, which is the greatest FRC.
@@ -49,10 +41,8 @@ pub fn lowest_class(work: &[u32], lines: usize, list: &[u32]) -> u32
     ensures { (m : Map) → Held work.now lines m → result ≡ lowest m list.now }
 {
     let mut class: u32 = 0;
-    let mut i: usize = 0;
-    while i < list.len() {
-        class = greater(class, field_of(work, lines, list, i, FRC));
-        i += 1;
+    for i in 0..list.len() {
+        class = class.max(field_of(work, lines, list, i, FRC));
     }
     class
 }

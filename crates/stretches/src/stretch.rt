@@ -21,13 +21,6 @@ pub struct Remaining {
     pub neg: u32,
 }
 
-// A stretch that is not refused, or why it is.
-#[derive(Clone, Copy)]
-pub enum Checked {
-    Remains(Remaining),
-    Refused(Refusal),
-}
-
 // Where an offset stops dropping lines, and what is left of it.
 #[derive(Clone, Copy)]
 struct Stop {
@@ -39,14 +32,7 @@ struct Stop {
 fn has_unknown(lines: usize, stretch: &[u32]) -> bool
     ensures { (m : Map) → length m.lines ≡ lines → result ≡ unknown m stretch.now }
 {
-    let mut i: usize = 0;
-    while i < stretch.len() {
-        if lines <= wide(stretch[i]) {
-            return true;
-        }
-        i += 1;
-    }
-    false
+    stretch.iter().any(|line| lines <= wide(*line))
 }
 
 // Whether a line does not end where the next starts.
@@ -55,14 +41,12 @@ fn has_gap(work: &[u32], lines: usize, stretch: &[u32]) -> bool
     requires held { (m : Map) × Held work.now lines m }
     ensures { (m : Map) → Held work.now lines m → result ≡ gap m stretch.now }
 {
-    let mut i: usize = 1;
-    while i < stretch.len() {
+    for i in 1..stretch.len() {
         let end = field_of(work, lines, stretch, i - 1, END);
         let start = field_of(work, lines, stretch, i, START);
         if end != start {
             return true;
         }
-        i += 1;
     }
     false
 }
@@ -73,14 +57,12 @@ fn has_ban(work: &[u32], lines: usize, stretch: &[u32]) -> bool
     requires held { (m : Map) × Held work.now lines m }
     ensures { (m : Map) → Held work.now lines m → result ≡ banned_pair m stretch.now }
 {
-    let mut i: usize = 1;
-    while i < stretch.len() {
+    for i in 1..stretch.len() {
         let l = wide(stretch[i - 1]);
         let k = wide(stretch[i]);
         if banned(work, lines, l, k) {
             return true;
         }
-        i += 1;
     }
     false
 }
@@ -93,16 +75,17 @@ fn skip_front(work: &[u32], lines: usize, stretch: &[u32], offset: u32) -> Stop
         → Skips m offset stretch.now (drop result.at stretch.now) result.offset) }
 {
     let mut left = offset;
-    let mut at: usize = 0;
-    while at < stretch.len() {
+    for at in 0..stretch.len() {
         let length = field_of(work, lines, stretch, at, LENGTH);
         if left < length {
             return Stop { at, offset: left };
         }
         left -= length;
-        at += 1;
     }
-    Stop { at, offset: left }
+    Stop {
+        at: stretch.len(),
+        offset: left,
+    }
 }
 
 // The same from the end. The first `at` lines are left.
@@ -113,16 +96,20 @@ fn skip_back(work: &[u32], lines: usize, stretch: &[u32], offset: u32) -> Stop
         → Skips m offset (reverse stretch.now) (reverse (take result.at stretch.now)) result.offset) }
 {
     let mut left = offset;
-    let mut at = stretch.len();
-    while 0 < at {
-        let length = field_of(work, lines, stretch, at - 1, LENGTH);
+    for last in (0..stretch.len()).rev() {
+        let length = field_of(work, lines, stretch, last, LENGTH);
         if left < length {
-            return Stop { at, offset: left };
+            return Stop {
+                at: last + 1,
+                offset: left,
+            };
         }
         left -= length;
-        at -= 1;
     }
-    Stop { at, offset: left }
+    Stop {
+        at: 0,
+        offset: left,
+    }
 }
 
 // What the two offsets leave of a stretch.
@@ -144,27 +131,33 @@ fn after_offsets(work: &[u32], lines: usize, stretch: &[u32], pos: u32, neg: u32
 }
 
 // The stretch of these lines and offsets: the first of refusals 7 to 9, or what remains of it.
-pub fn check(work: &[u32], lines: usize, stretch: &[u32], pos: u32, neg: u32) -> Checked
+pub fn check(
+    work: &[u32],
+    lines: usize,
+    stretch: &[u32],
+    pos: u32,
+    neg: u32,
+) -> Result<Remaining, Refusal>
     requires { (m : Map) × Held work.now lines m }
     ensures { (m : Map) → Held work.now lines m → Checks m (stretch_of stretch.now pos neg) result }
 {
     if stretch.len() == 0 {
-        return Checked::Refused(Refusal::StretchLines);
+        return Err(Refusal::StretchLines);
     }
     if GREATEST_STRETCH < stretch.len() {
-        return Checked::Refused(Refusal::StretchLines);
+        return Err(Refusal::StretchLines);
     }
     if has_unknown(lines, stretch) {
-        return Checked::Refused(Refusal::StretchLines);
+        return Err(Refusal::StretchLines);
     }
     if has_gap(work, lines, stretch) {
-        return Checked::Refused(Refusal::StretchGap);
+        return Err(Refusal::StretchGap);
     }
     if has_ban(work, lines, stretch) {
-        return Checked::Refused(Refusal::StretchBan);
+        return Err(Refusal::StretchBan);
     }
     if total_length(work, lines, stretch) <= wide(pos) + wide(neg) {
-        return Checked::Refused(Refusal::StretchOffsets);
+        return Err(Refusal::StretchOffsets);
     }
-    Checked::Remains(after_offsets(work, lines, stretch, pos, neg))
+    Ok(after_offsets(work, lines, stretch, pos, neg))
 }

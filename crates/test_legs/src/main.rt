@@ -13,11 +13,11 @@ ghost use Rattle.model.specs.Reading as definitions;
 
 use cases::{Part, word_at};
 use console::{hand_over, print, print_each};
-use fields::leg::{Arrival, Attributes, Leg, Reading, Verdict, longest_leg};
+use fields::leg::{Attributes, Leg, Reading, Verdict, longest_leg};
 use legs::first_lines::both;
 use model::limits::WORK_LENGTH;
 use model::number_of;
-use opening::{Opened, open_map};
+use opening::open_map;
 use reference_legs::termini::{first_terminus, next_terminus, read_terminus};
 use search::search;
 use way_lengths::Terminus;
@@ -35,11 +35,11 @@ fn attributes_at(words: &[u8], at: usize) -> Attributes
 }
 
 // How a leg arrives: the eighth number says whether the last three are its last line's attributes.
-fn arrival_of(words: &[u8]) -> Arrival {
+fn arrival_of(words: &[u8]) -> Option<Attributes> {
     if word_at(words, 28) == 0 {
-        return Arrival::Any;
+        return None;
     }
-    Arrival::Matching(attributes_at(words, 32))
+    Some(attributes_at(words, 32))
 }
 
 // A leg from its numbers, of four bytes each: two nodes, FRC, FOW and sector of its first line, its lowest class, D, and how it arrives.
@@ -102,10 +102,9 @@ fn judge(work: &mut [u32], nodes: u32, lines: usize, leg: Leg) -> Verdict
 fn terminus_of(leg: Leg, reading: Reading) -> Terminus
     ensures { (m : Map) (lines : ℕ) → leg.to < length m.nodes → reading.last < lines → Stands m lines result }
 {
-    let arrival = leg.arrival;
-    match arrival {
-        Arrival::Any => Terminus::Node(leg.to),
-        Arrival::Matching(_) => Terminus::Line(reading.last),
+    match leg.arrival {
+        None => Terminus::Node(leg.to),
+        Some(_) => Terminus::Line(reading.last),
     }
 }
 
@@ -163,8 +162,8 @@ fn show(rt: &impl Print, map: &[u8], words: &[u8], work: &mut [u32])
     requires { work_length ≤ length work.old }
 {
     match open_map(map, work) {
-        Opened::Ready(nodes, lines) => show_leg(rt, work, nodes, lines, leg_of(words)),
-        Opened::Refused(why) => {
+        Ok(opened) => show_leg(rt, work, opened.nodes, opened.lines, leg_of(words)),
+        Err(why) => {
             print(rt, b"refused ", number_of(why) as u64);
         }
     }
@@ -175,21 +174,16 @@ fn run(rt: &impl Print, bytes: &[u8], work: &mut [u32])
     requires { work_length ≤ length work.old }
 {
     let mut at: usize = 0;
-    let mut map_from: usize = 0;
-    let mut map_to: usize = 0;
-    loop {
-        let Part::At(from, middle) = cases::part_at(bytes, at) else {
+    let mut map = Part { start: 0, end: 0 };
+    while let Some(given) = cases::part_at(bytes, at) {
+        let Some(leg) = cases::part_at(bytes, given.end) else {
             return;
         };
-        let Part::At(start, to) = cases::part_at(bytes, middle) else {
-            return;
-        };
-        at = to;
-        if from < middle {
-            map_from = from;
-            map_to = middle;
+        at = leg.end;
+        if given.start < given.end {
+            map = given;
         }
-        show(rt, &bytes[map_from..map_to], &bytes[start..to], work);
+        show(rt, &bytes[map.start..map.end], &bytes[leg.start..leg.end], work);
         hand_over(rt, b"\n");
     }
 }

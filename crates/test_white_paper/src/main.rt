@@ -8,13 +8,13 @@ ghost use Rattle.references.specs.Form.{SoundBytes};
 use buffers::bytes::{at2, at3};
 use console::{hand_over, load, print};
 use fields::coordinate::{latitude_code, longitude_code, longitude_sum, moved};
-use fields::leg::{Arrival, Attributes, distance};
+use fields::leg::{Attributes, distance};
 use fields::offset::offset_byte;
 use fields::sector::sector;
 use model::limits::{DISTANCE_STEP, STEP_ADDED};
 use model::number_of;
 use references::leg::leg_at;
-use references::reference::{Form, Offset, Reference, negative_offset, positive_offset};
+use references::reference::{Reference, negative_offset, positive_offset};
 
 // The coordinates of Table 72 in hundred-thousandths of a degree, with what the map adds to them.
 const LONGITUDE_1: u32 = 18_000_000 + 612_683;
@@ -115,21 +115,20 @@ fn show_points(rt: &impl Print, bytes: &[u8], points: usize)
     let places = [0; 65];
     for k in 0..points {
         let leg = leg_at(bytes, points, &places, k);
-        let arrival = leg.arrival;
         show_point(rt, k + 1, leg.leaves);
         print(rt, b" FRC", leg.lowest as u64);
         print_distance(rt, leg.distance);
-        if let Arrival::Matching(a) = arrival {
+        if let Some(a) = leg.arrival {
             show_point(rt, k + 2, a);
         }
     }
 }
 
-fn show_offset(rt: &impl Print, word: &[u8], offset: Offset) {
+fn show_offset(rt: &impl Print, word: &[u8], offset: Option<u32>) {
     write(rt, word);
     match offset {
-        Offset::Absent => write(rt, b" no offset available"),
-        Offset::Byte(byte) => {
+        None => write(rt, b" no offset available"),
+        Some(byte) => {
             print(rt, b" byte ", byte as u64);
         }
     }
@@ -163,14 +162,14 @@ fn show_fields(rt: &impl Print) {
 
 fn show(rt: &impl Print, bytes: &[u8]) {
     match Reference::of(bytes) {
-        Form::Sound(reference) => {
+        Ok(reference) => {
             let points = reference.points;
             show_coordinates(rt, bytes, points);
             show_points(rt, bytes, points);
             show_offset(rt, b"\nTable 93: positive", positive_offset(bytes, points));
             show_offset(rt, b"\nTable 93: negative", negative_offset(bytes, points));
         }
-        Form::Refused(why) => {
+        Err(why) => {
             print(rt, b"refused ", number_of(why) as u64);
         }
     }

@@ -1,7 +1,7 @@
 // The writer of references (paper 01): `write`, and its parts in the order in which they are asked.
 #![tactic(auto)]
 
-ghost use Rattle.std.specs.Prelude.{◌≤◌, ◌<◌, length};
+ghost use Rattle.std.specs.Prelude.{◌≡◌, ◌≤◌, ◌<◌, length};
 ghost use Rattle.model.specs.Map.{Map, decode};
 ghost use Rattle.model.specs.Lines.{Connected};
 ghost use Rattle.model.specs.Stretch.{check_stretch, stretch_of};
@@ -14,53 +14,52 @@ ghost use Rattle.reference_bytes.specs.Put.{Inside};
 ghost use Rattle.writer.specs.Found.{Finds};
 
 use leg_tests::test_legs;
-use model::limits::WORK_LENGTH;
-use model::{Refusal, WriteAnswer};
-use opening::{Opened, open_map};
+use model::{Refusal, WriteAnswer, WrittenBytes};
+use opening::open_map;
+use point_choice::choose;
 use point_choice::untested::hoped_legs;
-use point_choice::{Cut, NO_ROUTE, choose};
-use reference_bytes::{Stored, put};
-use stretches::stretch::{Checked, check};
-use work_area::clear;
+use reference_bytes::put;
+use stretches::stretch::check;
+use work_area::step::in_work_area;
 
 // A number for each leg of a stretch of up to 64 lines, and one for each of its positions.
 const LEG_TESTS: usize = 4_160;
 
 const CUTS: usize = 65;
 
-// What a number of leg tests found: no choice of points even when untested legs count as good; none over legs tested good; or the one to take over these, by
-// how many legs it has, how many tests were made, and by how many legs at most it exceeds the fewest.
+// The route to take over legs tested good: how many legs it has, how many tests were made, and by how many legs at most it exceeds the fewest.
 #[derive(Clone, Copy)]
-enum Found {
-    Nowhere,
-    Unfinished,
-    Legs(usize, u32, u32),
+struct Found {
+    legs: usize,
+    tests: u32,
+    excess: u32,
 }
 
-// Tests legs, and chooses points over those tested good: `cuts` gets 0 and then where each leg ends.
-fn find(work: &mut [u32], lines: usize, part: &[u32], tests: u32, cuts: &mut [u32]) -> Found
+// Tests legs, and chooses points over those tested good: `cuts` gets 0 and then where each leg ends. There may be no choice of points even when untested
+// legs count as good, or none over legs tested good.
+fn find(
+    work: &mut [u32],
+    lines: usize,
+    part: &[u32],
+    tests: u32,
+    cuts: &mut [u32],
+) -> Result<Found, Refusal>
     requires part_len_bound { (length part.now ≤ 64) × (length part.now < length cuts.old) }
     requires set { (m : Map) × Set m lines work.old × Connected m part.now }
     ensures { (m : Map) → Set m lines work.old → Connected m part.now
         → Set m lines work.new × Finds m part.now (tests_made (length part.now) tests) cuts.new result }
 {
-    let mut table: [u8; LEG_TESTS] = [0; LEG_TESTS];
+    let mut table = [0u8; LEG_TESTS];
     let made = test_legs(work, lines, part, tests as usize, &mut table);
     let chosen = choose(&table, part.len(), cuts);
-    let hoped = hoped_legs(&mut table, part.len(), made);
-    match chosen {
-        Cut::Legs(legs) => {
-            let excess = (legs - hoped) as u32;
-            Found::Legs(legs, made as u32, excess)
-        }
-        Cut::Nowhere => {
-            if hoped == NO_ROUTE {
-                Found::Nowhere
-            } else {
-                Found::Unfinished
-            }
-        }
-    }
+    let hoped = hoped_legs(&mut table, part.len(), made).ok_or(Refusal::NoChoice)?;
+    let legs = chosen.ok_or(Refusal::Unfinished)?;
+    let excess = (legs - hoped) as u32;
+    Ok(Found {
+        legs,
+        tests: made as u32,
+        excess,
+    })
 }
 
 // The answer for what remains of a stretch, with so many leg tests.
@@ -80,16 +79,15 @@ pub fn on_part(
         bytes.old bytes.new result }
 {
     let mut cuts = [0; CUTS];
-    match find(work, lines, part, tests, &mut cuts) {
-        Found::Nowhere => WriteAnswer::Refused(Refusal::NoChoice),
-        Found::Unfinished => WriteAnswer::Refused(Refusal::Unfinished),
-        Found::Legs(legs, made, excess) => {
-            match put(work, lines, part, &cuts, legs, pos, neg, bytes) {
-                Stored::Bytes(count) => WriteAnswer::Written(count, made, excess),
-                Stored::Short => WriteAnswer::Refused(Refusal::BytesShort),
-            }
-        }
-    }
+    let found = find(work, lines, part, tests, &mut cuts)?;
+    let count = put(work, lines, part, &cuts, found.legs, pos, neg, bytes).ok_or(
+        Refusal::BytesShort,
+    )?;
+    Ok(WrittenBytes {
+        bytes: count,
+        tests: found.tests,
+        excess: found.excess,
+    })
 }
 
 // The answer on a map that is ready in the work area.
@@ -107,42 +105,16 @@ fn on_map(
         → WriteAnswered (WriteStretch m (check_stretch m (stretch_of stretch.now pos neg)) tests (length bytes.old))
         bytes.old bytes.new result }
 {
-    match check(work, lines, stretch, pos, neg) {
-        Checked::Remains(left) => {
-            let from = left.from;
-            let to = left.to;
-            on_part(
-                work,
-                lines,
-                &stretch[from..to],
-                left.pos,
-                left.neg,
-                tests,
-                bytes,
-            )
-        }
-        Checked::Refused(why) => WriteAnswer::Refused(why),
-    }
-}
-
-// The answer where the work area is large enough.
-fn on_area(
-    map: &[u8],
-    stretch: &[u32],
-    pos: u32,
-    neg: u32,
-    tests: u32,
-    work: &mut [u32],
-    bytes: &mut [u8],
-) -> WriteAnswer
-    requires { work_length ≤ length work.old }
-    ensures { WriteAnswered (WriteMap (decode map.now) (stretch_of stretch.now pos neg) tests (length bytes.old))
-        bytes.old bytes.new result }
-{
-    match open_map(map, work) {
-        Opened::Ready(_, lines) => on_map(work, lines, stretch, pos, neg, tests, bytes),
-        Opened::Refused(why) => WriteAnswer::Refused(why),
-    }
+    let left = check(work, lines, stretch, pos, neg)?;
+    on_part(
+        work,
+        lines,
+        &stretch[left.from..left.to],
+        left.pos,
+        left.neg,
+        tests,
+        bytes,
+    )
 }
 
 // Writes a stretch of lines with its offsets, in centimetres, on a map, by `tests` leg tests at most. An answer that it is written has the count of bytes,
@@ -160,18 +132,16 @@ pub fn write(
     ensures { WriteCall map.now (stretch_of stretch.now pos neg) tests work.old bytes.old result
         work.new bytes.new }
 {
-    if work.len() < WORK_LENGTH {
-        return WriteAnswer::Refused(Refusal::WorkAreaShort);
-    }
-    let given = on_area(
-        map,
-        stretch,
-        pos,
-        neg,
-        tests,
-        &mut work[..WORK_LENGTH],
+    in_work_area(
+        work,
         bytes,
-    );
-    clear(work);
-    given
+        |area, out|
+            requires { length area.old ≡ work_length }
+            ensures { WriteAnswered (WriteMap (decode map.entry.now) (stretch_of stretch.entry.now pos neg) tests (length out.old))
+                out.old out.new result }
+        {
+            let opened = open_map(map, area)?;
+            on_map(area, opened.lines, stretch, pos, neg, tests, out)
+        },
+    )
 }

@@ -14,7 +14,7 @@ use Rattle.work_area.specs.Mirror.{mirror}
 use Rattle.model.specs.Lines.{line_at, Connected, arriving}
 use Rattle.model.specs.Map.{Map}
 use lib.ListN.{length, get_or}
-use mathlib.Core.Path.{◌≡◌, refl, sym, ◌∙◌, ap}
+use mathlib.Core.Path.{◌≡◌, refl, ◌∙◌, ap}
 use mathlib.Core.Bool.{true, false}
 use Prim.Native.Nat.{ℕ, ◌-◌}
 use native.Mathlib.Omega.{arith}

@@ -32,7 +32,7 @@ pub record CallCases : Type 0 where
   pub map_first : Reads [] [] 14_336 0 (ReadOutcome.refused (row 2)) × Writes [] nowhere 0 14_336 0 (WriteOutcome.refused (row 2))
   pub then_the_rest : Reads map_bytes [] 14_336 0 (ReadOutcome.refused (row 12)) × Writes map_bytes nowhere 0 14_336 0 (WriteOutcome.refused (row 7))
   -- "The result stands first in its buffer, the rest unchanged"; "a refusal leaves the byte and line buffers unchanged".
-  pub places : placed (1 ∷ 2 ∷ []) (7 ∷ 8 ∷ 9 ∷ []) ≡ 1 ∷ 2 ∷ 9 ∷ []
+  pub places : placed {A = ℕ} (1 ∷ 2 ∷ []) (7 ∷ 8 ∷ 9 ∷ []) ≡ 1 ∷ 2 ∷ 9 ∷ []
   pub line_buffers : map (λ o. lines_after o (7 ∷ 8 ∷ 9 ∷ [])) (read (1 ∷ []) (span 2 3) (span 4 5) ∷ ReadOutcome.refused (row 20) ∷ []) ≡
       (1 ∷ 8 ∷ 9 ∷ []) ∷ (7 ∷ 8 ∷ 9 ∷ []) ∷ []
   pub byte_buffers : map (λ o. bytes_after o (7 ∷ 8 ∷ 9 ∷ [])) (written (1 ∷ []) 3 0 ∷ WriteOutcome.refused (row 11) ∷ []) ≡

@@ -1,0 +1,9 @@
+-- The class is that of the lines before `i`.
+use Rattle.std.proofs.Common.{◌≡◌, take}
+use Rattle.work_area.specs.Area.{Held}
+use Rattle.model.specs.Map.{Map}
+use Rattle.model.specs.Lines.{lowest}
+use Rattle.stretches.proofs.lines.lowest_class.Given as goal
+
+abbrev pub invariant-loop-i : goal.invariant-loop-i
+invariant-loop-i l = (m : Map) → Held l.work l.lines m → l.class ≡ lowest m (take l.i l.list)
