@@ -75,11 +75,19 @@ listed_none f s =
 pub listed_again : {m : Map} {lines i : ℕ} {w v : List ℕ} → Listed m lines i w v → Listed m lines i v v
 listed_again k = record { leaving = k.leaving; worked = record { set = k.worked.set; kept = kept_none } }
 
+-- Each line starts at a node.
+pub starts_small : {m : Map} {lines i : ℕ} {u w : List ℕ} → Listed m lines i u w → (l : ℕ) → l < lines →
+    get_or w (line_place l + start_node) 0 < greatest_node_count
+starts_small k l l< =
+    let h = k.worked.set.held in
+    let f = h.formed in
+    omega (arith, h.line_held l 0 l< (omega arith), (line_ok h l<).start)
+
 module _ {m : Map} {lines i : ℕ} {u w : List ℕ} (k : Listed m lines i u w) (i< : i < lines) where
   start_at : get_or w (line_place i + start_node) 0 ≡ (line_at m i).start
   start_at = k.worked.set.held.line_held i 0 i< (omega arith)
 
-  pub start_small : get_or w (line_place i + start_node) 0 < greatest_node_count
+  start_small : get_or w (line_place i + start_node) 0 < greatest_node_count
   start_small = let h = k.worked.set.held in let f = h.formed in omega (arith, start_at, (line_ok h i<).start)
 
   -- One line more is on the list of its start node.

@@ -11,7 +11,9 @@ use Rattle.way_lengths.specs.declared.Terminus.{Terminus}
 use Rattle.search_cells.specs.Area.{Set}
 use Rattle.sole_ways.specs.SoleWays.{mark, Marks, Worked}
 use Rattle.sole_ways.proofs.Working.{worked_none, worked_then}
+use Rattle.std.proofs.Common.{Option, None}
 use Rattle.leg_tests.specs.declared.cells.Cell.{Cell}
+use Rattle.leg_tests.specs.declared.leg_search.Done.{Done}
 use Rattle.leg_tests.specs.LegTests.{Alone, Noted, Asked, Sifted, DoneFor, CellTested, ColumnKept}
 use Rattle.leg_tests.proofs.Slices.{same_column, other_column, column_set}
 
@@ -35,18 +37,18 @@ noted_kept m lines s {a = a} {b = b} some k noted i h =
     subst (Marks (Alone m lines s i)) (sym same) (noted i h)
 
 -- The legs from position `i` on are tested by a terminus.
-pub record Sifting (m : Map) (lines : ℕ) (s : List ℕ) (j : ℕ) (to : Terminus) (own : Bool) (a b w v : List ℕ) (searched limit i : ℕ) : Type 0 where
-  pub done : DoneFor m lines searched to limit v
+pub record Sifting (m : Map) (lines : ℕ) (s : List ℕ) (j : ℕ) (to : Terminus) (own : Bool) (a b w v : List ℕ) (last : Option Done) (i : ℕ) : Type 0 where
+  pub done : DoneFor m lines to last v
   pub sifted : (k : ℕ) → i ≤ k → k < j → Sifted (Asked m s k j to own) (mark a k j) (mark b k j)
   pub worked : Worked m lines w v
 
 module _ {m : Map} {lines : ℕ} {s : List ℕ} {j : ℕ} {to : Terminus} {own : Bool} {w : List ℕ} where
-  pub sifting_start : {a : List ℕ} {limit : ℕ} → Set m lines w → Sifting m lines s j to own a a w w 0 limit j
-  sifting_start set = record { done = λ h. absurd (omega arith); sifted = λ k h l. absurd (omega arith); worked = worked_none set }
+  pub sifting_start : {a : List ℕ} → Set m lines w → Sifting m lines s j to own a a w w None j
+  sifting_start set = record { done = tt; sifted = λ k h l. absurd (omega arith); worked = worked_none set }
 
-  pub sifting_on : {a b v u : List ℕ} {searched limit i : ℕ} (r : Cell) → Sifting m lines s j to own a b w v searched limit i → 0 < i →
+  pub sifting_on : {a b v u : List ℕ} {last : Option Done} {i : ℕ} (r : Cell) → Sifting m lines s j to own a b w v last i → 0 < i →
       65 * (i - 1) + j < length b → mark b (i - 1) j ≡ mark a (i - 1) j → CellTested m lines s (i - 1) j to own (mark b (i - 1) j) v u r →
-      Sifting m lines s j to own a (set b (65 * (i - 1) + j) r.mark) w u r.searched r.limit (i - 1)
+      Sifting m lines s j to own a (set b (65 * (i - 1) + j) r.mark) w u r.last (i - 1)
   sifting_on {a} {b} {i = i} r k some room e cell =
       record {
         done = cell.done;

@@ -1,5 +1,5 @@
 -- A leg of the stretch under test: its own lines, and what a search back from a terminus makes ready.
-use Prim.Native.Nat.{ℕ, zero, suc, ◌+◌, ◌-◌, ◌≤◌, ◌<◌}
+use Prim.Native.Nat.{ℕ, zero, suc, ◌+◌, ◌≤◌, ◌<◌}
 use mathlib.Core.Path.{◌≡◌, refl, sym, ◌∙◌, ap, subst}
 use mathlib.Core.Bool.{Bool, true, false}
 use mathlib.Core.List.{List}
@@ -28,7 +28,7 @@ use Rattle.fields.specs.declared.leg.Verdict.{Verdict}
 use Rattle.legs.specs.Verdict.{LimitFor, TerminusOf, Ready, ReadingTo, ReadingFrom, Says, Anywhere}
 use Rattle.legs.proofs.Joining.{says_same, says_then}
 use Rattle.stretches.specs.Stretch.{Known}
-use Rattle.leg_tests.specs.LegTests.{leg_from, Alone, Serves, Own, OwnLines, DoneFor, DoneUpTo, OnLeg, Trial, Prepared}
+use Rattle.leg_tests.specs.LegTests.{leg_from, Alone, Serves, Own, OwnLines, DoneUpTo, OnLeg, Trial, Prepared}
 use Rattle.sole_ways.proofs.Slices.{first_of_slice, last_of_slice, slice_connected}
 use Rattle.model.specs.Reading as definitions
 
@@ -109,20 +109,11 @@ module _ {m : Map} {lines : ℕ} {s : List ℕ} {i j class len : ℕ} (t : Trial
         terminus = subst (λ (l : definitions.Leg). TerminusOf m l to) (sym e) (serves.terminus i x.ordered);
       }
 
--- What is searched after a class.
-pub done_for : (m : Map) {lines class : ℕ} {to : Terminus} {limit : ℕ} {w : List ℕ} → Searched (mirror m) lines class to limit w →
-    DoneFor m lines (class + 1) to limit w
-done_for m {lines} {class} {to} {limit} {w} d h =
-    let e : class ≡ class + 1 - 1 = omega arith in
-    subst (λ (c : ℕ). Searched (mirror m) lines c to limit w) e d
-
 -- A search that was done before serves, and a new one.
 module _ {m : Map} {lines class : ℕ} {to : Terminus} {len : ℕ} {w : List ℕ} (set : Set m lines w) where
-  pub not_again : {searched limit longest : ℕ} → searched ≡ class + 1 → LongestLeg (distance len) longest → longest ≤ limit →
-      DoneFor m lines searched to limit w → Prepared m lines class to len w w limit
-  not_again {searched} {limit} e l far before =
-      let same : searched - 1 ≡ class = omega arith in
-      let done = subst (λ (c : ℕ). Searched (mirror m) lines c to limit w) same (before (omega arith)) in
+  pub not_again : {limit longest : ℕ} → LongestLeg (distance len) longest → longest ≤ limit → Searched (mirror m) lines class to limit w →
+      Prepared m lines class to len w w limit
+  not_again l far done =
       record {
         done = record { limited = record { within = done.small; holds = λ length a b. omega (arith, l.holds length a b) }; searched = done };
         worked = record { set = set; kept = kept_none };

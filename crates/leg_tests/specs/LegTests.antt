@@ -5,7 +5,7 @@ use Rattle.work_area.specs.Mirror.{mirror}
 use Rattle.model.specs.Map.{Map}
 use Rattle.model.specs.Reading.{greatest_leg_length, Leg, Allowed, Reading}
 use Rattle.model.specs.LegTests.{turn, tested_good}
-use Rattle.std.specs.Prelude.{ℕ, ◌*◌, ◌-◌, ◌≤◌, ◌<◌, ◌≡◌, Bool, true, false, ◌≢◌, List, length, get_or, eqb}
+use Rattle.std.specs.Prelude.{ℕ, ◌*◌, ◌-◌, ◌≤◌, ◌<◌, ◌≡◌, Bool, true, false, ◌≢◌, List, length, get_or, eqb, Option, IfSome}
 use Rattle.std.proofs.Math.Seq.{slice}
 use Rattle.model.specs.Field.{distance}
 use Rattle.model.specs.Lines.{line_at, node_at, Connected, total, lowest, first_of, last_of, leaving}
@@ -20,6 +20,7 @@ use Rattle.stretches.specs.Stretch.{Known}
 use Rattle.point_choice.specs.Cuts.{Tested}
 use Rattle.sole_ways.specs.SoleWays.{mark, Marks, own_end, SoleLeg, Worked}
 use Rattle.leg_tests.specs.declared.cells.Cell.{Cell}
+use Rattle.leg_tests.specs.declared.leg_search.Done.{Done}
 
 -- The leg from `i` to `j` as its bytes will say.
 abbrev pub leg_from : Map → List ℕ → ℕ → ℕ → Leg
@@ -119,9 +120,9 @@ pub record OwnLines (m : Map) (leg : Leg) (ls : List ℕ) (to : Terminus) (first
 
 -- ---- the search for a leg
 
--- What `searched` says of the work area: 0, or 1 + the class of the search back from a terminus that is done, up to this limit.
-abbrev pub DoneFor : Map → ℕ → ℕ → Terminus → ℕ → List ℕ → Type 0
-DoneFor m lines searched to limit w = 0 < searched → Searched (mirror m) lines (searched - 1) to limit w
+-- Where a search back from a terminus is told, it is done in the work area.
+abbrev pub DoneFor : Map → ℕ → Terminus → Option Done → List ℕ → Type 0
+DoneFor m lines to r w = IfSome r (λ done. Searched (mirror m) lines done.class to done.limit w)
 
 -- A search is done that serves a leg of length `len`.
 pub record DoneUpTo (m : Map) (lines class : ℕ) (to : Terminus) (len limit : ℕ) (w : List ℕ) : Type 0 where
@@ -160,13 +161,13 @@ pub record OnLeg (m : Map) (lines : ℕ) (s : List ℕ) (i j : ℕ) : Type 0 whe
 -- The leg's number answers for a terminus, after a search.
 pub record CellSearched (m : Map) (lines : ℕ) (s : List ℕ) (i j : ℕ) (to : Terminus) (w v : List ℕ) (r : Cell) : Type 0 where
   pub says : Marks (Sole m (leg_from m s i j) (slice i j s) to) r.mark
-  pub done : DoneFor m lines r.searched to r.limit v
+  pub done : DoneFor m lines to r.last v
   pub worked : Worked m lines w v
 
 -- The number `x` of the leg from `i` to `j`, and what is searched, after the test of a terminus.
 pub record CellTested (m : Map) (lines : ℕ) (s : List ℕ) (i j : ℕ) (to : Terminus) (own : Bool) (x : ℕ) (w v : List ℕ) (r : Cell) : Type 0 where
   pub sifted : Sifted (Asked m s i j to own) x r.mark
-  pub done : DoneFor m lines r.searched to r.limit v
+  pub done : DoneFor m lines to r.last v
   pub worked : Worked m lines w v
 
 -- ---- a column of the table, which was `a` and is `b`

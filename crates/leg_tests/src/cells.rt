@@ -7,16 +7,15 @@ ghost use Rattle.sole_ways.specs.SoleWays.{SoleLeg};
 ghost use Rattle.leg_tests.specs.LegTests.{Alone, Own, EndsThere, DoneFor, OnLeg, CellSearched, CellTested};
 
 use crate::leg::leg_fits;
-use crate::leg_search::{prepare, test_leg};
+use crate::leg_search::{Done, prepare, test_leg};
 use stretches::lines::{lowest_class, total_length};
 use way_lengths::Terminus;
 
-// A leg's number in the table, and what the work area is searched for: 1 + the class, or 0, and the limit.
+// A leg's number in the table, and the last search from the terminus, if there is one. The number stays a byte, since no heap is used and the table is lent.
 #[derive(Clone, Copy)]
 pub struct Cell {
     pub mark: u8,
-    pub searched: u32,
-    pub limit: u32,
+    pub last: Option<Done>,
 }
 
 // The number of a leg that is no longer than a leg can be, by the readings to a terminus: after a search back from there, if the last one does not serve it.
@@ -33,38 +32,20 @@ fn search_cell(
 ) -> Cell
     requires { (m : Map) × Set m lines work.old × OnLeg m lines stretch.now i j × SoleLeg m stretch.now i j
         × Decides (Alone m lines stretch.now i) alone × EndsThere m lines stretch.now j to own
-        × DoneFor m lines before.searched to before.limit work.old }
+        × DoneFor m lines to before.last work.old }
     ensures { (m : Map) → Set m lines work.old → OnLeg m lines stretch.now i j → SoleLeg m stretch.now i j
         → Decides (Alone m lines stretch.now i) alone → EndsThere m lines stretch.now j to own
-        → DoneFor m lines before.searched to before.limit work.old
+        → DoneFor m lines to before.last work.old
         → CellSearched m lines stretch.now i j to work.old work.new result }
 {
     let class = lowest_class(work, lines, &stretch[i..j]);
     let len = total_length(work, lines, &stretch[i..j]) as u32;
-    let limit = prepare(
-        work,
-        lines,
-        stretch,
-        i,
-        to,
-        class,
-        len,
-        before.searched,
-        before.limit,
-    );
-    let searched = class + 1;
+    let limit = prepare(work, lines, stretch, i, to, class, len, before.last);
+    let last = Some(Done { class, limit });
     if test_leg(work, lines, stretch, i, j, class, len, alone, own, limit) {
-        return Cell {
-            mark: 1,
-            searched,
-            limit,
-        };
+        return Cell { mark: 1, last };
     }
-    Cell {
-        mark: 0,
-        searched,
-        limit,
-    }
+    Cell { mark: 0, last }
 }
 
 // The number of a leg that is a sole way after the test of its own terminus. Where its first line is alone it is the only reading there.
@@ -80,17 +61,16 @@ fn own_cell(
 ) -> Cell
     requires { (m : Map) × Set m lines work.old × OnLeg m lines stretch.now i j × SoleLeg m stretch.now i j
         × Decides (Alone m lines stretch.now i) alone × Own m lines stretch.now j to
-        × DoneFor m lines before.searched to before.limit work.old }
+        × DoneFor m lines to before.last work.old }
     ensures { before.mark ≡ 1 → (m : Map) → Set m lines work.old → OnLeg m lines stretch.now i j
         → SoleLeg m stretch.now i j → Decides (Alone m lines stretch.now i) alone → Own m lines stretch.now j to
-        → DoneFor m lines before.searched to before.limit work.old
+        → DoneFor m lines to before.last work.old
         → CellTested m lines stretch.now i j to true before.mark work.old work.new result }
 {
     if !leg_fits(work, lines, stretch, i, j) {
         return Cell {
             mark: 0,
-            searched: before.searched,
-            limit: before.limit,
+            last: before.last,
         };
     }
     if alone {
@@ -113,11 +93,11 @@ pub fn test_cell(
 ) -> Cell
     requires { (m : Map) × Set m lines work.old × OnLeg m lines stretch.now i j × (before.mark ≡ 1 → SoleLeg m stretch.now i j)
         × Decides (Alone m lines stretch.now i) alone × EndsThere m lines stretch.now j to own
-        × DoneFor m lines before.searched to before.limit work.old }
+        × DoneFor m lines to before.last work.old }
     ensures { (m : Map) → Set m lines work.old → OnLeg m lines stretch.now i j
         → (before.mark ≡ 1 → SoleLeg m stretch.now i j)
         → Decides (Alone m lines stretch.now i) alone → EndsThere m lines stretch.now j to own
-        → DoneFor m lines before.searched to before.limit work.old
+        → DoneFor m lines to before.last work.old
         → CellTested m lines stretch.now i j to own before.mark work.old work.new result }
 {
     let mark = before.mark;

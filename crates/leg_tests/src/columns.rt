@@ -32,8 +32,7 @@ pub fn test_column(
         → Noted m lines stretch.now table.old → SoleColumn m stretch.now j table.old
         → ColumnSifted m lines stretch.now j to own table.old table.new work.old work.new }
 {
-    let mut searched: u32 = 0;
-    let mut limit: u32 = 0;
+    let mut last = None;
     for i in (0..j).rev() {
         let alone = table[POSITIONS * i] == 1;
         let mark = table[POSITIONS * i + j];
@@ -46,15 +45,10 @@ pub fn test_column(
             to,
             own,
             alone,
-            Cell {
-                mark,
-                searched,
-                limit,
-            },
+            Cell { mark, last },
         );
         table[POSITIONS * i + j] = cell.mark;
-        searched = cell.searched;
-        limit = cell.limit;
+        last = cell.last;
     }
 }
 

@@ -70,6 +70,13 @@ fn limit_for(work: &[u32], lines: usize, stretch: &[u32], i: usize, class: u32, 
     longest_leg(distance(far))
 }
 
+// A search back from a terminus: over lines up to a class, as far as a limit.
+#[derive(Clone, Copy)]
+pub struct Done {
+    pub class: u32,
+    pub limit: u32,
+}
+
 // Searches back from a terminus for the leg from position `i`, of this lowest class and length, unless the last search serves it. Gives the
 // limit that is searched up to.
 pub fn prepare(
@@ -80,17 +87,18 @@ pub fn prepare(
     to: Terminus,
     class: u32,
     len: u32,
-    searched: u32,
-    done: u32,
+    last: Option<Done>,
 ) -> u32
     requires known { Known lines stretch.now × (length stretch.now ≤ 64) × (i ≤ length stretch.now) × (len ≤ greatest_leg_length) × (class ≤ 7) }
     requires set { (m : Map) × Set m lines work.old × Stands (mirror m) lines to }
-    ensures { (m : Map) → Set m lines work.old → Stands (mirror m) lines to → DoneFor m lines searched to done work.old
+    ensures { (m : Map) → Set m lines work.old → Stands (mirror m) lines to → DoneFor m lines to last work.old
         → Prepared m lines class to len work.old work.new result }
 {
-    if searched == class + 1 {
-        if longest_leg(distance(len)) <= done {
-            return done;
+    if let Some(done) = last {
+        if done.class == class {
+            if longest_leg(distance(len)) <= done.limit {
+                return done.limit;
+            }
         }
     }
     let limit = limit_for(work, lines, stretch, i, class, len);

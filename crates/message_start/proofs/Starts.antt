@@ -44,12 +44,11 @@ pub map_refused_lem : (mb buffer : List ℕ) (why : Refusal) (room : ℕ) → de
     StartAnswered (OnMap StartOutcome.refused (λ m. λ o. o ≡ start_on mb room) (decode mb)) buffer buffer (Err why)
 map_refused_lem mb buffer why room e = rw e (refused_start why refl)
 
-pub area_short : (mb buffer work : List ℕ) → length work < work_length → StartCall mb work buffer (Err WorkAreaShort) work buffer
-unfolding refusal_of
-area_short mb buffer work h =
-    record { called = Answering.area_short StartOutcome.refused (λ m. λ o. o ≡ start_on mb (length buffer)) mb h (refused_start WorkAreaShort refl) }
-
-pub called : (mb : List ℕ) {before after work work' : List ℕ} {a : MessageAnswer} → work_length ≤ length work →
-    StartAnswered (OnMap StartOutcome.refused (λ m. λ o. o ≡ start_on mb (length before)) (decode mb)) before after a →
+pub called : (mb before : List ℕ) {after work work' : List ℕ} {a : MessageAnswer} → (length work < work_length → (a ≡ Err WorkAreaShort) × (after ≡ before)) →
+    (work_length ≤ length work → StartAnswered (OnMap StartOutcome.refused (λ m. λ o. o ≡ start_on mb (length before)) (decode mb)) before after a) →
     work' ≡ cleared work → StartCall mb work before a work' after
-called mb {before} h d e = record { called = Answering.called StartOutcome.refused (λ m. λ o. o ≡ start_on mb (length before)) mb h d e }
+unfolding refusal_of
+called mb before short ran e =
+    record {
+      called = Answering.stepped StartOutcome.refused (λ m. λ o. o ≡ start_on mb (length before)) mb (refused_start WorkAreaShort refl) short ran e;
+    }

@@ -23,16 +23,6 @@ fn on_map(map: &[u8], buffer: &mut [u8]) -> MessageAnswer
     }
 }
 
-// The answer where the work area is large enough.
-fn on_area(map: &[u8], work: &mut [u32], buffer: &mut [u8]) -> MessageAnswer
-    requires { work_length ≤ length work.old }
-    ensures { StartAnswered (OnMap StartOutcome.refused (λ m. λ o. o ≡ start_on map.now (length buffer.old)) (decode map.now))
-        buffer.old buffer.new result }
-{
-    read_map(map, work)?;
-    on_map(map, buffer)
-}
-
 // Starts a message for a map: the front stands first in the buffer, whatever stood there. The work area needs 14,336 numbers. They are 0 afterwards.
 pub fn start(map: &[u8], work: &mut [u32], buffer: &mut [u8]) -> MessageAnswer
     ensures { StartCall map.now work.old buffer.old result work.new buffer.new }
@@ -44,6 +34,9 @@ pub fn start(map: &[u8], work: &mut [u32], buffer: &mut [u8]) -> MessageAnswer
             requires { length area.old ≡ work_length }
             ensures { StartAnswered (OnMap StartOutcome.refused (λ m. λ o. o ≡ start_on map.entry.now (length out.old)) (decode map.entry.now))
                 out.old out.new result }
-        { on_area(map, area, out) },
+        {
+            read_map(map, area)?;
+            on_map(map, out)
+        },
     )
 }

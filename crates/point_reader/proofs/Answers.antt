@@ -70,9 +70,10 @@ module _ (m : Map) (a : PointAlong) (room : ℕ) (before after : List ℕ) where
         let e = ap (λ (l : List ℕ). reference_at l 1) (line_first bs copy rest put) ∙ reference_is bs s ∙ ap line_reference same in
         subst (λ (q : Reference). ReadAnswered (ReadOn m q room) before after r) e d
 
-    pub found_by_line : {found : ReadLines} → ReadAnswered (ReadOn m (reference_at (take (length bs) copy) 1) room) before after (Ok found) →
-        PointReadAnswered (PointReadOn m a room) before after (Ok (point_read found.count found.positive a.orientation a.side))
-    found_by_line d = let l = by_line _ d in found_outcome _ l.outcome l.asked l.answers l.buffer_after refl
+    pub found_by_line : {found : ReadLines} {orientation side : ℕ} → orientation ≡ a.orientation → side ≡ a.side →
+        ReadAnswered (ReadOn m (reference_at (take (length bs) copy) 1) room) before after (Ok found) →
+        PointReadAnswered (PointReadOn m a room) before after (Ok (point_read found.count found.positive orientation side))
+    found_by_line e f d = let l = by_line _ d in rw (e, f) (found_outcome _ l.outcome l.asked l.answers l.buffer_after refl)
 
     pub refused_by_line : {given : Refusal} → ReadAnswered (ReadOn m (reference_at (take (length bs) copy) 1) room) before after (Err given) →
         PointReadAnswered (PointReadOn m a room) before after (Err given)
@@ -88,14 +89,11 @@ pub map_refused_lem : (map bytes : List ℕ) {lines : List ℕ} (room : ℕ) (r 
 map_refused_lem map bytes room r e = refused_point r (rw e refl)
 
 -- The whole call.
-module _ (mb ref lines : List ℕ) where
-  pub area_short : (work : List ℕ) → length work < work_length → PointReadCall mb ref work lines (Err why.WorkAreaShort) work lines
-  unfolding refusal_of
-  area_short work h =
-      record {
-        called = Answering.area_short PointReadOutcome.refused (λ m. PointReadParsed m (parse_point ref) (length lines)) mb h (refused_point why.WorkAreaShort refl);
-      }
-
-  pub called : {after work work' : List ℕ} {a : PointReadAnswer} → work_length ≤ length work →
-      PointReadAnswered (PointReadMap (decode mb) ref (length lines)) lines after a → work' ≡ cleared work → PointReadCall mb ref work lines a work' after
-  called h d e = record { called = Answering.called PointReadOutcome.refused (λ m. PointReadParsed m (parse_point ref) (length lines)) mb h d e }
+pub called : (mb ref before : List ℕ) {after work work' : List ℕ} {a : PointReadAnswer} → (length work < work_length → (a ≡ Err why.WorkAreaShort) × (after ≡ before)) →
+    (work_length ≤ length work → PointReadAnswered (PointReadMap (decode mb) ref (length before)) before after a) → work' ≡ cleared work →
+    PointReadCall mb ref work before a work' after
+unfolding refusal_of
+called mb ref before short ran e =
+    record {
+      called = Answering.stepped PointReadOutcome.refused (λ m. PointReadParsed m (parse_point ref) (length before)) mb (refused_point why.WorkAreaShort refl) short ran e;
+    }

@@ -36,11 +36,8 @@ module _ (mb message ref lines : List ℕ) where
   map_refused_lem r e = refused_point r (rw e refl)
 
   -- The whole call.
-  pub area_short : (work : List ℕ) → length work < work_length → PointReadOfMessageCall mb message ref work lines (Err why.WorkAreaShort) work lines
-  unfolding refusal_of
-  area_short work h = record { called = Answering.area_short PointReadOutcome.refused Asks mb h (refused_point why.WorkAreaShort refl) }
-
-  pub called : {after work work' : List ℕ} {a : PointReadAnswer} → work_length ≤ length work →
-      PointReadAnswered (OnMap PointReadOutcome.refused Asks (decode mb)) lines after a → work' ≡ cleared work →
+  pub called : {after work work' : List ℕ} {a : PointReadAnswer} → (length work < work_length → (a ≡ Err why.WorkAreaShort) × (after ≡ lines)) →
+      (work_length ≤ length work → PointReadAnswered (OnMap PointReadOutcome.refused Asks (decode mb)) lines after a) → work' ≡ cleared work →
       PointReadOfMessageCall mb message ref work lines a work' after
-  called h d e = record { called = Answering.called PointReadOutcome.refused Asks mb h d e }
+  unfolding refusal_of
+  called short ran e = record { called = Answering.stepped PointReadOutcome.refused Asks mb (refused_point why.WorkAreaShort refl) short ran e }

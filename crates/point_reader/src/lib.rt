@@ -12,12 +12,11 @@ ghost use Rattle.model.specs.OfMessage.{OnFront, PointReadOfMessageCall};
 ghost use Rattle.search_cells.specs.Area.{Set};
 
 use front::same_map;
-use model::limits::WORK_LENGTH;
 use model::{PointReadAnswer, ReadPoint, Refusal};
 use opening::{Opened, open_map};
 use point_bytes::{Marks, form_of, marks_in, put_line};
 use reader::on_points;
-use work_area::clear;
+use work_area::step::in_work_area;
 
 // The answer for bytes that are a point along line: what is answered to the line reference with the same points, and the marks.
 fn on_point(bytes: &[u8], work: &mut [u32], opened: Opened, out: &mut [u32]) -> PointReadAnswer
@@ -48,16 +47,6 @@ fn on_map(reference: &[u8], work: &mut [u32], opened: Opened, out: &mut [u32]) -
     on_point(reference, work, opened, out)
 }
 
-// The answer where the work area is large enough.
-fn on_area(map: &[u8], reference: &[u8], work: &mut [u32], out: &mut [u32]) -> PointReadAnswer
-    requires { work_length ≤ length work.old }
-    ensures { PointReadAnswered (PointReadMap (decode map.now) reference.now (length out.old))
-        out.old out.new result }
-{
-    let opened = open_map(map, work)?;
-    on_map(reference, work, opened, out)
-}
-
 // Reads a point along a line on a map. An answer that it is read has the count of lines, which stand first in `lines`, the span of the offset, the
 // orientation and the side of road. The work area needs 14,336 numbers. They are 0 afterwards.
 pub fn read_point(
@@ -68,28 +57,34 @@ pub fn read_point(
 ) -> PointReadAnswer
     ensures { PointReadCall map.now reference.now work.old lines.old result work.new lines.new }
 {
-    if work.len() < WORK_LENGTH {
-        return Err(Refusal::WorkAreaShort);
-    }
-    let given = on_area(map, reference, &mut work[..WORK_LENGTH], lines);
-    clear(work);
-    given
+    in_work_area(
+        work,
+        lines,
+        |area, out|
+            requires { length area.old ≡ work_length }
+            ensures { PointReadAnswered (PointReadMap (decode map.entry.now) reference.entry.now (length out.old))
+                out.old out.new result }
+        {
+            let opened = open_map(map, area)?;
+            on_map(reference, area, opened, out)
+        },
+    )
 }
 
-// The answer where the work area is large enough, for a point out of a message: whether the message is of the map is asked once that is ready.
-fn on_area_of_message(
+// The answer on a map that is ready in the work area, for a point out of a message: whether the message is of that map is asked first.
+fn on_front(
     map: &[u8],
     message: &[u8],
     reference: &[u8],
     work: &mut [u32],
+    opened: Opened,
     out: &mut [u32],
 ) -> PointReadAnswer
-    requires { work_length ≤ length work.old }
-    ensures { PointReadAnswered (OnMap PointReadOutcome.refused (λ m. OnFront PointReadOutcome.refused
-        (PointReadParsed m (parse_point reference.now) (length out.old)) (same_map map.now message.now))
-        (decode map.now)) out.old out.new result }
+    requires { (m : Map) × Set m opened.lines work.old × (length m.nodes ≡ opened.nodes) }
+    ensures { (m : Map) → Set m opened.lines work.old → length m.nodes ≡ opened.nodes
+        → PointReadAnswered (OnFront PointReadOutcome.refused (PointReadParsed m (parse_point reference.now) (length out.old))
+        (same_map map.now message.now)) out.old out.new result }
 {
-    let opened = open_map(map, work)?;
     if !same_map(map, message) {
         return Err(Refusal::OtherMap);
     }
@@ -107,10 +102,17 @@ pub fn read_point_of_message(
     ensures { PointReadOfMessageCall map.now message.now reference.now work.old lines.old result
         work.new lines.new }
 {
-    if work.len() < WORK_LENGTH {
-        return Err(Refusal::WorkAreaShort);
-    }
-    let given = on_area_of_message(map, message, reference, &mut work[..WORK_LENGTH], lines);
-    clear(work);
-    given
+    in_work_area(
+        work,
+        lines,
+        |area, out|
+            requires { length area.old ≡ work_length }
+            ensures { PointReadAnswered (OnMap PointReadOutcome.refused (λ m. OnFront PointReadOutcome.refused
+                (PointReadParsed m (parse_point reference.entry.now) (length out.old)) (same_map map.entry.now message.entry.now))
+                (decode map.entry.now)) out.old out.new result }
+        {
+            let opened = open_map(map, area)?;
+            on_front(map, message, reference, area, opened, out)
+        },
+    )
 }

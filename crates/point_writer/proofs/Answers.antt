@@ -32,17 +32,15 @@ pub map_refused_lem : (map : List ℕ) (p : GivenPoint) {bytes : List ℕ} (room
 map_refused_lem map p room r e = refused_point r (rw e refl)
 
 -- The whole call.
-module _ (mb : List ℕ) (p : GivenPoint) (bytes : List ℕ) where
-  pub area_short : (work : List ℕ) → length work < work_length → PointWriteCall mb p work bytes (Err why.WorkAreaShort) work bytes
-  unfolding refusal_of
-  area_short work h =
-      record {
-        called = Answering.area_short PointWriteOutcome.refused (λ m. PointWriteChecked m p (check_point m p) (length bytes)) mb h (refused_point why.WorkAreaShort refl);
-      }
-
-  pub called : {after work work' : List ℕ} {a : PointWriteAnswer} → work_length ≤ length work →
-      PointWriteAnswered (PointWriteMap (decode mb) p (length bytes)) bytes after a → work' ≡ cleared work → PointWriteCall mb p work bytes a work' after
-  called h d e = record { called = Answering.called PointWriteOutcome.refused (λ m. PointWriteChecked m p (check_point m p) (length bytes)) mb h d e }
+pub called : (mb : List ℕ) (p : GivenPoint) (before : List ℕ) {after work work' : List ℕ} {a : PointWriteAnswer} →
+    (length work < work_length → (a ≡ Err why.WorkAreaShort) × (after ≡ before)) →
+    (work_length ≤ length work → PointWriteAnswered (PointWriteMap (decode mb) p (length before)) before after a) → work' ≡ cleared work →
+    PointWriteCall mb p work before a work' after
+unfolding refusal_of
+called mb p before short ran e =
+    record {
+      called = Answering.stepped PointWriteOutcome.refused (λ m. PointWriteChecked m p (check_point m p) (length before)) mb (refused_point why.WorkAreaShort refl) short ran e;
+    }
 
 -- The line's length, as it stands in the work area.
 pub length_held : {w : List ℕ} {lines : ℕ} {m : Map} → Held w lines m → (number line r : ℕ) → number < lines → number ≡ line →

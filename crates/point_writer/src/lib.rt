@@ -9,13 +9,14 @@ ghost use Rattle.work_area.specs.Area.{Held};
 ghost use Rattle.search_cells.specs.Area.{Set};
 ghost use Rattle.point_writer.specs.PointChecks.{ChecksPoint, PutsPoint};
 
-use buffers::bytes::copy;
+use buffers::copy;
 use buffers::wide;
-use model::limits::{GREATEST_MARK, WORK_LENGTH};
+use model::limits::GREATEST_MARK;
 use model::{PointWriteAnswer, Refusal};
 use opening::open_map;
 use point_bytes::{Marks, put_marks};
-use work_area::{LENGTH, clear, field};
+use work_area::step::in_work_area;
+use work_area::{LENGTH, field};
 use writer::on_part;
 
 // Asks a point as it is given: its line, its offset, and its marks. It may be refused with 7, 9 or 25.
@@ -87,23 +88,6 @@ fn on_map(
     on_line(work, lines, line, offset, marks, bytes)
 }
 
-// The answer where the work area is large enough.
-fn on_area(
-    map: &[u8],
-    line: u32,
-    offset: u32,
-    marks: Marks,
-    work: &mut [u32],
-    bytes: &mut [u8],
-) -> PointWriteAnswer
-    requires { work_length ≤ length work.old }
-    ensures { PointWriteAnswered (PointWriteMap (decode map.now) (point_given line offset marks.orientation marks.side)
-        (length bytes.old)) bytes.old bytes.new result }
-{
-    let opened = open_map(map, work)?;
-    on_map(work, opened.lines, line, offset, marks, bytes)
-}
-
 // Writes a point along a line on a map: `offset` centimetres from where the line starts, with its orientation and side of road. An answer that it is
 // written has the count of bytes, which stand first in `bytes`. The work area needs 14,336 numbers. They are 0 afterwards.
 pub fn write_point(
@@ -118,11 +102,17 @@ pub fn write_point(
     ensures { PointWriteCall map.now (point_given line offset orientation side) work.old bytes.old result
         work.new bytes.new }
 {
-    if work.len() < WORK_LENGTH {
-        return Err(Refusal::WorkAreaShort);
-    }
     let marks = Marks { orientation, side };
-    let given = on_area(map, line, offset, marks, &mut work[..WORK_LENGTH], bytes);
-    clear(work);
-    given
+    in_work_area(
+        work,
+        bytes,
+        |area, out|
+            requires { length area.old ≡ work_length }
+            ensures { PointWriteAnswered (PointWriteMap (decode map.entry.now) (point_given line offset marks.orientation marks.side) (length out.old))
+                out.old out.new result }
+        {
+            let opened = open_map(map, area)?;
+            on_map(area, opened.lines, line, offset, marks, out)
+        },
+    )
 }

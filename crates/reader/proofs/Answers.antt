@@ -138,12 +138,10 @@ map_refused_lem map bytes room r e = refused_read r (rw e refl)
 
 -- ---- the whole call
 
-module _ (mb ref lines : List ℕ) where
-  pub area_short : (work : List ℕ) → length work < work_length → ReadCall mb ref work lines (Err why.WorkAreaShort) work lines
-  unfolding refusal_of
-  area_short work h =
-      record { called = Answering.area_short ReadOutcome.refused (λ m. ReadParsed m (parse ref) (length lines)) mb h (refused_read why.WorkAreaShort refl) }
-
-  pub called : {after work work' : List ℕ} {a : ReadAnswer} → work_length ≤ length work → ReadAnswered (ReadMap (decode mb) ref (length lines)) lines after a →
-      work' ≡ cleared work → ReadCall mb ref work lines a work' after
-  called h d e = record { called = Answering.called ReadOutcome.refused (λ m. ReadParsed m (parse ref) (length lines)) mb h d e }
+pub called : (mb ref before : List ℕ) {after work work' : List ℕ} {a : ReadAnswer} → (length work < work_length → (a ≡ Err why.WorkAreaShort) × (after ≡ before)) →
+    (work_length ≤ length work → ReadAnswered (ReadMap (decode mb) ref (length before)) before after a) → work' ≡ cleared work → ReadCall mb ref work before a work' after
+unfolding refusal_of
+called mb ref before short ran e =
+    record {
+      called = Answering.stepped ReadOutcome.refused (λ m. ReadParsed m (parse ref) (length before)) mb (refused_read why.WorkAreaShort refl) short ran e;
+    }

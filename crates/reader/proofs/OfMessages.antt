@@ -38,11 +38,8 @@ module _ (mb message ref lines : List ℕ) where
   map_refused_lem r e = refused_read r (rw e refl)
 
   -- The whole call.
-  pub area_short : (work : List ℕ) → length work < work_length → ReadOfMessageCall mb message ref work lines (Err why.WorkAreaShort) work lines
-  unfolding refusal_of
-  area_short work h = record { called = Answering.area_short ReadOutcome.refused Asks mb h (refused_read why.WorkAreaShort refl) }
-
-  pub called : {after work work' : List ℕ} {a : ReadAnswer} → work_length ≤ length work →
-      ReadAnswered (OnMap ReadOutcome.refused Asks (decode mb)) lines after a → work' ≡ cleared work →
+  pub called : {after work work' : List ℕ} {a : ReadAnswer} → (length work < work_length → (a ≡ Err why.WorkAreaShort) × (after ≡ lines)) →
+      (work_length ≤ length work → ReadAnswered (OnMap ReadOutcome.refused Asks (decode mb)) lines after a) → work' ≡ cleared work →
       ReadOfMessageCall mb message ref work lines a work' after
-  called h d e = record { called = Answering.called ReadOutcome.refused Asks mb h d e }
+  unfolding refusal_of
+  called short ran e = record { called = Answering.stepped ReadOutcome.refused Asks mb (refused_read why.WorkAreaShort refl) short ran e }

@@ -21,13 +21,12 @@ ghost use Rattle.model.specs.Locate as definitions;
 use buffers::copy;
 use ending::answer;
 use front::same_map;
-use model::limits::WORK_LENGTH;
 use model::{ReadAnswer, Refusal};
 use opening::{Opened, open_map};
 use reference_legs::read_legs;
 use references::points::locate;
 use references::reference::Reference;
-use work_area::clear;
+use work_area::step::in_work_area;
 
 mod ending;
 
@@ -110,43 +109,39 @@ fn on_map(reference: &[u8], work: &mut [u32], opened: Opened, out: &mut [u32]) -
     on_points(reference, sound.points, work, opened, out)
 }
 
-// The answer where the work area is large enough.
-fn on_area(map: &[u8], reference: &[u8], work: &mut [u32], out: &mut [u32]) -> ReadAnswer
-    requires { work_length ≤ length work.old }
-    ensures { ReadAnswered (ReadMap (decode map.now) reference.now (length out.old))
-        out.old out.new result }
-{
-    let opened = open_map(map, work)?;
-    on_map(reference, work, opened, out)
-}
-
 // Reads a reference on a map. An answer that it is read has the count of lines, which stand first in `lines`, and the spans of the two offsets.
 // The work area needs 14,336 numbers. They are 0 afterwards.
 pub fn read(map: &[u8], reference: &[u8], work: &mut [u32], lines: &mut [u32]) -> ReadAnswer
     ensures { ReadCall map.now reference.now work.old lines.old result work.new lines.new }
 {
-    if work.len() < WORK_LENGTH {
-        return Err(Refusal::WorkAreaShort);
-    }
-    let given = on_area(map, reference, &mut work[..WORK_LENGTH], lines);
-    clear(work);
-    given
+    in_work_area(
+        work,
+        lines,
+        |area, out|
+            requires { length area.old ≡ work_length }
+            ensures { ReadAnswered (ReadMap (decode map.entry.now) reference.entry.now (length out.old))
+                out.old out.new result }
+        {
+            let opened = open_map(map, area)?;
+            on_map(reference, area, opened, out)
+        },
+    )
 }
 
-// The answer where the work area is large enough, for a reference out of a message: whether the message is of the map is asked once that is ready.
-fn on_area_of_message(
+// The answer on a map that is ready in the work area, for a reference out of a message: whether the message is of that map is asked first.
+fn on_front(
     map: &[u8],
     message: &[u8],
     reference: &[u8],
     work: &mut [u32],
+    opened: Opened,
     out: &mut [u32],
 ) -> ReadAnswer
-    requires { work_length ≤ length work.old }
-    ensures { ReadAnswered (OnMap ReadOutcome.refused (λ m. OnFront ReadOutcome.refused
-        (ReadParsed m (parse reference.now) (length out.old)) (same_map map.now message.now))
-        (decode map.now)) out.old out.new result }
+    requires { (m : Map) × Set m opened.lines work.old × (length m.nodes ≡ opened.nodes) }
+    ensures { (m : Map) → Set m opened.lines work.old → length m.nodes ≡ opened.nodes
+        → ReadAnswered (OnFront ReadOutcome.refused (ReadParsed m (parse reference.now) (length out.old))
+        (same_map map.now message.now)) out.old out.new result }
 {
-    let opened = open_map(map, work)?;
     if !same_map(map, message) {
         return Err(Refusal::OtherMap);
     }
@@ -164,10 +159,17 @@ pub fn read_of_message(
     ensures { ReadOfMessageCall map.now message.now reference.now work.old lines.old result
         work.new lines.new }
 {
-    if work.len() < WORK_LENGTH {
-        return Err(Refusal::WorkAreaShort);
-    }
-    let given = on_area_of_message(map, message, reference, &mut work[..WORK_LENGTH], lines);
-    clear(work);
-    given
+    in_work_area(
+        work,
+        lines,
+        |area, out|
+            requires { length area.old ≡ work_length }
+            ensures { ReadAnswered (OnMap ReadOutcome.refused (λ m. OnFront ReadOutcome.refused
+                (ReadParsed m (parse reference.entry.now) (length out.old)) (same_map map.entry.now message.entry.now))
+                (decode map.entry.now)) out.old out.new result }
+        {
+            let opened = open_map(map, area)?;
+            on_front(map, message, reference, area, opened, out)
+        },
+    )
 }

@@ -7,7 +7,7 @@ ghost use Rattle.model.specs.Work.{work_length};
 ghost use Rattle.std.specs.Prelude.{◌≤◌, ◌<◌, length};
 
 use buffers::wide;
-use cases::{Part, sum_of};
+use cases::sum_of;
 use console::{hand_over, print};
 use depot_map::read_map;
 use model::limits::WORK_LENGTH;
@@ -77,12 +77,9 @@ fn run(rt: &impl Print, bytes: &[u8], work: &mut [u32])
     requires { work_length ≤ length work.old }
 {
     let mut at = 0;
-    loop {
-        let Part::At(from, to) = cases::part_at(bytes, at) else {
-            return;
-        };
-        show(rt, &bytes[from..to], work);
-        at = to;
+    while let Some(part) = cases::part_at(bytes, at) {
+        show(rt, &bytes[part.start..part.end], work);
+        at = part.end;
     }
 }
 

@@ -1,20 +1,9 @@
--- The work area is too short, or the answer on the map stands in the buffer; and the area is cleared.
-use Rattle.std.proofs.Common.{length, inl, inr}
-use Rattle.std.proofs.lemmas.Bool.{cases_lt}
-use Rattle.model.specs.Work.{work_length}
-use Rattle.model.proofs.Cleared.{cleared_short}
-use Rattle.message_start.proofs.Starts.{area_short, called}
+-- What the step ensures is what the call does.
+use Rattle.message_start.proofs.Starts.{called}
 use Rattle.message_start.proofs.start.Goals as goal
 
 pub returns : goal.returns
 returns c =
     let a = c.args in
-    let ends = c.in_work_area.ensures in
-    elim (cases_lt (length a.work.now) work_length) [
-      | inl h ↦
-          let e = ends.short h in
-          rw (e.0, e.1, ends.area_cleared, ← cleared_short a.work.now h) (area_short a.map.now a.buffer.now a.work.now h)
-      | inr h ↦
-          let r = ends.ran h in
-          called a.map.now h (rw (r.on_buffer, r.leaves) at r.ran) ends.area_cleared
-    ]
+    let e = c.in_work_area.ensures in
+    called a.map.now a.buffer.now e.short (λ h. let r = e.ran h in rw (r.on_buffer, r.leaves) at r.ran) e.area_cleared

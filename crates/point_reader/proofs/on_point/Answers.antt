@@ -1,7 +1,7 @@
 -- The line reference with the same points is answered, and the marks are told with that.
 use Rattle.std.proofs.Common.{refl, sym, arith}
 use Rattle.std.proofs.Math.Seq.{length-take-le}
-use Rattle.std.proofs.lemmas.Result.{err_from_is_err_and}
+use Rattle.model.proofs.Answering.{passed_on}
 use Rattle.model.specs.PointAlong.{point_along_at}
 use Rattle.model.proofs.PointShape.{shaped}
 use Rattle.point_bytes.proofs.AsLine.{sound_line}
@@ -27,11 +27,11 @@ marks_in-marks-requires c = (shaped _ _ c.requires.bytes_value).0.long
 
 pub returns-in_err-found : goal.returns-in_err-found
 returns-in_err-found c m set count =
-    let p = err_from_is_err_and c.from_residual.result c.from_residual.ensures.1 in
-    rw (p.1, p.2) (refused_by_line m _ _ _ _ _ _ _ (shaped _ _ c.requires.bytes_value).0 refl c.put_line.ensures (c.in_err-found.ensures m set count))
+    let passed = passed_on c.from_residual.result c.from_residual.ensures.1 in
+    rw passed (refused_by_line m _ _ _ _ _ _ _ (shaped _ _ c.requires.bytes_value).0 refl c.put_line.ensures (c.in_err-found.ensures m set count))
 
 pub returns : goal.returns
 unfolding point_along_at
 returns c m set count =
-    rw (c.marks_in-marks.ensures.0, c.marks_in-marks.ensures.1)
-    (found_by_line m _ _ _ _ _ _ _ (shaped _ _ c.requires.bytes_value).0 refl c.put_line.ensures (c.in_ok-found.ensures m set count))
+    found_by_line m _ _ _ _ _ _ _ (shaped _ _ c.requires.bytes_value).0 refl c.put_line.ensures c.marks_in-marks.ensures.0 c.marks_in-marks.ensures.1
+    (c.in_ok-found.ensures m set count)

@@ -1,19 +1,19 @@
 -- A leg that fails, or the answer for all legs with their lines written.
 use Rattle.std.proofs.Common.{arith}
-use Rattle.std.proofs.lemmas.Result.{err_from_is_err_and}
+use Rattle.model.proofs.Answering.{passed_on}
 use Rattle.reader.proofs.Answers.{kept_lines, leg_failed, all_read, none_read, counted}
 use Rattle.reader.proofs.on_places.Goals as goal
 
 pub returns-in_err-sums : goal.returns-in_err-sums
 returns-in_err-sums c m set places found =
-    let p = err_from_is_err_and c.from_residual.result c.from_residual.ensures.1 in
-    rw (p.1, p.2) (leg_failed found (c.in_err-sums.ensures m set places).tells)
+    let passed = passed_on c.from_residual.result c.from_residual.ensures.1 in
+    rw passed (leg_failed found (c.in_err-sums.ensures m set places).tells)
 
 pub returns-in_err-found : goal.returns-in_err-found
 returns-in_err-found c m set places found =
-    let p = err_from_is_err_and c.from_residual-in_err-found.result c.from_residual-in_err-found.ensures.1 in
+    let passed = passed_on c.from_residual-in_err-found.result c.from_residual-in_err-found.ensures.1 in
     let all = (c.in_ok-sums.ensures m set places).tells in
-    rw (p.1, p.2) (none_read found all.read (c.in_err-found.ensures m all.lists all.sums))
+    rw passed (none_read found all.read (c.in_err-found.ensures m all.lists all.sums))
 
 pub put_lines-requires : goal.put_lines-requires
 put_lines-requires c =

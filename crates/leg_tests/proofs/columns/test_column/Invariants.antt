@@ -15,5 +15,5 @@ invariant-loop-i l =
       earlier : (k : ℕ) → k < l.i → mark l.table k l.j ≡ mark l.initial.table k l.j;
       sifting : (m : Map) → Set m l.lines l.initial.work → Connected m l.stretch → EndsThere m l.lines l.stretch l.j l.to l.own →
           Noted m l.lines l.stretch l.initial.table → SoleColumn m l.stretch l.j l.initial.table →
-          Sifting m l.lines l.stretch l.j l.to l.own l.initial.table l.table l.initial.work l.work l.searched l.limit l.i;
+          Sifting m l.lines l.stretch l.j l.to l.own l.initial.table l.table l.initial.work l.work l.last l.i;
     }

@@ -6,7 +6,6 @@ use Rattle.model.specs.Lines.{arriving}
 use Rattle.model.specs.Reading.{matching}
 use Rattle.fields.specs.Leg.{arrival_in}
 use Rattle.stretches.specs.Attributes.{attributes_by}
-use borrow.Author.Rules.{rules}
 use native.Mathlib.Omega.{arith}
 use Rattle.leg_tests.proofs.leg.arrival_to.Goals as goal
 

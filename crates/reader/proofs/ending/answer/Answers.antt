@@ -1,6 +1,6 @@
 -- A banned turn where two legs meet, the two spans, then their sum, then the room.
 use Rattle.std.proofs.Common.{arith}
-use Rattle.std.proofs.lemmas.Result.{err_from_is_err_and}
+use Rattle.model.proofs.Answering.{passed_on}
 use Rattle.reader.proofs.Ends.{banned_meeting_lem, no_positive, no_negative, too_far, no_room, accepted}
 use Rattle.reader.proofs.ending.answer.Goals as goal
 
@@ -9,15 +9,15 @@ returns-then-sums c m lists of = banned_meeting_lem of c.if-sums.true
 
 pub returns-in_err-positive : goal.returns-in_err-positive
 returns-in_err-positive c m lists of =
-    let p = err_from_is_err_and c.from_residual.result c.from_residual.ensures.1 in
+    let passed = passed_on c.from_residual.result c.from_residual.ensures.1 in
     let none = rw c.positive_offset.ensures at c.in_err-positive.ensures in
-    rw (p.1, p.2, none.1) (no_positive of c.if-sums.false none.0)
+    rw (passed, none.1) (no_positive of c.if-sums.false none.0)
 
 pub returns-in_err-negative : goal.returns-in_err-negative
 returns-in_err-negative c m lists of =
-    let p = err_from_is_err_and c.from_residual-in_err-negative.result c.from_residual-in_err-negative.ensures.1 in
+    let passed = passed_on c.from_residual-in_err-negative.result c.from_residual-in_err-negative.ensures.1 in
     let none = rw c.negative_offset.ensures at c.in_err-negative.ensures in
-    rw (p.1, p.2, none.1) (no_negative of c.if-sums.false none.0)
+    rw (passed, none.1) (no_negative of c.if-sums.false none.0)
 
 pub returns-then-sums-positive : goal.returns-then-sums-positive
 returns-then-sums-positive c m lists of =

@@ -1,5 +1,6 @@
 -- The next leg is known to be a sole way, or tested; no leg behind one that is too long, barred or broken is a sole way.
-use Rattle.std.proofs.Common.{refl, ◌∙◌, arith}
+use Rattle.std.proofs.Common.{◌≤◌, refl, ◌∙◌, arith}
+use Rattle.model.specs.Reading.{greatest_leg_length}
 use Rattle.work_area.specs.Mirror.{mirror}
 use Rattle.sole_ways.proofs.Rows.{row_start}
 use Rattle.sole_ways.proofs.RowLegs.{in_row_start, before_kept, on_trial, tested_next, start_next, follows_next, in_row_known, in_row_long, in_row_barred, in_row_yes, in_row_no, in_row_broken, row_cleared_then, in_row_end}
@@ -63,7 +64,7 @@ test_sole-test-requires-clause-set c =
     let next = one.measures q.0 k.worked.set.held k.measured in (
       q.0,
       k.worked.set,
-      on_trial q.2 p.1 l.first l.after less one.one_more k next p.4 c.if-part-gt-GREATEST_LEG_LENGTH.false,
+      on_trial q.2 p.1 l.first l.after less one.one_more k next p.4 (omega arith),
       q.3,
       start_next q.2 p.1 l.first l.after less one.one_more k next,
       follows_next q.2 p.1 l.first l.after less one.one_more k next,
@@ -75,7 +76,7 @@ loop-part-preserved-then-test c =
     let l = c.loop-part.invariant in
     let one = c.one_more-part.ensures in
     let less = c.loop-part-test.true in
-    let short = c.if-part-gt-GREATEST_LEG_LENGTH.false in
+    let short : c.one_more-part.result.length ≤ greatest_leg_length = omega arith in
     record {
       first = one.one_more.from ∙ l.first;
       after = omega (arith, one.one_more.to);
@@ -95,7 +96,7 @@ find_wall-found-requires-clause-set c =
     let l = c.loop-part.invariant in
     let one = c.one_more-part.ensures in
     let less = c.loop-part-test.true in
-    let short = c.if-part-gt-GREATEST_LEG_LENGTH.false in
+    let short : c.one_more-part.result.length ≤ greatest_leg_length = omega arith in
     let k = l.row q.0 q.1 q.2 q.3 (before_kept c.args.i c.args.end p.2 c.clear_row.ensures.kept q.4) in
     let next = one.measures q.0 k.worked.set.held k.measured in
     let tested = tested_next q.2 p.1 l.first l.after less one.one_more k next p.4 short q.3 (c.test_sole-test.ensures q.0) in
@@ -107,7 +108,7 @@ returns-then-along-j c m set joint arriving before walled =
     let l = c.loop-part.invariant in
     let one = c.one_more-part.ensures in
     let less = c.loop-part-test.true in
-    let short = c.if-part-gt-GREATEST_LEG_LENGTH.false in
+    let short : c.one_more-part.result.length ≤ greatest_leg_length = omega arith in
     let k = l.row m set joint arriving (before_kept c.args.i c.args.end p.2 c.clear_row.ensures.kept before) in
     let next = one.measures m k.worked.set.held k.measured in
     let tested = tested_next joint p.1 l.first l.after less one.one_more k next p.4 short arriving (c.test_sole-test.ensures m) in (
@@ -122,7 +123,7 @@ loop-part-preserved c =
     let l = c.loop-part.invariant in
     let one = c.one_more-part.ensures in
     let less = c.loop-part-test.true in
-    let short = c.if-part-gt-GREATEST_LEG_LENGTH.false in
+    let short : c.one_more-part.result.length ≤ greatest_leg_length = omega arith in
     record {
       first = one.one_more.from ∙ l.first;
       after = omega (arith, one.one_more.to);
@@ -151,6 +152,5 @@ returns-then-part-gt-GREATEST_LEG_LENGTH c m set joint arriving before walled =
     let k = l.row m set joint arriving (before_kept c.args.i c.args.end p.2 c.clear_row.ensures.kept before) in (
       walled,
       row_cleared_then c.clear_row.ensures
-          (in_row_long joint p.1 l.first l.after c.loop-part-test.true one.one_more k (one.measures m k.worked.set.held k.measured)
-          c.if-part-gt-GREATEST_LEG_LENGTH.true),
+          (in_row_long joint p.1 l.first l.after c.loop-part-test.true one.one_more k (one.measures m k.worked.set.held k.measured) (omega arith)),
     )
