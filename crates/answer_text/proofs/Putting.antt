@@ -2,17 +2,16 @@
 use Prim.Native.Nat.{ℕ, ◌+◌, ◌-◌, ◌≤◌, ◌<◌, min}
 use mathlib.Core.Bool.{Bool, true, false}
 use mathlib.Core.Path.{◌≡◌, refl, sym, ◌∙◌, ap, ap₂, subst}
-use mathlib.Core.List.{List, [], ◌∷◌, ◌++◌}
+use mathlib.Core.List.{List, [], ◌++◌}
 use mathlib.Core.Logic.{◌⊎◌, inl, inr, ⊎_elim}
 use native.Mathlib.Omega.{arith}
-use native.Mathlib.Numerals.{add-one}
 use lib.Dec.{ltb}
-use lib.ListN.{length, take, get_or, set, length-append, length-take}
-use lib.Seq.{take_all, take-suc, take-append-le, take-append-add, length-take-le}
+use lib.ListN.{length, take, drop, length-append, length-take}
+use lib.Seq.{take_all, drop-drop, take-append-le, take-append-add, length-take-le}
 use borrow.Author.Tests.{ltb-true, ltb-false}
 use Rattle.model.specs.Work.{placed}
 use Rattle.buffers.specs.Placed.{put_at}
-use Rattle.buffers.proofs.Placing.{put_length, put_then, put_one, put_none, put_first}
+use Rattle.buffers.proofs.Placing.{put_length, put_then, put_none, put_first}
 use Rattle.answer_text.specs.Put.{Put}
 
 below_or_not : (a b : ℕ) → (a < b) ⊎ (b ≤ a)
@@ -97,16 +96,13 @@ put_both {at} {m} {n} {v} {w} {a} {b} {c} p q =
         ∙ put_then at v a h m end rest (omega (arith, length-take (length a - at - length v) w))
         ∙ ap (λ (k : List ℕ). put_at at k a) (sym (ap (λ (k : ℕ). take k (v ++ w)) room ∙ take-append-add v w (length a - at - length v)))
 
--- One byte more.
-pub put_more : (from i : ℕ) (bs l : List ℕ) → i < length bs → from + i < length l →
-    set (put_at from (take i bs) l) (from + i) (get_or bs i 0) ≡ put_at from (take (i + 1) bs) l
-put_more from i bs l h fits =
-    let size : length (take i bs) ≡ i = length-take-le i bs (omega arith) in
-    let room : from + length (take i bs) ≤ length l = omega arith in
-    let same : length (put_at from (take i bs) l) ≡ length l = put_length from (take i bs) l room in
-    put_one (from + i) (get_or bs i 0) (put_at from (take i bs) l) (omega arith)
-    ∙ put_then from (take i bs) l room (from + i) (omega arith) (get_or bs i 0 ∷ []) (omega arith)
-    ∙ ap (λ (k : List ℕ). put_at from k l) (sym (ap (λ (k : ℕ). take k bs) (add-one i) ∙ take-suc bs i 0 h))
+-- A part of the buffer that was overwritten by the first bytes.
+pub part_put : (from count n : ℕ) (bs l new : List ℕ) → n ≡ count → new ≡ take count bs → count ≤ length bs →
+    take from l ++ (new ++ drop n (drop from l)) ≡ put_at from (take count bs) l
+unfolding put_at
+part_put from count n bs l new e s h =
+    let size : length (take count bs) ≡ count = length-take-le count bs h in
+    rw (e, s, drop-drop count from l, size)
 
 -- As many bytes as fit, from where the buffer ends at most.
 pub put_fitting : (at from count : ℕ) (bs before after : List ℕ) → from ≡ min at (length before) →

@@ -1,8 +1,7 @@
 -- Bytes put into a buffer, as many as fit, and the first row of an answer.
-use Rattle.std.specs.Prelude.{ℕ, ◌+◌, ◌-◌, ◌≤◌, min, ◌≡◌, List, length, take}
+use Rattle.std.specs.Prelude.{ℕ, ◌+◌, ◌-◌, ◌≤◌, min, ◌≡◌, List, length, take, Ok, Err}
 use Rattle.buffers.specs.Placed.{put_at}
-use Rattle.model.specs.declared.ReadAnswer.{ReadAnswer}
-use Rattle.model.specs.declared.ReadAnswer.TheVariants.{Read, Refused}
+use Rattle.model.specs.Answer.{ReadAnswer}
 use Rattle.model.specs.Refusal.{refusal_of}
 use Rattle.model.specs.Text.{acceptance, refusal}
 
@@ -15,5 +14,5 @@ pub record Put (at : ℕ) (bytes before after : List ℕ) (end : ℕ) : Type 0 w
 
 -- The first row of an answer, without the end of the row.
 unfoldable pub head_of : ReadAnswer → List ℕ
-head_of (Read count pos neg) = acceptance count pos neg
-head_of (Refused why) = refusal (refusal_of why)
+head_of (Ok found) = acceptance found.count found.positive found.negative
+head_of (Err why) = refusal (refusal_of why)

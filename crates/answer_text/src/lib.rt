@@ -6,8 +6,7 @@ ghost use Rattle.model.specs.Refusal.{refusal_of};
 ghost use Rattle.model.specs.Text.{decimal, most_digits, numbered, each, acceptance, refusal, text, told};
 ghost use Rattle.answer_text.specs.Put.{Put, head_of};
 
-use buffers::lesser;
-use model::{ReadAnswer, Refusal, Span, number_of};
+use model::{ReadAnswer, ReadLines, Refusal, number_of};
 
 // No number of 64 bits has more digits (crates/model/specs/Text.antt).
 const MOST_DIGITS: usize = 20;
@@ -16,13 +15,9 @@ const MOST_DIGITS: usize = 20;
 pub fn put(bytes: &[u8], buffer: &mut [u8], at: usize) -> usize
     ensures { Put at bytes.now buffer.old buffer.new result }
 {
-    let from = lesser(at, buffer.len());
-    let count = lesser(bytes.len(), buffer.len() - from);
-    let mut i: usize = 0;
-    while i < count {
-        buffer[from + i] = bytes[i];
-        i += 1;
-    }
+    let from = at.min(buffer.len());
+    let count = bytes.len().min(buffer.len() - from);
+    buffer[from..from + count].copy_from_slice(&bytes[..count]);
     from + count
 }
 
@@ -32,10 +27,8 @@ fn put_digits(number: u64, digits: &mut [u8]) -> usize
     ensures { (result ≤ most_digits) × (drop result digits.new ≡ decimal number) }
 {
     let mut rest = number;
-    let mut i: usize = MOST_DIGITS;
-    while 0 < i {
-        i -= 1;
-        digits[i] = 48 + (rest % 10) as u8;
+    for i in (0..MOST_DIGITS).rev() {
+        digits[i] = b'0' + (rest % 10) as u8;
         if rest < 10 {
             return i;
         }
@@ -65,30 +58,22 @@ pub fn put_number(word: &[u8], number: u64, buffer: &mut [u8], at: usize) -> usi
 pub fn put_each(word: &[u8], numbers: &[u32], buffer: &mut [u8], at: usize) -> usize
     ensures { Put at (each word.now numbers.now) buffer.old buffer.new result }
 {
-    let mut end = lesser(at, buffer.len());
-    let mut i: usize = 0;
-    while i < numbers.len() {
-        end = put_number(word, numbers[i] as u64, buffer, end);
-        i += 1;
+    let mut end = at.min(buffer.len());
+    for number in numbers {
+        end = put_number(word, u64::from(*number), buffer, end);
     }
     end
 }
 
 // Puts the count of lines and the spans.
-fn put_acceptance(
-    count: usize,
-    positive: Span,
-    negative: Span,
-    buffer: &mut [u8],
-    at: usize,
-) -> usize
-    ensures { Put at (acceptance count positive negative) buffer.old buffer.new result }
+fn put_acceptance(found: ReadLines, buffer: &mut [u8], at: usize) -> usize
+    ensures { Put at (acceptance found.count found.positive found.negative) buffer.old buffer.new result }
 {
-    let lines = put_number(b"lines ", count as u64, buffer, at);
-    let least = put_number(b" pos ", positive.least as u64, buffer, lines);
-    let greatest = put_number(b" ", positive.greatest as u64, buffer, least);
-    let other = put_number(b" neg ", negative.least as u64, buffer, greatest);
-    put_number(b" ", negative.greatest as u64, buffer, other)
+    let lines = put_number(b"lines ", found.count as u64, buffer, at);
+    let least = put_number(b" pos ", found.positive.least as u64, buffer, lines);
+    let greatest = put_number(b" ", found.positive.greatest as u64, buffer, least);
+    let other = put_number(b" neg ", found.negative.least as u64, buffer, greatest);
+    put_number(b" ", found.negative.greatest as u64, buffer, other)
 }
 
 // Puts a refusal by its number in the papers' tables, then the point or leg if it has one.
@@ -105,14 +90,13 @@ fn put_refusal(why: Refusal, buffer: &mut [u8], at: usize) -> usize
 }
 
 // Puts the first row of an answer, without the end of the row.
+#[tactic(auto, unfolding(crate::specs::Put::head_of))]
 pub fn put_head(answer: ReadAnswer, buffer: &mut [u8], at: usize) -> usize
     ensures { Put at (head_of answer) buffer.old buffer.new result }
 {
     match answer {
-        ReadAnswer::Read(count, positive, negative) => {
-            put_acceptance(count, positive, negative, buffer, at)
-        }
-        ReadAnswer::Refused(why) => put_refusal(why, buffer, at),
+        Ok(found) => put_acceptance(found, buffer, at),
+        Err(why) => put_refusal(why, buffer, at),
     }
 }
 
@@ -121,13 +105,13 @@ pub fn put_answer(answer: ReadAnswer, lines: &[u32], buffer: &mut [u8]) -> usize
     ensures { Put 0 (text (told answer lines.now)) buffer.old buffer.new result }
 {
     match answer {
-        ReadAnswer::Read(count, positive, negative) => {
-            let counted = lesser(count, lines.len());
-            let head = put_acceptance(counted, positive, negative, buffer, 0);
-            let rows = put_each(b"\n", &lines[..counted], buffer, head);
+        Ok(found) => {
+            let count = found.count.min(lines.len());
+            let head = put_acceptance(ReadLines { count, ..found }, buffer, 0);
+            let rows = put_each(b"\n", &lines[..count], buffer, head);
             put(b"\n", buffer, rows)
         }
-        ReadAnswer::Refused(why) => {
+        Err(why) => {
             let row = put_refusal(why, buffer, 0);
             put(b"\n", buffer, row)
         }

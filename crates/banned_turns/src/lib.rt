@@ -19,10 +19,7 @@ pub fn fits(work: &[u32], lines: u32, first: u32, second: u32) -> bool
     requires { (work_length ≤ length work.now) × (lines ≤ greatest_line_count) }
     ensures { result ≡ fitting (held_lines work.now lines) (record { first = first; second = second }) }
 {
-    if lines <= first {
-        return false;
-    }
-    if lines <= second {
+    if lines <= first || lines <= second {
         return false;
     }
     field(work, wide(first), END) == field(work, wide(second), START)

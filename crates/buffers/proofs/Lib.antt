@@ -9,3 +9,4 @@ pub mod Groups
 pub mod Numbers
 pub mod LineBytes
 pub mod Lent
+pub mod Got

@@ -3,15 +3,6 @@ ghost use Rattle.std.specs.Prelude.{◌≡◌, ◌+◌, ◌≤◌, ◌<◌, ◌*
 ghost use Rattle.model.specs.Reference.{at2, at3, bytes2, bytes3};
 ghost use Rattle.buffers.specs.Placed.{put_at};
 
-pub use crate::copy;
-
-// A byte as a number. Its contract spares its callers the bound on an element.
-pub fn wide(byte: u8) -> u32
-    ensures { (result ≡ byte) × (result < 256) }
-{
-    u32::from(byte)
-}
-
 // The number of 16 bits at byte `i`.
 #[tactic(auto, unfolding(model::specs::Reference::at2))]
 pub fn at2(bytes: &[u8], i: usize) -> u32

@@ -2,7 +2,7 @@
 #![tactic(auto)]
 
 ghost use Rattle.model.specs.Work.{placed};
-ghost use Rattle.std.specs.Prelude.{◌≡◌, min, ◌+◌, ◌≤◌, ◌<◌, length};
+ghost use Rattle.std.specs.Prelude.{◌≡◌, ◌+◌, ◌≤◌, ◌<◌, length};
 ghost use Rattle.buffers.specs.Kept.{Filled};
 
 pub mod bytes;
@@ -14,13 +14,6 @@ pub fn wide(x: u32) -> usize
     ensures { (result ≡ x) × (result < 4_294_967_296) }
 {
     x as usize
-}
-
-// The lesser of two counts.
-pub fn lesser(a: usize, b: usize) -> usize
-    ensures { result ≡ min a b }
-{
-    a.min(b)
 }
 
 // Puts `x` at the `count` numbers from `base` on.

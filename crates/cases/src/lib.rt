@@ -6,7 +6,6 @@ ghost use Rattle.std.specs.Prelude.{◌≡◌, ◌+◌, ◌*◌, ◌-◌, ◌≤
 ghost use Rattle.cases.specs.Part.{PartIs, word_at};
 ghost use Rattle.cases.specs.Sum.{modulus, added_to, sum_from};
 
-use buffers::bytes::wide;
 use buffers::words;
 
 // Room for a file of cases. A literal of this size in `main` itself is too large for the checker.
@@ -16,29 +15,29 @@ pub fn megabyte() -> [u8; 1048576]
     [0; 1048576]
 }
 
-// Where a part starts and ends, or that there is none.
+// Where a part starts and ends.
 #[derive(Clone, Copy)]
-pub enum Part {
-    At(usize, usize),
-    Nothing,
+pub struct Part {
+    pub start: usize,
+    pub end: usize,
 }
 
-// The part whose length stands at byte `at`.
-pub fn part_at(bytes: &[u8], at: usize) -> Part
+// The part whose length stands at byte `at`, if it is there.
+#[tactic(auto, unfolding(crate::specs::Part::size_at))]
+pub fn part_at(bytes: &[u8], at: usize) -> Option<Part>
     ensures { PartIs bytes.now at result }
 {
-    if bytes.len() <= at {
-        return Part::Nothing;
+    let low = usize::from(*bytes.get(at)?);
+    let high = usize::from(*bytes.get(at + 1)?);
+    let start = at + 2;
+    let size = low + high * 256;
+    if bytes.len() - start < size {
+        return None;
     }
-    if bytes.len() - at < 2 {
-        return Part::Nothing;
-    }
-    let size = (wide(bytes[at]) + wide(bytes[at + 1]) * 256) as usize;
-    let from = at + 2;
-    if bytes.len() - from < size {
-        return Part::Nothing;
-    }
-    Part::At(from, from + size)
+    Some(Part {
+        start,
+        end: start + size,
+    })
 }
 
 // The number of four bytes, low byte first, at byte `at`; 0 where they are not all there.
@@ -55,11 +54,12 @@ pub fn word_at(bytes: &[u8], at: usize) -> u32
 }
 
 // A sum that tells the numbers and their order: each step takes 257 times the sum so far and adds the number, by the greatest prime below 2^32.
+#[tactic(auto, unfolding(crate::specs::Sum::added_to))]
 fn added(sum: u64, x: u32) -> u64
     requires { sum < modulus }
     ensures { (result ≡ added_to sum x) × (result < modulus) }
 {
-    (sum * 257 + x as u64) % 4_294_967_291
+    (sum * 257 + u64::from(x)) % 4_294_967_291
 }
 
 // The sum over the numbers from `from` up to `to`, on top of `sum`.
@@ -68,10 +68,8 @@ pub fn sum_of(numbers: &[u32], from: usize, to: usize, sum: u64) -> u64
     ensures { (result ≡ sum_from numbers.now from (to - from) sum) × (result < modulus) }
 {
     let mut total = sum;
-    let mut i = from;
-    while i < to {
+    for i in from..to {
         total = added(total, numbers[i]);
-        i += 1;
     }
     total
 }
@@ -82,10 +80,8 @@ pub fn sum_of_bytes(bytes: &[u8], to: usize) -> u64
     ensures { (result ≡ sum_from bytes.now 0 to 0) × (result < modulus) }
 {
     let mut total: u64 = 0;
-    let mut i: usize = 0;
-    while i < to {
-        total = added(total, wide(bytes[i]));
-        i += 1;
+    for i in 0..to {
+        total = added(total, u32::from(bytes[i]));
     }
     total
 }

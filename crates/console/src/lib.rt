@@ -64,18 +64,12 @@ pub fn print(rt: &impl Print, word: &[u8], number: u64) -> usize
     end
 }
 
-fn print_number(rt: &impl Print, word: &[u8], n: u32) {
-    print(rt, word, n as u64);
-}
-
 // Hands over each of the numbers, with the word before it: how many numbers.
 pub fn print_each(rt: &impl Print, word: &[u8], numbers: &[u32]) -> usize
     ensures { result ≡ length numbers.now }
 {
-    let mut i: usize = 0;
-    while i < numbers.len() {
-        print_number(rt, word, numbers[i]);
-        i += 1;
+    for number in numbers {
+        print(rt, word, u64::from(*number));
     }
-    i
+    numbers.len()
 }

@@ -36,22 +36,16 @@ fn put_once(work: &mut [u32], count: usize, lines: u32, first: u32, second: u32)
 }
 
 // Puts a banned turn if it fits its lines, as all `taken` before it do: how many stand in the work area then. There is no count once one does not fit.
-pub fn put_fitting(
-    work: &mut [u32],
-    taken: Option<usize>,
-    lines: u32,
-    first: u32,
-    second: u32,
-) -> Option<usize>
+pub fn put_fitting(work: &mut [u32], taken: Option<usize>, lines: u32, ban: Ban) -> Option<usize>
     requires work_length_in_bounds { (work_length ≤ length work.old) × Below greatest_ban_count taken × (lines ≤ greatest_line_count) }
     requires bans_counted { (bans : List Turn) × BansCounted work.old lines bans taken }
-    ensures { BanSorted (record { first = first; second = second }) lines taken work.old work.new result }
+    ensures { BanSorted (record { first = ban.first; second = ban.second }) lines taken work.old work.new result }
 {
     let count = taken?;
-    if !fits(work, lines, first, second) {
+    if !fits(work, lines, ban.first, ban.second) {
         return None;
     }
-    Some(put_once(work, count, lines, first, second))
+    Some(put_once(work, count, lines, ban.first, ban.second))
 }
 
 // One banned turn more, from byte `from` on.

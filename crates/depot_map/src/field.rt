@@ -35,7 +35,9 @@ impl From<Fault> for Refusal {
 pub fn field(map: &[u8], from: usize, low: u32, high: u32, why: Fault) -> Result<Number, Fault>
     ensures { FieldRead map.now from low high why result }
 {
-    let x = number_at(map, from).ok_or(Fault::Number)?;
+    let Some(x) = number_at(map, from) else {
+        return Err(Fault::Number);
+    };
     if x.value < low || high < x.value {
         return Err(why);
     }

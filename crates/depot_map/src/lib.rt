@@ -38,25 +38,24 @@ fn finish(
     map: &[u8],
     at: usize,
     work: &mut [u32],
-    nodes: u32,
-    lines: u32,
+    counts: Counts,
     fitting: bool,
 ) -> Result<Counts, Refusal>
-    requires { (work_length ≤ length work.old) × (nodes ≤ greatest_node_count) × (lines ≤ greatest_line_count) }
-    ensures { (bans : List Turn) → BansTaken work.old lines bans fitting
-        → Stage (ended (drop at map.now) (held_nodes work.old nodes) (held_lines work.old lines) bans)
+    requires { (work_length ≤ length work.old) × (counts.nodes ≤ greatest_node_count) × (counts.lines ≤ greatest_line_count) }
+    ensures { (bans : List Turn) → BansTaken work.old counts.lines bans fitting
+        → Stage (ended (drop at map.now) (held_nodes work.old counts.nodes) (held_lines work.old counts.lines) bans)
         codes_from work.old work.new result }
 {
     if at < map.len() {
         return Err(Refusal::MapNumber);
     }
-    if equal_codes(work, nodes) {
+    if equal_codes(work, counts.nodes) {
         return Err(Refusal::EqualCodes);
     }
     if !fitting {
         return Err(Refusal::MapBan);
     }
-    Ok(Counts { nodes, lines })
+    Ok(counts)
 }
 
 // `count` banned turns, and what follows them.
@@ -64,12 +63,12 @@ fn read_bans(
     map: &[u8],
     from: usize,
     work: &mut [u32],
-    nodes: u32,
-    lines: u32,
+    counts: Counts,
     count: u32,
 ) -> Result<Counts, Refusal>
-    requires { (work_length ≤ length work.old) × (nodes ≤ greatest_node_count) × (lines ≤ greatest_line_count) × (count ≤ greatest_ban_count) }
-    ensures { Stage (decode_bans count (drop from map.now) (held_nodes work.old nodes) (held_lines work.old lines) [])
+    requires { (work_length ≤ length work.old) × (counts.nodes ≤ greatest_node_count) × (counts.lines ≤ greatest_line_count)
+        × (count ≤ greatest_ban_count) }
+    ensures { Stage (decode_bans count (drop from map.now) (held_nodes work.old counts.nodes) (held_lines work.old counts.lines) [])
         codes_from work.old work.new result }
 {
     fill(work, BAN_HEADS, MAP_LINES, 0);
@@ -77,26 +76,20 @@ fn read_bans(
     let mut taken = Some(0);
     for _i in 0..count {
         let ban = read_ban(map, at)?;
-        taken = put_fitting(work, taken, lines, ban.first, ban.second);
+        taken = put_fitting(work, taken, counts.lines, ban);
         at = ban.next;
     }
-    finish(map, at, work, nodes, lines, taken.is_some())
+    finish(map, at, work, counts, taken.is_some())
 }
 
 // The count of banned turns, after the lines, and what follows it.
-fn count_bans(
-    map: &[u8],
-    from: usize,
-    work: &mut [u32],
-    nodes: u32,
-    lines: u32,
-) -> Result<Counts, Refusal>
-    requires { (work_length ≤ length work.old) × (nodes ≤ greatest_node_count) × (lines ≤ greatest_line_count) }
-    ensures { Stage (decode_lines 0 (drop from map.now) (held_nodes work.old nodes) (held_lines work.old lines))
+fn count_bans(map: &[u8], from: usize, work: &mut [u32], counts: Counts) -> Result<Counts, Refusal>
+    requires { (work_length ≤ length work.old) × (counts.nodes ≤ greatest_node_count) × (counts.lines ≤ greatest_line_count) }
+    ensures { Stage (decode_lines 0 (drop from map.now) (held_nodes work.old counts.nodes) (held_lines work.old counts.lines))
         codes_from work.old work.new result }
 {
     let count = field(map, from, 0, GREATEST_BAN_COUNT, Fault::Count)?;
-    read_bans(map, count.next, work, nodes, lines, count.value)
+    read_bans(map, count.next, work, counts, count.value)
 }
 
 // `count` lines, and what follows them.
@@ -115,7 +108,11 @@ fn read_lines(
     for i in 0..count as usize {
         at = read_line(map, at, work, i, nodes)?;
     }
-    count_bans(map, at, work, nodes, count)
+    let counts = Counts {
+        nodes,
+        lines: count,
+    };
+    count_bans(map, at, work, counts)
 }
 
 // The count of lines, after the nodes, and what follows it.

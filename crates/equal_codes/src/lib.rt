@@ -17,15 +17,13 @@ fn put_codes(work: &mut [u32], n: usize)
     requires { (work_length ≤ length work.old) × (n ≤ greatest_node_count) }
     ensures { CodesPut n work.old work.new }
 {
-    let mut i: usize = 0;
-    while i < n {
+    for i in 0..n {
         let node = NODE_NUMBERS * i;
         let x = longitude_code(work[node]);
         let y = latitude_code(work[node + 1]);
         let at = CODES + NODE_NUMBERS * i;
         work[at] = x;
         work[at + 1] = y;
-        i += 1;
     }
 }
 
@@ -36,10 +34,7 @@ fn same_codes(work: &[u32], i: usize, j: usize) -> bool
 {
     let a = CODES + NODE_NUMBERS * i;
     let b = CODES + NODE_NUMBERS * j;
-    if work[a] != work[b] {
-        return false;
-    }
-    work[a + 1] == work[b + 1]
+    work[a] == work[b] && work[a + 1] == work[b + 1]
 }
 
 // The bucket of node `i`. Any function of its codes would do; this one spreads nodes in a row, and nodes of one longitude, over the buckets.
@@ -93,13 +88,11 @@ fn some_met(work: &mut [u32], n: usize) -> bool
     requires { (work_length ≤ length work.old) × (n ≤ greatest_node_count) × Coded work.old n × Chains work.old 0 }
     ensures { EqualFound chains_from n work.old work.new result }
 {
-    let mut j: usize = 0;
-    while j < n {
+    for j in 0..n {
         if met_before(work, j) {
             return true;
         }
         add_to_bucket(work, j);
-        j += 1;
     }
     false
 }

@@ -13,9 +13,15 @@ use Rattle.relaxation.specs.Relaxed.{Twin, Notable}
 use Rattle.expansion.specs.Steps.{NoteFor, GoesOn}
 use Rattle.relaxation.specs.declared.Going.{Going}
 use Rattle.buffers.proofs.Cases.{le_or_lt}
-use Rattle.search_cells.proofs.Holding.{line_ok}
+use Rattle.model.specs.Map.{greatest_line_count}
+use Rattle.search_cells.proofs.Reached.{count_le}
+use Rattle.search_cells.proofs.Holding.{few, line_ok}
 use Rattle.way_lengths.proofs.Plain.{class_last, grown_of}
 use Rattle.relaxation.proofs.Arriving.{equal_or}
+
+-- A place of the queue is one of so many.
+pub place_few : {q : Task} {n c limit place count end p : ℕ} {w : List ℕ} → Underway q n c limit p count end w → place < end → place < greatest_line_count
+place_few g inside = omega (arith, g.room, count_le g.listing, few g.held)
 
 module _ {q : Task} {n c limit place count end : ℕ} {w : List ℕ} (g : Underway q n c limit place count end w) where
   -- A line that is reached is of the class.

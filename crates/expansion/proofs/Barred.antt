@@ -280,15 +280,6 @@ some_along : (pair : Option Pair) (i : ℕ) (o : Option ℕ) → AlongOf pair i 
 some_along pair i o along p e = MatchOption-at_some (o ≡ None) (λ (p : Pair). (i ≡ 0 → o ≡ Some p.one) × (0 < i → o ≡ Some p.other)) p e along
 
 module _ {q : Task} {n c limit place lines last : ℕ} {going : Going} {pair : Option Pair} {u : List ℕ} (r : Ready q n c limit place going pair u lines last) where
-  pub walks_start : Walks q n c limit place going pair u u lines last 0 lines last
-  walks_start =
-      record {
-        start = λ e. (refl, refl, refl);
-        node = λ e. absurd (omega arith);
-        bans = λ e. absurd (omega arith);
-        both = λ e. absurd (omega arith);
-      }
-
   -- Walk `i` of so many.
   module _ {i total count end : ℕ} {w : List ℕ} (k : Walks q n c limit place going pair u w lines last i count end) (many : Total pair total) (i< : i < total) where
     more : 0 < i → (i ≡ 1) × ((p : Pair) × (pair ≡ Some p))

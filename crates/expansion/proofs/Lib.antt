@@ -1,6 +1,5 @@
 -- Laws that the proofs of the functions cite.
 pub mod Marking
-pub mod NotesFor
 pub mod AtPlace
 pub mod Walking
 pub mod Passing

@@ -1,7 +1,7 @@
 -- Which lines are marked by which: how a line marks those that it may not turn into.
 use Rattle.work_area.specs.Area.{next_from, last_barred_from, search_to, ban_chain, ban_second, ban_earlier}
 use Rattle.search_cells.specs.Area.{Mirrored, list_weight, mark_weight, next_leaving, listed, marked}
-use Rattle.expansion.specs.Steps.{Aside, Marks}
+use Rattle.expansion.specs.Steps.{Aside}
 use Rattle.model.specs.Map.{greatest_line_count, Map}
 use Rattle.model.specs.Lines.{turn_among}
 use Prim.Native.Nat.{ℕ, ◌+◌, ◌-◌, ◌*◌, ◌/◌, ◌%◌, ◌≤◌, ◌<◌}
@@ -15,7 +15,7 @@ use lib.Seq.{get_or-set_same, get_or-set_other}
 use Rattle.buffers.specs.Kept.{Kept}
 use Rattle.buffers.proofs.Kept.{kept_none, kept_then, kept_within, kept_set}
 use Rattle.buffers.proofs.Cases.{here_or}
-use Rattle.banned_turns.proofs.Chains.{WalkAt, walk_start, walk_on, walk_less, walk_end}
+use Rattle.banned_turns.proofs.Chains.{WalkAt, walk_start, walk_on, walk_less}
 use Rattle.search_cells.proofs.Holding.{held_kept, few}
 use Rattle.search_cells.proofs.Turns.{second_in, second_banned}
 use Rattle.search_cells.proofs.Keeping.{marked_same}
@@ -82,7 +82,7 @@ module _ {m : Map} {n l x : ℕ} {w v : List ℕ} (h : Mirrored w n m) (l< : l <
     s< : s < n
     s< = omega (arith, at, second_in held k.walk pos)
 
-    fits : next_from + s < length v
+    pub fits : next_from + s < length v
     fits = let n≤ = few h in let f = held.full in let t = s< in omega arith
 
     cell : (j : ℕ) → j ≢ s → get_or v₁ (next_from + j) 0 ≡ get_or v (next_from + j) 0
@@ -127,14 +127,3 @@ module _ {m : Map} {n l x : ℕ} {w v : List ℕ} (h : Mirrored w n m) (l< : l <
                 ∙ k.told j j< (λ a. d (rw z (walk_on held.bans_held l j x pos a (λ i. o (sym i ∙ sym at))))));
             aside = aside_then k.aside aside_one;
           }
-
-pub marking_end : {m : Map} {n l x : ℕ} {w v : List ℕ} → Mirrored w n m → Marking m n l x w v → x ≤ 0 → Marks m n l w v
-marking_end {l = l} {x = x} h k none =
-    record {
-      aside = k.aside;
-      told = λ j j< banned.
-          k.told j j<
-          (λ a.
-          let e = walk_end (held_kept (omega arith) k.aside.kept h).bans_held l j x none a in
-          let z : ◌≡◌ {A = ℕ} 0 1 = cc in omega arith);
-    }

@@ -39,9 +39,12 @@ half_before leg b some small =
     let start = half_past leg (b - 1) (omega (arith, some, small)) in
     rw (below, same) at start
 
+pub before_within : (leg b : ℕ) → b ≤ greatest_offset_byte → (2 * b * leg - leg + 511) / 512 ≤ leg
+before_within leg b small = omega (arith, own_within leg b small)
+
 -- No offset gives more than 255.
-pub none_past : (leg b : ℕ) → greatest_offset_byte ≤ b → FirstOffset leg (b + 1) leg
-none_past leg b great =
+pub none_from : (leg b : ℕ) → greatest_offset_byte < b → FirstOffset leg b leg
+none_from leg b great =
     record {
       above = λ some. some;
       before = λ o h k. omega (arith, great, offset_byte_lem leg o);

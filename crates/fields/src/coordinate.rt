@@ -60,10 +60,7 @@ pub fn difference(from: u32, to: u32) -> Option<u32>
 {
     let a = from as u64;
     let b = to as u64;
-    if b + 32_768 < a {
-        return None;
-    }
-    if a + 32_767 < b {
+    if b + 32_768 < a || a + 32_767 < b {
         return None;
     }
     Some(((b + 65_536 - a) % 65_536) as u32)

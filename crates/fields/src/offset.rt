@@ -24,27 +24,19 @@ pub fn offset_byte(leg: u32, offset: u32) -> u32
 }
 
 // The least offset from 1 on whose byte is at least `byte`: half way before `byte` 256ths of the leg, which are `own` 512ths of a centimetre, rounded up.
-#[tactic(auto, using(crate::proofs::Offsets::half_before))]
+// It is the leg's length where there is none.
+#[tactic(auto, using(crate::proofs::Offsets::half_before, crate::proofs::Offsets::before_within, crate::proofs::Offsets::none_from))]
 fn first_offset(leg: u32, byte: u32, own: u64) -> u32
-    requires { (byte ≤ greatest_offset_byte) × (own ≡ 2 * byte * leg) }
-    ensures { FirstOffset leg byte result }
+    requires { (byte ≤ greatest_offset_byte + 1) × (own ≡ 2 * byte * leg) }
+    ensures { FirstOffset leg byte result × (0 < byte → result ≤ leg) }
 {
     if byte == 0 {
         return 1;
     }
-    ((own - leg as u64 + (HALF_STEPS - 1)) / HALF_STEPS) as u32
-}
-
-// The least offset whose byte is greater than `byte`, half way past it, or the leg's length where there is none.
-#[tactic(auto, using(crate::proofs::Offsets::half_past, crate::proofs::Offsets::none_past, crate::proofs::Offsets::past_within))]
-fn first_past(leg: u32, byte: u32, own: u64) -> u32
-    requires { (byte ≤ greatest_offset_byte) × (own ≡ 2 * byte * leg) }
-    ensures { FirstOffset leg (byte + 1) result × (result ≤ leg) }
-{
-    if byte == GREATEST_OFFSET_BYTE {
+    if byte > GREATEST_OFFSET_BYTE {
         return leg;
     }
-    ((own + leg as u64 + (HALF_STEPS - 1)) / HALF_STEPS) as u32
+    ((own - leg as u64 + (HALF_STEPS - 1)) / HALF_STEPS) as u32
 }
 
 // The offsets from 1 to below the leg's length that give the byte, if any. They end where those of a greater byte start.
@@ -56,7 +48,7 @@ pub fn span_of(leg: u32, byte: u32) -> Option<Span>
     }
     let own = (2 * byte) as u64 * leg as u64;
     let first = first_offset(leg, byte, own);
-    let next = first_past(leg, byte, own);
+    let next = first_offset(leg, byte + 1, own + 2 * leg as u64);
     if next <= first {
         return None;
     }

@@ -1,6 +1,6 @@
 -- A call on a message whose numbers have 32 bits answers one whose numbers have 32 bits.
-use Prim.Native.Nat.{ℕ, ◌+◌, ◌<◌, ◌^◌}
-use mathlib.Core.Path.{◌≡◌, refl, subst}
+use Prim.Native.Nat.{ℕ, ◌+◌}
+use mathlib.Core.Path.{◌≡◌, refl}
 use mathlib.Core.Bool.{Bool, true, false, cond}
 use mathlib.Core.List.{List}
 use native.Mathlib.Omega.{arith}
@@ -9,17 +9,11 @@ use lib.Dec.{eqb}
 use Rattle.model.specs.declared.Refusal.TheVariants.{MessageOrder, MessageFull}
 use Rattle.model.specs.declared.Message.{Message}
 use Rattle.model.specs.declared.Message.TheVariants.{Closed, Open}
-use Rattle.model.specs.declared.MessageAnswer.TheVariants.{Now, Refused}
+use Rattle.std.specs.Prelude.{Ok, Err}
 use Rattle.model.specs.Message.{longest_message}
 use Rattle.model.specs.MessageCall.{end_of, fits, opening, closing, adding}
 use Rattle.message_laws.proofs.Fitting.{fit_of}
 use Rattle.host_message.specs.Held.{Narrow, NarrowAnswer}
-
-pub closed_narrow : {m : Message} {finished : ℕ} → Narrow m → m ≡ Closed finished → finished < 2 ^ 32
-closed_narrow h e = subst Narrow e h
-
-pub open_narrow : {m : Message} {finished added : ℕ} → Narrow m → m ≡ Open finished added → (finished < 2 ^ 32) × (added < 2 ^ 32)
-open_narrow h e = subst Narrow e h
 
 pub narrow_opening : (m : Message) → Narrow m → NarrowAnswer (opening m)
 unfolding opening
@@ -32,7 +26,7 @@ narrow_closing (Closed finished) h = tt
 narrow_closing (Open finished added) h = go (eqb added 0) (fits finished added longest_message) refl
   where
     go : (t u : Bool) → fits finished added longest_message ≡ u →
-        NarrowAnswer (cond t (Refused MessageOrder) (cond u (Now (Closed (end_of finished added))) (Refused MessageFull)))
+        NarrowAnswer (cond t (Err MessageOrder) (cond u (Ok (Closed (end_of finished added))) (Err MessageFull)))
     go true u e = tt
     go false true e = omega (arith, (fit_of finished added longest_message e).in_most)
     go false false e = tt
@@ -45,7 +39,7 @@ narrow_adding (Open finished added) room portion h =
   where
     go : (t u : Bool) → fits finished (added + length portion) room ≡ u →
         NarrowAnswer
-        (cond t (Now (Open finished added)) (cond u (Now (Open finished (added + length portion))) (Refused MessageFull)))
+        (cond t (Ok (Open finished added)) (cond u (Ok (Open finished (added + length portion))) (Err MessageFull)))
     go true u e = h
     go false true e = (h.0, omega (arith, (fit_of finished (added + length portion) room e).short))
     go false false e = tt

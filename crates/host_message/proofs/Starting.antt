@@ -4,8 +4,8 @@ use mathlib.Core.Path.{◌≡◌, refl, sym, ◌∙◌, subst}
 use mathlib.Core.List.{List}
 use native.Mathlib.Omega.{arith}
 use lib.ListN.{length}
-use Rattle.model.specs.declared.MessageAnswer.{MessageAnswer}
-use Rattle.model.specs.declared.MessageAnswer.TheVariants.{Now, Refused}
+use Rattle.model.specs.Answer.{MessageAnswer}
+use Rattle.std.specs.Prelude.{Ok, Err}
 use Rattle.model.specs.Work.{work_length}
 use Rattle.model.specs.MessageStart.{StartOutcome, Starts, StartAnswers, now, refusal, StartCall}
 use Rattle.model.specs.HostMessage.{HostMessage, host_message, host_started, HostStartCall}
@@ -14,11 +14,11 @@ use Rattle.message_laws.proofs.Started.{start_so}
 use Rattle.host_message.specs.Held.{Narrow, NarrowAnswer}
 
 pub narrow_start : {mb work b₀ work' b₁ : List ℕ} (a : MessageAnswer) → StartCall mb work b₀ a work' b₁ → NarrowAnswer a
-narrow_start {mb} (Now m) call =
+narrow_start {mb} (Ok m) call =
     let s = start_so call in
     let few = front_few mb s.map s.decodes in
     subst Narrow (sym s.state) (omega arith)
-narrow_start (Refused why) call = tt
+narrow_start (Err why) call = tt
 
 -- Four zeros, for a call that no message is given to.
 abbrev zeros : HostMessage

@@ -1,9 +1,8 @@
 -- The C structs of a message as the records of the definitions, and messages whose numbers fit them (paper 02, W9).
-use Rattle.std.specs.Prelude.{◌<◌, ◌^◌}
+use Rattle.std.specs.Prelude.{◌<◌, ◌^◌, Ok, Err}
 use Rattle.model.specs.declared.Message.{Message}
 use Rattle.model.specs.declared.Message.TheVariants.{Closed, Open}
-use Rattle.model.specs.declared.MessageAnswer.{MessageAnswer}
-use Rattle.model.specs.declared.MessageAnswer.TheVariants.{Now, Refused}
+use Rattle.model.specs.Answer.{MessageAnswer}
 use Rattle.model.specs.HostMessage.{HostMessage, HostPart}
 use Rattle.host_message.specs.declared.Held.{Held}
 use Rattle.host_message.specs.declared.Part.{Part}
@@ -22,5 +21,5 @@ Narrow (Closed finished) = finished < 2 ^ 32
 Narrow (Open finished added) = (finished < 2 ^ 32) × (added < 2 ^ 32)
 
 abbrev pub NarrowAnswer : MessageAnswer → Type 0
-NarrowAnswer (Now m) = Narrow m
-NarrowAnswer (Refused why) = Unit {0}
+NarrowAnswer (Ok m) = Narrow m
+NarrowAnswer (Err why) = Unit {0}

@@ -5,7 +5,6 @@ ghost use Rattle.std.specs.Prelude.{◌≡◌, length};
 ghost use Rattle.model.specs.MessageCall.{opening, closing};
 ghost use Rattle.model.specs.HostMessage.{HostMessage, message_of, host_message, HostStartCall, host_part, HostAdds};
 ghost use Rattle.host_message.specs.Held.{as_message, as_part, Narrow, NarrowAnswer};
-ghost use Rattle.model.specs.declared.MessageAnswer.TheVariants as Answer;
 
 use message::{add_bytes, close_reference, open_reference};
 use message_list::place;
@@ -32,20 +31,24 @@ pub struct Part {
 }
 
 // The message that a host means.
-fn meant(held: Held) -> Message
-    ensures { (result ≡ message_of (as_message held)) × Narrow result }
-{
-    let finished = held.bytes as usize;
-    if held.is_open == 0 {
-        return Message::Closed(finished);
+impl From<Held> for Message {
+    #[tactic(auto, unfolding(model::specs::HostMessage::message_of, crate::specs::Held::as_message))]
+    fn from(held: Held) -> Message
+        ensures { (result ≡ message_of (as_message held)) × Narrow result }
+    {
+        let finished = held.bytes as usize;
+        if held.is_open == 0 {
+            return Message::Closed(finished);
+        }
+        Message::Open(finished, held.added as usize)
     }
-    Message::Open(finished, held.added as usize)
 }
 
-// What a host holds of a message.
+// What a host holds of a message. `From` would have to hold any message, and one of larger numbers does not fit (`Narrow`).
+#[tactic(auto, unfolding(model::specs::HostMessage::host_message, crate::specs::Held::as_message))]
 fn holding(m: Message) -> Held
     requires { Narrow m }
-    ensures { (given : HostMessage) → as_message result ≡ host_message given (Answer.Now m) }
+    ensures { (given : HostMessage) → as_message result ≡ host_message given (Ok m) }
 {
     match m {
         Message::Closed(finished) => Held {
@@ -64,15 +67,14 @@ fn holding(m: Message) -> Held
 }
 
 // What a host gets where a call is refused: the number, and the rest as it was given.
+#[tactic(auto, unfolding(model::specs::HostMessage::host_message, crate::specs::Held::as_message))]
 fn refused(given: Held, why: Refusal) -> Held
-    ensures { as_message result ≡ host_message (as_message given) (Answer.Refused why) }
+    ensures { as_message result ≡ host_message (as_message given) (Err why) }
 {
     let number = number_of(why);
     Held {
         refusal: number,
-        bytes: given.bytes,
-        is_open: given.is_open,
-        added: given.added,
+        ..given
     }
 }
 
@@ -82,8 +84,8 @@ fn told(given: Held, answer: MessageAnswer) -> Held
     ensures { as_message result ≡ host_message (as_message given) answer }
 {
     match answer {
-        MessageAnswer::Now(m) => holding(m),
-        MessageAnswer::Refused(why) => refused(given, why),
+        Ok(m) => holding(m),
+        Err(why) => refused(given, why),
     }
 }
 
@@ -105,21 +107,21 @@ pub fn begin(map: &[u8], buffer: &mut [u8]) -> Held
 pub fn open_next(given: Held) -> Held
     ensures { as_message result ≡ host_message (as_message given) (opening (message_of (as_message given))) }
 {
-    told(given, open_reference(meant(given)))
+    told(given, open_reference(Message::from(given)))
 }
 
 // Adds bytes to the open reference.
 pub fn add(given: Held, buffer: &mut [u8], portion: &[u8]) -> Held
     ensures { HostAdds (as_message given) buffer.old portion.now (as_message result) buffer.new }
 {
-    told(given, add_bytes(meant(given), buffer, portion))
+    told(given, add_bytes(Message::from(given), buffer, portion))
 }
 
 // Closes the open reference.
 pub fn close(given: Held) -> Held
     ensures { as_message result ≡ host_message (as_message given) (closing (message_of (as_message given))) }
 {
-    told(given, close_reference(meant(given)))
+    told(given, close_reference(Message::from(given)))
 }
 
 // Where reference `n` of a message stands.
@@ -127,10 +129,8 @@ pub fn part_of(message: &[u8], n: u32) -> Part
     ensures { as_part result ≡ host_part n message.now }
 {
     let part = place(message, n as usize);
-    let start = part.0;
-    let end = part.1;
     Part {
-        start: start as u32,
-        bytes: (end - start) as u32,
+        start: part.start as u32,
+        bytes: (part.end - part.start) as u32,
     }
 }

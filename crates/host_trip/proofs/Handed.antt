@@ -23,9 +23,6 @@ module _ {mb stretch : List ℕ} {pos neg tests : ℕ} {b b' : List ℕ} (r : Wr
   wrote_so zero =
       subst (λ (n : ℕ). HostWriteCall mb stretch pos neg tests b (record { refusal = n; bytes = r.bytes; tests = r.tests; excess = r.excess }) b') zero call
 
-  pub wrote : r.refusal ≡ 0 → Wrote mb stretch pos neg tests b b' r.bytes
-  wrote zero = (r.tests, r.excess, wrote_so zero)
-
   pub not_written : r.refusal ≢ 0 → NotWritten mb stretch pos neg tests b b' r.refusal
   unfolding as_written
   not_written some =
@@ -34,6 +31,10 @@ module _ {mb stretch : List ℕ} {pos neg tests : ℕ} {b b' : List ℕ} (r : Wr
         some,
         k.kept,
       )
+
+pub so_wrote : {mb stretch : List ℕ} {pos neg tests : ℕ} {b b' : List ℕ} {count made excess : ℕ} → WroteSo mb stretch pos neg tests b b' count made excess →
+    Wrote mb stretch pos neg tests b b' count
+so_wrote so = (_, _, so)
 
 -- ---- what was written is read
 

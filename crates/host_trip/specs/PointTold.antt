@@ -1,14 +1,14 @@
 -- What a C program's writing of a point and reading of the bytes comes to (paper 02, W5).
-use Rattle.std.specs.Prelude.{ℕ, ◌≤◌, ◌≡◌, ◌≢◌, List, length, take}
+use Rattle.std.specs.Prelude.{ℕ, ◌≤◌, ◌≡◌, ◌≢◌, List, length, take, Option, Some, None, Result, Ok, Err}
 use Rattle.model.specs.Work.{placed}
 use Rattle.model.specs.PointAlong.{read, GivenPoint, own_leg}
 use Rattle.model.specs.Host.{word_bytes, HostPoint, host_point, HostPointReadCall, HostPointWriteCall}
 use Rattle.model.specs.PointTrip.{PointBack, PointsAlike}
 use Rattle.openlr.specs.Host.{as_point}
-use Rattle.host_trip.specs.declared.point.PointPair.{PointPair}
-use Rattle.host_trip.specs.declared.point.PointPair.TheVariants.{FirstRefused, SecondRefused, Differ, Same}
-use Rattle.host_trip.specs.declared.point.PointTrip.{PointTrip}
-use Rattle.host_trip.specs.declared.point.PointTrip.TheVariants.{Refused, Back}
+use Rattle.openlr.specs.declared.point.Point.{Point}
+use Rattle.round_trip.specs.declared.Back.{Back}
+use Rattle.round_trip.specs.declared.Which.{Which}
+use Rattle.round_trip.specs.declared.Which.TheVariants.{First, Second}
 
 -- What was written is read. The claim over the definitions holds of the bytes; the reader's call is one of the definitions; and with a line buffer of four bytes
 -- or more it answers that one line, the claim's span, the orientation and the side.
@@ -25,17 +25,20 @@ WrotePoint mb p b b' count = HostPointWriteCall mb p b (record { refusal = 0; by
 abbrev pub NoPoint : List ℕ → GivenPoint → List ℕ → List ℕ → ℕ → Type 0
 NoPoint mb p b b' why = HostPointWriteCall mb p b (record { refusal = why; bytes = 0 }) b' × (why ≢ 0) × (b' ≡ b)
 
--- Where the writer refuses nothing is changed; where it accepts, the first `count` bytes are read.
-abbrev pub PointTripTells : List ℕ → GivenPoint → List ℕ → List ℕ → List ℕ → List ℕ → PointTrip → Type 0
-PointTripTells mb p b b' l l' (Refused why) = NoPoint mb p b b' why × (l' ≡ l)
-PointTripTells mb p b b' l l' (Back count a) = WrotePoint mb p b b' count × HandedPoint mb p (take count b') l l' (as_point a)
+-- Where the writer refuses nothing is changed; where it accepts, the first bytes, as many as it wrote, are read.
+abbrev pub PointTripTells : List ℕ → GivenPoint → List ℕ → List ℕ → List ℕ → List ℕ → Result (Back ℕ Point) ℕ → Type 0
+PointTripTells mb p b b' l l' (Err why) = NoPoint mb p b b' why × (l' ≡ l)
+PointTripTells mb p b b' l l' (Ok back) =
+    WrotePoint mb p b b' back.written × HandedPoint mb p (take back.written b') l l' (as_point back.answer)
 
 -- Where two points are accepted with the same bytes, they are alike, and what reading the bytes gives is so for both. Otherwise nothing is read.
-abbrev pub PointPairTells : List ℕ → GivenPoint → GivenPoint → List ℕ → List ℕ → List ℕ → List ℕ → List ℕ → List ℕ → PointPair → Type 0
-PointPairTells mb p q b b' o o' l l' (FirstRefused why) = NoPoint mb p b b' why × (o' ≡ o) × (l' ≡ l)
-PointPairTells mb p q b b' o o' l l' (SecondRefused why) = ((count : ℕ) × WrotePoint mb p b b' count) × NoPoint mb q o o' why × (l' ≡ l)
-PointPairTells mb p q b b' o o' l l' Differ =
+abbrev pub PointPairTells : List ℕ → GivenPoint → GivenPoint → List ℕ → List ℕ → List ℕ → List ℕ → List ℕ → List ℕ →
+    Result (Option (Back ℕ Point)) (Which ℕ) → Type 0
+PointPairTells mb p q b b' o o' l l' (Err (First why)) = NoPoint mb p b b' why × (o' ≡ o) × (l' ≡ l)
+PointPairTells mb p q b b' o o' l l' (Err (Second why)) = ((count : ℕ) × WrotePoint mb p b b' count) × NoPoint mb q o o' why × (l' ≡ l)
+PointPairTells mb p q b b' o o' l l' (Ok None) =
     ((count : ℕ) × (size : ℕ) × WrotePoint mb p b b' count × WrotePoint mb q o o' size × (take count b' ≡ take size o' → ⊥)) × (l' ≡ l)
-PointPairTells mb p q b b' o o' l l' (Same count a) =
+PointPairTells mb p q b b' o o' l l' (Ok (Some back)) =
+    let count = back.written in
     WrotePoint mb p b b' count × WrotePoint mb q o o' count × (take count b' ≡ take count o') × PointsAlike mb (take count b') p q ×
-    HandedPoint mb p (take count b') l l' (as_point a) × HandedPoint mb q (take count b') l l' (as_point a)
+    HandedPoint mb p (take count b') l l' (as_point back.answer) × HandedPoint mb q (take count b') l l' (as_point back.answer)

@@ -1,18 +1,32 @@
 // Demand 3 as a claim about the two functions that a C program calls: what `openlr_write` accepts `openlr_read` hands back exactly.
 #![tactic(auto)]
 
-ghost use Rattle.host_trip.specs.Trip.{TripTells, PairTells};
+ghost use Rattle.std.specs.Prelude.{◌≡◌, MatchResult};
+ghost use Rattle.host_trip.specs.Trip.{WroteSo, NotWritten, TripTells, PairTells};
 
-use openlr::{Lines, openlr_read, openlr_write};
-use round_trip::same_bytes;
+use openlr::{Lines, Written, openlr_read, openlr_write};
+use round_trip::{Back, Which};
 
 pub mod point;
 
-// The writer's refusal; or the count of its bytes, the leg tests made, the excess, and what the reader answers to exactly those bytes.
-#[derive(Clone, Copy)]
-pub enum Trip {
-    Refused(u32),
-    Back(u32, u32, u32, Lines),
+// Writes a stretch: what was written, or the refusal's number.
+fn write(
+    map: &[u8],
+    stretch: &[u8],
+    pos: u32,
+    neg: u32,
+    tests: u32,
+    bytes: &mut [u8],
+) -> Result<Written, u32>
+    ensures { MatchResult result
+        (λ w. (w.refusal ≡ 0) × WroteSo map.now stretch.now pos neg tests bytes.old bytes.new w.bytes w.tests w.excess)
+        (λ why. NotWritten map.now stretch.now pos neg tests bytes.old bytes.new why) }
+{
+    let written = openlr_write(map, stretch, pos, neg, tests, bytes);
+    if written.refusal != 0 {
+        return Err(written.refusal);
+    }
+    Ok(written)
 }
 
 // Writes a stretch, by `tests` leg tests at most, and reads what was written. What the buffers hold before is arbitrary.
@@ -24,32 +38,17 @@ pub fn write_and_read(
     tests: u32,
     bytes: &mut [u8],
     lines: &mut [u8],
-) -> Trip
+) -> Result<Back<Written, Lines>, u32>
     ensures { TripTells map.now stretch.now pos neg tests bytes.old bytes.new
         lines.old lines.new result }
 {
-    let written = openlr_write(map, stretch, pos, neg, tests, bytes);
-    if written.refusal != 0 {
-        return Trip::Refused(written.refusal);
-    }
-    Trip::Back(
-        written.bytes,
-        written.tests,
-        written.excess,
-        openlr_read(map, &bytes[..written.bytes as usize], lines),
-    )
+    let written = write(map, stretch, pos, neg, tests, bytes)?;
+    let answer = openlr_read(map, &bytes[..written.bytes as usize], lines);
+    Ok(Back { written, answer })
 }
 
-// The first stretch is refused, or the second; or their bytes differ; or they are the same: their count, and what the reader answers to them.
-#[derive(Clone, Copy)]
-pub enum Pair {
-    FirstRefused(u32),
-    SecondRefused(u32),
-    Differ,
-    Same(u32, Lines),
-}
-
-// Writes two stretches on one map, each by its own number of leg tests, and where their bytes are the same, reads them.
+// Writes two stretches on one map, each by its own number of leg tests, and where their bytes are the same, reads them. `None` says that the bytes
+// differ.
 pub fn write_two_and_read(
     map: &[u8],
     first: &[u8],
@@ -63,26 +62,21 @@ pub fn write_two_and_read(
     bytes: &mut [u8],
     others: &mut [u8],
     lines: &mut [u8],
-) -> Pair
+) -> Result<Option<Back<u32, Lines>>, Which<u32>>
     ensures { PairTells map.now first.now pos neg tests second.now second_pos second_neg second_tests
         bytes.old bytes.new others.old others.new lines.old lines.new result }
 {
-    let one = openlr_write(map, first, pos, neg, tests, bytes);
-    if one.refusal != 0 {
-        return Pair::FirstRefused(one.refusal);
+    let one = write(map, first, pos, neg, tests, bytes).map_err(Which::First)?;
+    let other = write(map, second, second_pos, second_neg, second_tests, others).map_err(
+        Which::Second,
+    )?;
+    let same = &bytes[..one.bytes as usize];
+    if same != &others[..other.bytes as usize] {
+        return Ok(None);
     }
-    let other = openlr_write(map, second, second_pos, second_neg, second_tests, others);
-    if other.refusal != 0 {
-        return Pair::SecondRefused(other.refusal);
-    }
-    if !same_bytes(
-        &bytes[..one.bytes as usize],
-        &others[..other.bytes as usize],
-    ) {
-        return Pair::Differ;
-    }
-    Pair::Same(
-        one.bytes,
-        openlr_read(map, &bytes[..one.bytes as usize], lines),
-    )
+    let answer = openlr_read(map, same, lines);
+    Ok(Some(Back {
+        written: one.bytes,
+        answer,
+    }))
 }

@@ -17,7 +17,6 @@ use Rattle.search.specs.Promises.{Finished}
 use Rattle.buffers.proofs.Kept.{kept_none, kept_within}
 use Rattle.work_area.proofs.Holding.{held_kept}
 use Rattle.fields.specs.declared.leg.Leg.{Leg}
-use Rattle.fields.specs.declared.leg.Reading.{Reading}
 use Rattle.fields.specs.declared.leg.Verdict.{Verdict}
 use Rattle.legs.specs.Verdict.{Ready, Judged, Says, StandsIn, unread, TerminusOf, ReadingTo}
 use Rattle.legs.proofs.Lines.{not_arriving}

@@ -12,20 +12,12 @@ use fields::leg::Attributes;
 use work_area::{FOW, FRC, SECTOR_BACK, SECTOR_OUT, field};
 
 // Whether line `l` has these attributes, by its number `side`: the sector out or back.
+#[tactic(auto, unfolding(crate::specs::Verdict::attributes_at, fields::specs::Leg::attributes_in))]
 fn has_attributes(work: &[u32], l: usize, side: usize, a: Attributes) -> bool
     requires { (l < greatest_line_count) × (side < line_size) × (work_length ≤ length work.now) }
     ensures { Decides (attributes_at work.now l side ≡ attributes_in a) result }
 {
-    if field(work, l, FRC) != a.frc {
-        return false;
-    }
-    if field(work, l, FOW) != a.fow {
-        return false;
-    }
-    if field(work, l, side) != a.sector {
-        return false;
-    }
-    true
+    field(work, l, FRC) == a.frc && field(work, l, FOW) == a.fow && field(work, l, side) == a.sector
 }
 
 // Whether line `l` has these attributes as seen from its start node.

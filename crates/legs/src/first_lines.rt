@@ -15,34 +15,24 @@ use ways::{Ways, ways_from};
 use work_area::{START, field};
 
 // The verdict on the ways from line `first` to a terminus: they are readings where their length gives byte D, `d`.
+#[tactic(auto, unfolding(crate::specs::Verdict::judge_of))]
 fn judge(ways: Ways, first: usize, d: u32) -> Verdict
     ensures { result ≡ judge_of ways first d }
 {
     match ways {
-        Ways::Nothing => Verdict::Unread,
-        Ways::Several(length) => {
-            if distance(length) == d {
-                Verdict::Several
-            } else {
-                Verdict::Unread
-            }
-        }
-        Ways::One(last, length, count) => {
-            if distance(length) == d {
-                Verdict::One(Reading {
-                    first,
-                    last,
-                    length,
-                    count,
-                })
-            } else {
-                Verdict::Unread
-            }
-        }
+        Ways::Several(length) if distance(length) == d => Verdict::Several,
+        Ways::One(last, length, count) if distance(length) == d => Verdict::One(Reading {
+            first,
+            last,
+            length,
+            count,
+        }),
+        _ => Verdict::Unread,
     }
 }
 
 // The verdict on readings of two kinds, by the verdicts on each.
+#[tactic(auto, unfolding(crate::specs::Verdict::both_of))]
 pub fn both(a: Verdict, b: Verdict) -> Verdict
     ensures { result ≡ both_of a b }
 {

@@ -1,14 +1,11 @@
 -- What a test program prints of the buffers behind a call, and of a writer's answer.
-use Rattle.std.specs.Prelude.{ℕ, min, Bool, true, false, List, [], ◌∷◌, ◌++◌, length}
-use Rattle.model.specs.declared.WriteAnswer.{WriteAnswer}
-use Rattle.model.specs.declared.WriteAnswer.TheVariants.{Written, Refused}
-use Rattle.model.specs.declared.PointWriteAnswer.{PointWriteAnswer}
+use Rattle.std.specs.Prelude.{ℕ, min, Bool, true, false, List, [], ◌∷◌, ◌++◌, length, Ok, Err}
+use Rattle.model.specs.Answer.{WriteAnswer, PointWriteAnswer}
 use Rattle.model.specs.Refusal.{number_of, refusal_of}
 use Rattle.model.specs.Text.{numbered, refused_word}
 use Rattle.cases.specs.Sum.{sum_from}
 use Rattle.answer_text.specs.Put.{Put}
 use Rattle.marks.specs.Marks.{mark_of, Marked, Cleared}
-use Rattle.model.specs.declared.PointWriteAnswer.TheVariants as point
 
 -- The texts " work kept", " work cleared" and " work changed", and when each is the one.
 pub data WorkText (work : List ℕ) : List ℕ → Type 0 where
@@ -49,10 +46,11 @@ sum_text n bytes = numbered sum_word (sum_from bytes 0 (min n (length bytes)) 0)
 
 -- A writer's answer: the count of bytes, the leg tests made, the excess, and the sum; or the refusal's number.
 unfoldable pub written_text : WriteAnswer → List ℕ → List ℕ
-written_text (Written n made excess) bytes = ((numbered bytes_word n ++ numbered tests_word made) ++ numbered excess_word excess) ++ sum_text n bytes
-written_text (Refused why) bytes = numbered refused_word (number_of (refusal_of why))
+written_text (Ok made) bytes =
+    ((numbered bytes_word made.bytes ++ numbered tests_word made.tests) ++ numbered excess_word made.excess) ++ sum_text made.bytes bytes
+written_text (Err why) bytes = numbered refused_word (number_of (refusal_of why))
 
 -- The same of the writer of points.
 unfoldable pub point_written_text : PointWriteAnswer → List ℕ → List ℕ
-point_written_text (point.Written n) bytes = numbered bytes_word n ++ sum_text n bytes
-point_written_text (point.Refused why) bytes = numbered refused_word (number_of (refusal_of why))
+point_written_text (Ok n) bytes = numbered bytes_word n ++ sum_text n bytes
+point_written_text (Err why) bytes = numbered refused_word (number_of (refusal_of why))

@@ -8,7 +8,6 @@ ghost use Rattle.marks.specs.Marks.{mark_of, byte_mark_of, Marked, Cleared};
 ghost use Rattle.marks.specs.Shown.{Shown, WorkText, rest_text, sum_text, written_text, point_written_text};
 
 use answer_text::{put, put_number};
-use buffers::lesser;
 use cases::sum_of_bytes;
 use model::limits::WORK_LENGTH;
 use model::{PointWriteAnswer, WriteAnswer, number_of};
@@ -30,20 +29,16 @@ fn byte_mark(i: usize) -> u8
 pub fn fill(buffer: &mut [u32])
     ensures { Marked mark_of buffer.new 0 (length buffer.new) }
 {
-    let mut i: usize = 0;
-    while i < buffer.len() {
-        buffer[i] = mark(i);
-        i += 1;
+    for (i, x) in buffer.iter_mut().enumerate() {
+        *x = mark(i);
     }
 }
 
 pub fn fill_bytes(buffer: &mut [u8])
     ensures { Marked byte_mark_of buffer.new 0 (length buffer.new) }
 {
-    let mut i: usize = 0;
-    while i < buffer.len() {
-        buffer[i] = byte_mark(i);
-        i += 1;
+    for (i, x) in buffer.iter_mut().enumerate() {
+        *x = byte_mark(i);
     }
 }
 
@@ -51,12 +46,10 @@ pub fn fill_bytes(buffer: &mut [u8])
 pub fn is_kept(buffer: &[u32], from: usize) -> bool
     ensures { Decides (Marked mark_of buffer.now from (length buffer.now)) result }
 {
-    let mut i = from;
-    while i < buffer.len() {
+    for i in from..buffer.len() {
         if buffer[i] != mark(i) {
             return false;
         }
-        i += 1;
     }
     true
 }
@@ -65,12 +58,10 @@ pub fn is_kept(buffer: &[u32], from: usize) -> bool
 pub fn bytes_kept(buffer: &[u8], from: usize) -> bool
     ensures { Decides (Marked byte_mark_of buffer.now from (length buffer.now)) result }
 {
-    let mut i = from;
-    while i < buffer.len() {
+    for i in from..buffer.len() {
         if buffer[i] != byte_mark(i) {
             return false;
         }
-        i += 1;
     }
     true
 }
@@ -82,12 +73,10 @@ pub fn is_cleared(work: &[u32]) -> bool
     if work.len() < WORK_LENGTH {
         return false;
     }
-    let mut i: usize = 0;
-    while i < WORK_LENGTH {
+    for i in 0..WORK_LENGTH {
         if work[i] != 0 {
             return false;
         }
-        i += 1;
     }
     is_kept(work, WORK_LENGTH)
 }
@@ -106,6 +95,7 @@ pub fn put_work(work: &[u32], buffer: &mut [u8], at: usize) -> usize
 }
 
 // Puts whether the rest of a buffer, behind what a call hands back in it, is as it was.
+#[tactic(auto, unfolding(crate::specs::Shown::rest_text))]
 pub fn put_rest(kept: bool, buffer: &mut [u8], at: usize) -> usize
     ensures { Put at (rest_text kept) buffer.old buffer.new result }
 {
@@ -119,7 +109,7 @@ pub fn put_rest(kept: bool, buffer: &mut [u8], at: usize) -> usize
 fn put_sum(count: usize, bytes: &[u8], row: &mut [u8], at: usize) -> usize
     ensures { Put at (sum_text count bytes.now) row.old row.new result }
 {
-    let handed_back = lesser(count, bytes.len());
+    let handed_back = count.min(bytes.len());
     put_number(b" sum ", sum_of_bytes(bytes, handed_back), row, at)
 }
 
@@ -128,13 +118,13 @@ pub fn put_written(answer: WriteAnswer, bytes: &[u8], row: &mut [u8]) -> usize
     ensures { Put 0 (written_text answer bytes.now) row.old row.new result }
 {
     match answer {
-        WriteAnswer::Written(count, made, excess) => {
-            let counted = put_number(b"bytes ", count as u64, row, 0);
-            let tested = put_number(b" tests ", made as u64, row, counted);
-            let end = put_number(b" excess ", excess as u64, row, tested);
-            put_sum(count, bytes, row, end)
+        Ok(written) => {
+            let counted = put_number(b"bytes ", written.bytes as u64, row, 0);
+            let tested = put_number(b" tests ", written.tests as u64, row, counted);
+            let end = put_number(b" excess ", written.excess as u64, row, tested);
+            put_sum(written.bytes, bytes, row, end)
         }
-        WriteAnswer::Refused(why) => put_number(b"refused ", number_of(why) as u64, row, 0),
+        Err(why) => put_number(b"refused ", number_of(why) as u64, row, 0),
     }
 }
 
@@ -143,10 +133,10 @@ pub fn put_point_written(answer: PointWriteAnswer, bytes: &[u8], row: &mut [u8])
     ensures { Put 0 (point_written_text answer bytes.now) row.old row.new result }
 {
     match answer {
-        PointWriteAnswer::Written(count) => {
+        Ok(count) => {
             let end = put_number(b"bytes ", count as u64, row, 0);
             put_sum(count, bytes, row, end)
         }
-        PointWriteAnswer::Refused(why) => put_number(b"refused ", number_of(why) as u64, row, 0),
+        Err(why) => put_number(b"refused ", number_of(why) as u64, row, 0),
     }
 }

@@ -1,20 +1,13 @@
 -- Refusals by their numbers, 0 where there is none: of a map, and of a call of a reader. And what a call of a writer comes to, as a number.
-use Rattle.std.specs.Prelude.{ℕ, ◌≡◌, cond, List, ltb}
+use Rattle.std.specs.Prelude.{ℕ, ◌≡◌, cond, List, Result, Ok, Err, ltb}
 use Rattle.model.specs.Map.{MapAnswer, whole, decode}
 use Rattle.model.specs.Work.{work_length}
+use Rattle.model.specs.declared.Refusal.{Refusal}
 use Rattle.model.specs.Refusal.{number_of, refusal_of}
+use Rattle.model.specs.Answer.{ReadAnswer, PointReadAnswer, WriteAnswer, PointWriteAnswer}
 use Rattle.model.specs.Stretch.{Stretch}
 use Rattle.model.specs.Call.{ReadCall, WriteCall}
 use Rattle.model.specs.PointAlong.{GivenPoint, PointReadCall, PointWriteCall}
-use Rattle.model.specs.declared.PointReadAnswer.{PointReadAnswer}
-use Rattle.model.specs.declared.PointWriteAnswer.{PointWriteAnswer}
-use Rattle.model.specs.declared.ReadAnswer.{ReadAnswer}
-use Rattle.model.specs.declared.ReadAnswer.TheVariants.{Read, Refused}
-use Rattle.model.specs.declared.WriteAnswer.{WriteAnswer}
-use Rattle.model.specs.declared.WriteAnswer.TheVariants.{Written}
-use Rattle.model.specs.declared.WriteAnswer.TheVariants as writer
-use Rattle.model.specs.declared.PointReadAnswer.TheVariants as point
-use Rattle.model.specs.declared.PointWriteAnswer.TheVariants as point-writer
 
 unfoldable pub refused_by : MapAnswer → ℕ
 refused_by (whole m) = 0
@@ -23,19 +16,19 @@ refused_by (MapAnswer.refused r) = number_of r
 unfoldable pub map_refusal : ℕ → List ℕ → ℕ
 map_refusal work bytes = cond (ltb work work_length) 1 (refused_by (decode bytes))
 
-unfoldable pub answer_number : ReadAnswer → ℕ
-answer_number (Read n pos neg) = 0
-answer_number (Refused why) = number_of (refusal_of why)
+abbrev pub refusal_number : {A : Type 0} → Result A Refusal → ℕ
+refusal_number (Ok a) = 0
+refusal_number (Err why) = number_of (refusal_of why)
 
 -- A call of the reader whose answer has this number.
 pub record ReadNumber (mb ref work lines : List ℕ) (n : ℕ) (work' lines' : List ℕ) : Type 0 where
   pub answer : ReadAnswer
   pub call : ReadCall mb ref work lines answer work' lines'
-  pub same : n ≡ answer_number answer
+  pub same : n ≡ refusal_number answer
 
-unfoldable pub written_number : WriteAnswer → ℕ
-written_number (Written n made excess) = n
-written_number (writer.Refused why) = number_of (refusal_of why)
+abbrev pub written_number : WriteAnswer → ℕ
+written_number (Ok w) = w.bytes
+written_number (Err why) = number_of (refusal_of why)
 
 -- A call of the writer whose answer has this number.
 pub record WriteNumber (mb : List ℕ) (s : Stretch) (tests : ℕ) (work bytes : List ℕ) (n : ℕ) (work' bytes' : List ℕ) : Type 0 where
@@ -44,18 +37,14 @@ pub record WriteNumber (mb : List ℕ) (s : Stretch) (tests : ℕ) (work bytes :
   pub same : n ≡ written_number answer
 
 -- The same of the calls with points.
-unfoldable pub point_number : PointReadAnswer → ℕ
-point_number (point.Read n span orientation side) = 0
-point_number (point.Refused why) = number_of (refusal_of why)
-
 pub record PointReadNumber (mb ref work lines : List ℕ) (n : ℕ) (work' lines' : List ℕ) : Type 0 where
   pub answer : PointReadAnswer
   pub call : PointReadCall mb ref work lines answer work' lines'
-  pub same : n ≡ point_number answer
+  pub same : n ≡ refusal_number answer
 
-unfoldable pub point_written_number : PointWriteAnswer → ℕ
-point_written_number (point-writer.Written n) = n
-point_written_number (point-writer.Refused why) = number_of (refusal_of why)
+abbrev pub point_written_number : PointWriteAnswer → ℕ
+point_written_number (Ok n) = n
+point_written_number (Err why) = number_of (refusal_of why)
 
 pub record PointWriteNumber (mb : List ℕ) (p : GivenPoint) (work bytes : List ℕ) (n : ℕ) (work' bytes' : List ℕ) : Type 0 where
   pub answer : PointWriteAnswer

@@ -7,20 +7,30 @@ ghost use Rattle.search_cells.specs.Area.{Set};
 ghost use Rattle.model.specs.Stretch.{stretch_of};
 ghost use Rattle.model.specs.PointAlong.{point_given};
 ghost use Rattle.measured.specs.Offsets.{byte_number, SpanNumber};
-ghost use Rattle.measured.specs.Refusal.{map_refusal, ReadNumber, WriteNumber, PointReadNumber, PointWriteNumber};
+ghost use Rattle.measured.specs.Refusal.{refusal_number, map_refusal, ReadNumber, WriteNumber, PointReadNumber, PointWriteNumber};
 
 use buffers::wide;
-use depot_map::{MapRead, read_map};
+use depot_map::read_map;
 use fields::offset::{offset_byte, span_of};
 use model::limits::{GREATEST_LEG_LENGTH, WORK_LENGTH};
-use model::{PointReadAnswer, PointWriteAnswer, ReadAnswer, WriteAnswer, number_of};
-use opening::{Opened, open_map};
+use model::{Refusal, number_of};
+use opening::open_map;
 use point_reader::read_point;
 use point_writer::write_point;
 use reader::read;
 use search::search;
 use way_lengths::Terminus;
 use writer::write;
+
+// The number of the refusal, or 0 where there is none.
+fn refusal_number<T: Copy>(answer: Result<T, Refusal>) -> u32
+    ensures { result ≡ refusal_number answer }
+{
+    match answer {
+        Ok(_) => 0,
+        Err(why) => number_of(why),
+    }
+}
 
 // Reads a map into the work area: the number of the refusal, or 0.
 #[unsafe(no_mangle)]
@@ -30,26 +40,18 @@ pub extern "C" fn measured_read_map(map: &[u8], work: &mut [u32]) -> u32
     if work.len() < WORK_LENGTH {
         return 1;
     }
-    match read_map(map, work) {
-        MapRead::Whole(_, _) => 0,
-        MapRead::Refused(why) => number_of(why),
-    }
+    refusal_number(read_map(map, work))
 }
 
 // Searches `times` times back from the same line, on a map that is ready in the work area.
 fn search_again(work: &mut [u32], lines: usize, first: u32, class: u32, limit: u32, times: u32)
     requires { (m : Map) × Set m lines work.old }
 {
-    if lines <= wide(first) {
+    if lines <= wide(first) || GREATEST_LEG_LENGTH < limit {
         return;
     }
-    if GREATEST_LEG_LENGTH < limit {
-        return;
-    }
-    let mut i: u32 = 0;
-    while i < times {
+    for _ in 0..times {
         search(work, lines, Terminus::Line(wide(first)), class, limit);
-        i += 1;
     }
 }
 
@@ -69,11 +71,11 @@ pub extern "C" fn measured_search(
         return 1;
     }
     match open_map(map, work) {
-        Opened::Ready(_, lines) => {
-            search_again(work, lines, first, class, limit, times);
+        Ok(opened) => {
+            search_again(work, opened.lines, first, class, limit, times);
             0
         }
-        Opened::Refused(why) => number_of(why),
+        Err(why) => number_of(why),
     }
 }
 
@@ -88,10 +90,7 @@ pub extern "C" fn measured_read(
     ensures { ReadNumber map.now reference.now work.old lines.old result
         work.new lines.new }
 {
-    match read(map, reference, work, lines) {
-        ReadAnswer::Read(_, _, _) => 0,
-        ReadAnswer::Refused(why) => number_of(why),
-    }
+    refusal_number(read(map, reference, work, lines))
 }
 
 // Writes a stretch: the count of bytes, or the number of the refusal. The two are not told apart: 23 and 24 may be either.
@@ -109,8 +108,8 @@ pub extern "C" fn measured_write(
         work.new bytes.new }
 {
     match write(map, stretch, pos, neg, tests, work, bytes) {
-        WriteAnswer::Written(count, _, _) => count,
-        WriteAnswer::Refused(why) => number_of(why) as usize,
+        Ok(written) => written.bytes,
+        Err(why) => number_of(why) as usize,
     }
 }
 
@@ -125,10 +124,7 @@ pub extern "C" fn measured_read_point(
     ensures { PointReadNumber map.now reference.now work.old lines.old result
         work.new lines.new }
 {
-    match read_point(map, reference, work, lines) {
-        PointReadAnswer::Read(_, _, _, _) => 0,
-        PointReadAnswer::Refused(why) => number_of(why),
-    }
+    refusal_number(read_point(map, reference, work, lines))
 }
 
 // Writes a point along a line: the count of bytes, 16 or 17, or the number of the refusal, which is neither.
@@ -146,12 +142,13 @@ pub extern "C" fn measured_write_point(
         work.new bytes.new }
 {
     match write_point(map, line, offset, orientation, side, work, bytes) {
-        PointWriteAnswer::Written(count) => count,
-        PointWriteAnswer::Refused(why) => number_of(why) as usize,
+        Ok(count) => count,
+        Err(why) => number_of(why) as usize,
     }
 }
 
 // The byte of an offset on a leg, or 256 where it does not lie on it.
+#[tactic(auto, unfolding(crate::specs::Offsets::byte_number))]
 #[unsafe(no_mangle)]
 pub extern "C" fn measured_offset_byte(leg: u32, offset: u32) -> u32
     ensures { result ≡ byte_number leg offset }

@@ -5,7 +5,7 @@ ghost use Rattle.model.specs.Reference.{longest_reference};
 ghost use Rattle.model.specs.Message.{longest_message, length_bytes};
 ghost use Rattle.model.specs.MessageCall.{end_of, fits, so_far, extended};
 
-use buffers::bytes::copy;
+use buffers::copy;
 use model::limits::{LONGEST_MESSAGE, LONGEST_REFERENCE};
 
 // The values of a group of seven bits: a length below this takes one byte, and one from here on two.
@@ -26,6 +26,7 @@ fn length_bytes(count: usize) -> usize
 }
 
 // Where a message ends whose open reference has `count` bytes.
+#[tactic(auto, unfolding(model::specs::MessageCall::end_of))]
 pub fn end_of(finished: usize, count: usize) -> usize
     requires { (finished ≤ longest_message) × (count ≤ longest_reference) }
     ensures { result ≡ end_of finished count }
@@ -75,10 +76,8 @@ fn move_up(part: &mut [u8], count: usize)
     ensures { (take count (drop 2 part.new) ≡ take count (drop 1 part.old))
         × (drop (count + 2) part.new ≡ drop (count + 2) part.old) }
 {
-    let mut i = count;
-    while 0 < i {
-        part[i + 1] = part[i];
-        i -= 1;
+    for i in (0..count).rev() {
+        part[i + 2] = part[i + 1];
     }
 }
 

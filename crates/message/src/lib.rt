@@ -13,12 +13,13 @@ use model::{Message, MessageAnswer, Refusal};
 mod frame;
 
 // Opens a reference behind the last finished one. Nothing is written.
+#[tactic(auto, unfolding(model::specs::MessageCall::opening))]
 pub fn open_reference(m: Message) -> MessageAnswer
     ensures { result ≡ opening m }
 {
     match m {
-        Message::Closed(finished) => MessageAnswer::Now(Message::Open(finished, 0)),
-        Message::Open(_, _) => MessageAnswer::Refused(Refusal::MessageOrder),
+        Message::Closed(finished) => Ok(Message::Open(finished, 0)),
+        Message::Open(_, _) => Err(Refusal::MessageOrder),
     }
 }
 
@@ -27,16 +28,16 @@ pub fn add_bytes(m: Message, buffer: &mut [u8], portion: &[u8]) -> MessageAnswer
     ensures { Adds m buffer.old portion.now result buffer.new }
 {
     let Message::Open(finished, added) = m else {
-        return MessageAnswer::Refused(Refusal::MessageOrder);
+        return Err(Refusal::MessageOrder);
     };
     if portion.len() == 0 {
-        return MessageAnswer::Now(Message::Open(finished, added));
+        return Ok(Message::Open(finished, added));
     }
     if !fitting(finished, added, portion.len(), buffer.len()) {
-        return MessageAnswer::Refused(Refusal::MessageFull);
+        return Err(Refusal::MessageFull);
     }
     extend(&mut buffer[finished..], added, portion);
-    MessageAnswer::Now(Message::Open(finished, added + portion.len()))
+    Ok(Message::Open(finished, added + portion.len()))
 }
 
 // Closes the open reference. The answer has the message's count of bytes. Nothing is written.
@@ -44,15 +45,15 @@ pub fn close_reference(m: Message) -> MessageAnswer
     ensures { result ≡ closing m }
 {
     let Message::Open(finished, added) = m else {
-        return MessageAnswer::Refused(Refusal::MessageOrder);
+        return Err(Refusal::MessageOrder);
     };
     if added == 0 {
-        return MessageAnswer::Refused(Refusal::MessageOrder);
+        return Err(Refusal::MessageOrder);
     }
     if !fitting(finished, 0, added, LONGEST_MESSAGE) {
-        return MessageAnswer::Refused(Refusal::MessageFull);
+        return Err(Refusal::MessageFull);
     }
-    MessageAnswer::Now(Message::Closed(end_of(finished, added)))
+    Ok(Message::Closed(end_of(finished, added)))
 }
 
 // How many bytes of a message are finished.

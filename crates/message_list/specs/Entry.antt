@@ -1,8 +1,7 @@
 -- What the functions answer that look at one byte of a message: the place of what stands there.
-use Rattle.std.specs.Prelude.{ℕ, ◌-◌, ◌≤◌, ◌≡◌, List, length, take, drop}
+use Rattle.std.specs.Prelude.{ℕ, ◌-◌, ◌≤◌, ◌≡◌, List, length, take, drop, Option, Some, None}
 use Rattle.model.specs.Message.{Next, reference, stop}
-use Rattle.message_list.specs.declared.Entry.{Entry}
-use Rattle.message_list.specs.declared.Entry.TheVariants.{Reference, Stop}
+use Rattle.message_list.specs.declared.Part.{Part}
 
 -- What stands there is the reference from byte `start` to before byte `end`.
 pub record Stands (message : List ℕ) (what : Next) (start end : ℕ) : Type 0 where
@@ -10,6 +9,6 @@ pub record Stands (message : List ℕ) (what : Next) (start end : ℕ) : Type 0 
   pub inside : end ≤ length message
   pub is : what ≡ reference (take (end - start) (drop start message)) (drop end message)
 
-abbrev pub EntryIs : List ℕ → Next → Entry → Type 0
-EntryIs message what (Reference start end) = Stands message what start end
-EntryIs message what Stop = what ≡ stop
+abbrev pub EntryIs : List ℕ → Next → Option Part → Type 0
+EntryIs message what (Some p) = Stands message what p.start p.end
+EntryIs message what None = what ≡ stop

@@ -7,61 +7,62 @@ ghost use Rattle.model.specs.Message.{longest_message, of_length, next, referenc
 ghost use Rattle.model.specs.Front as definitions;
 ghost use Rattle.message_list.specs.Entry.{EntryIs};
 
-use buffers::bytes::wide;
-use front::{Front, read_front};
+use front::read_front;
 use model::limits::{LONGEST_MESSAGE, LONGEST_REFERENCE};
 
 // The values of a group of seven bits. A byte from here on says that another group follows.
 const GROUP: usize = 128;
 
-// What stands at a byte of a message: a reference, from its first byte to the one after its last, or nothing that counts.
-#[derive(Clone, Copy)]
-enum Entry {
-    Reference(usize, usize),
-    Stop,
-}
+// A last group of this adds nothing to a length, which is then not in its shortest form.
+const PADDING: usize = 0;
+
+// The least length of a reference.
+const LEAST_LENGTH: usize = 1;
 
 // A part of a message: where it starts, and where it ends.
 #[derive(Clone, Copy)]
-pub struct Part(pub usize, pub usize);
+pub struct Part {
+    pub start: usize,
+    pub end: usize,
+}
+
+impl Part {
+    // The empty part at byte `at`.
+    fn empty(at: usize) -> Part
+        ensures { (result.start ≡ at) × (result.end ≡ at) }
+    {
+        Part { start: at, end: at }
+    }
+}
 
 // The reference of `count` bytes from byte `start` on, if that is the length of one and there are so many.
-fn entry_of(message: &[u8], start: usize, count: usize) -> Entry
+fn entry_of(message: &[u8], start: usize, count: usize) -> Option<Part>
     requires { start ≤ length message.now }
     ensures { EntryIs message.now (of_length count (drop start message.now)) result }
 {
-    if count == 0 {
-        return Entry::Stop;
-    }
-    if LONGEST_REFERENCE < count {
-        return Entry::Stop;
+    if count < LEAST_LENGTH || LONGEST_REFERENCE < count {
+        return None;
     }
     if message.len() - start < count {
-        return Entry::Stop;
+        return None;
     }
-    Entry::Reference(start, start + count)
+    Some(Part {
+        start,
+        end: start + count,
+    })
 }
 
-// What stands at byte `at`. A length has one byte or two: a number of more bytes is over 459, and one whose second byte is 0 is not in its shortest form.
-fn entry_at(message: &[u8], at: usize) -> Entry
+// The reference at byte `at`, if one that counts stands there. A length has one byte or two, since a number of more bytes is over 459.
+fn entry_at(message: &[u8], at: usize) -> Option<Part>
     ensures { EntryIs message.now (next (drop at message.now)) result }
 {
-    if message.len() <= at {
-        return Entry::Stop;
-    }
-    let first = wide(message[at]) as usize;
+    let first = usize::from(*message.get(at)?);
     if first < GROUP {
         return entry_of(message, at + 1, first);
     }
-    if message.len() - at < 2 {
-        return Entry::Stop;
-    }
-    let second = wide(message[at + 1]) as usize;
-    if second == 0 {
-        return Entry::Stop;
-    }
-    if GROUP <= second {
-        return Entry::Stop;
+    let second = usize::from(*message.get(at + 1)?);
+    if second == PADDING || GROUP <= second {
+        return None;
     }
     entry_of(message, at + 2, first - GROUP + second * GROUP)
 }
@@ -70,36 +71,32 @@ fn entry_at(message: &[u8], at: usize) -> Entry
 fn place_behind(message: &[u8], behind: usize, n: usize) -> Part
     requires message_len_bound { (length message.now ≤ longest_message) × (behind ≤ length message.now) }
     requires by_index { (count sum : ℕ) × (front_of message.now ≡ definitions.front count sum (drop behind message.now)) }
-    ensures { (result.0 ≡ start_of_number n message.now) × (result.1 ≡ end_of_number n message.now) }
+    ensures { (result.start ≡ start_of_number n message.now) × (result.end ≡ end_of_number n message.now) }
 {
     let mut at = behind;
-    let mut left = n;
-    loop {
-        let Entry::Reference(start, end) = entry_at(message, at) else {
-            return Part(at, at);
+    for i in 0..n {
+        let Some(part) = entry_at(message, at) else {
+            return Part::empty(at);
         };
-        if left == 0 {
-            return Part(start, end);
-        }
-        at = end;
-        left -= 1;
+        at = part.end;
     }
+    entry_at(message, at).unwrap_or(Part::empty(at))
 }
 
 // Where reference `n` stands in a message of at most 16,384 bytes. A front that cannot be read stops the list at the first byte.
 fn place_in(message: &[u8], n: usize) -> Part
     requires { length message.now ≤ longest_message }
-    ensures { (result.0 ≡ start_of_number n message.now) × (result.1 ≡ end_of_number n message.now) }
+    ensures { (result.start ≡ start_of_number n message.now) × (result.end ≡ end_of_number n message.now) }
 {
     match read_front(message) {
-        Front::Read(_, _, behind) => place_behind(message, behind, n),
-        Front::Unreadable => Part(0, 0),
+        Some(front) => place_behind(message, front.behind, n),
+        None => Part::empty(0),
     }
 }
 
 // Where reference `n` stands in a message. An empty part, where there is none, lies where the list stops.
 pub fn place(message: &[u8], n: usize) -> Part
-    ensures { (result.0 ≡ start_of_number n message.now) × (result.1 ≡ end_of_number n message.now) }
+    ensures { (result.start ≡ start_of_number n message.now) × (result.end ≡ end_of_number n message.now) }
 {
     if LONGEST_MESSAGE < message.len() {
         return place_in(&message[..LONGEST_MESSAGE], n);
@@ -112,7 +109,5 @@ pub fn received(message: &[u8], n: usize) -> &[u8]
     ensures { result.now ≡ reference_number n message.now }
 {
     let part = place(message, n);
-    let start = part.0;
-    let end = part.1;
-    &message[start..end]
+    &message[part.start..part.end]
 }

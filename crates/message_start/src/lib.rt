@@ -7,11 +7,10 @@ ghost use Rattle.model.specs.Work.{work_length};
 ghost use Rattle.model.specs.Opening.{OnMap};
 ghost use Rattle.model.specs.MessageStart.{StartOutcome, start_on, StartAnswered, StartCall};
 
-use depot_map::{MapRead, read_map};
-use front::{Put, put_front};
-use model::limits::WORK_LENGTH;
+use depot_map::read_map;
+use front::put_front;
 use model::{Message, MessageAnswer, Refusal};
-use work_area::clear;
+use work_area::step::in_work_area;
 
 // The answer for bytes that are a map.
 fn on_map(map: &[u8], buffer: &mut [u8]) -> MessageAnswer
@@ -19,20 +18,8 @@ fn on_map(map: &[u8], buffer: &mut [u8]) -> MessageAnswer
     ensures { StartAnswered (λ o. o ≡ start_on map.now (length buffer.old)) buffer.old buffer.new result }
 {
     match put_front(map, buffer) {
-        Put::Bytes(count) => MessageAnswer::Now(Message::Closed(count)),
-        Put::NoRoom => MessageAnswer::Refused(Refusal::MessageFull),
-    }
-}
-
-// The answer where the work area is large enough.
-fn on_area(map: &[u8], work: &mut [u32], buffer: &mut [u8]) -> MessageAnswer
-    requires { work_length ≤ length work.old }
-    ensures { StartAnswered (OnMap StartOutcome.refused (λ m. λ o. o ≡ start_on map.now (length buffer.old)) (decode map.now))
-        buffer.old buffer.new result }
-{
-    match read_map(map, work) {
-        MapRead::Whole(_, _) => on_map(map, buffer),
-        MapRead::Refused(why) => MessageAnswer::Refused(why),
+        Some(count) => Ok(Message::Closed(count)),
+        None => Err(Refusal::MessageFull),
     }
 }
 
@@ -40,10 +27,16 @@ fn on_area(map: &[u8], work: &mut [u32], buffer: &mut [u8]) -> MessageAnswer
 pub fn start(map: &[u8], work: &mut [u32], buffer: &mut [u8]) -> MessageAnswer
     ensures { StartCall map.now work.old buffer.old result work.new buffer.new }
 {
-    if work.len() < WORK_LENGTH {
-        return MessageAnswer::Refused(Refusal::WorkAreaShort);
-    }
-    let given = on_area(map, &mut work[..WORK_LENGTH], buffer);
-    clear(work);
-    given
+    in_work_area(
+        work,
+        buffer,
+        |area, out|
+            requires { length area.old ≡ work_length }
+            ensures { StartAnswered (OnMap StartOutcome.refused (λ m. λ o. o ≡ start_on map.entry.now (length out.old)) (decode map.entry.now))
+                out.old out.new result }
+        {
+            read_map(map, area)?;
+            on_map(map, out)
+        },
+    )
 }

@@ -1,6 +1,7 @@
 -- Answers to the definitions' questions: an answer of one part is the answer of the next, and a refusal leaves the buffer.
 use Prim.Native.Nat.{ℕ, ◌≤◌, ◌<◌}
-use mathlib.Core.Path.{◌≡◌, refl, sym, subst}
+use mathlib.Core.Path.{◌≡◌, refl, sym, ap, subst, ◌∙◌}
+use mathlib.Core.Logic.{inl, inr}
 use native.Mathlib.Omega.{arith}
 use lib.ListN.{length}
 use Rattle.model.specs.Map.{Map, decode}
@@ -16,13 +17,20 @@ use Rattle.model.specs.Outcome.{ReadOutcome, WriteOutcome, written}
 use Rattle.model.specs.PointAlong.{PointWriteOutcome, PointWriteAnswers}
 use Rattle.model.specs.Call.{lines_after, bytes_after, ReadAnswers, WriteAnswers, Answered, Called, ReadAnswered, WriteAnswered}
 use Rattle.model.proofs.Opened as Opened
-use Rattle.std.specs.Prelude.{Err, Ok}
+use Rattle.std.specs.Prelude.{Result, Err, Ok}
+use Rattle.std.specs.Result.{IsErrAnd}
+use Rattle.std.proofs.lemmas.Result.{err_from_is_err_and}
+use Rattle.std.proofs.lemmas.Bool.{cases_lt}
 use Rattle.model.proofs.Answers.{same_bytes}
 
 pub answered_by : {Outcome Answer : Type 0} {Tells : Answer → Outcome → Type 0} {left : Outcome → List ℕ → List ℕ} {Asks Asks' : Outcome → Type 0}
     {before after : List ℕ} {a : Answer} → ((o : Outcome) → Asks o → Asks' o) → Answered Tells left Asks before after a →
     Answered Tells left Asks' before after a
 answered_by f d = record { outcome = d.outcome; asked = f d.outcome d.asked; answers = d.answers; buffer_after = d.buffer_after }
+
+-- What the exit of a `?` returns: the refusal, passed on as it is.
+pub passed_on : {T : Type 0} {why : Refusal} (r : Result T Refusal) → IsErrAnd r (λ e. e ≡ why) → r ≡ Err why
+passed_on r h = let p = err_from_is_err_and r h in p.1 ∙ ap (λ (e : Refusal). Err e) p.2
 
 pub refused_read : {Asks : ReadOutcome → Type 0} {lines : List ℕ} (r : Refusal) → Asks (ReadOutcome.refused (refusal_of r)) →
     ReadAnswered Asks lines lines (Err r)
@@ -63,3 +71,15 @@ module _ {Outcome Answer : Type 0} {Tells : Answer → Outcome → Type 0} {left
   pub called : {before after work work' : List ℕ} → work_length ≤ length work → Answered Tells left (OnMap refused Asks (decode mb)) before after a →
       work' ≡ cleared work → Called Tells left (Opens refused Asks mb (length work)) work work' before after a
   called {work = work} h d e = record { answered = answered_by (λ o p. area_full refused Asks mb (length work) o h p) d; work_after = e }
+
+-- The whole call, from what is ensured of a step on its part of the work area.
+pub stepped : {Outcome Answer : Type 0} {Tells : Answer → Outcome → Type 0} {left : Outcome → List ℕ → List ℕ} (refused : Refused → Outcome)
+    (Asks : Map → Outcome → Type 0) (mb : List ℕ) {a short : Answer} {before after work work' : List ℕ} →
+    Answered Tells left (λ o. o ≡ refused (row 1)) before before short → (length work < work_length → (a ≡ short) × (after ≡ before)) →
+    (work_length ≤ length work → Answered Tells left (OnMap refused Asks (decode mb)) before after a) → work' ≡ cleared work →
+    Called Tells left (Opens refused Asks mb (length work)) work work' before after a
+stepped refused Asks mb {work = work} d small ran e =
+    elim (cases_lt (length work) work_length) [
+      | inl h ↦ let s = small h in rw (s.0, s.1, e, ← cleared_short work h) (area_short refused Asks mb h d)
+      | inr h ↦ called refused Asks mb h (ran h) e
+    ]

@@ -1,14 +1,14 @@
 -- A host's calls, put together from those of the reader and the writer.
 use Prim.Native.Nat.{ℕ, ◌*◌, ◌/◌, ◌≤◌, min}
-use mathlib.Core.Path.{◌≡◌, sym, ap, ◌∙◌}
+use mathlib.Core.Path.{◌≡◌, refl, sym, ap, ◌∙◌}
 use mathlib.Core.List.{List, ◌++◌}
 use native.Mathlib.Omega.{arith}
 use lib.ListN.{length, take, drop, length-append}
 use lib.Seq.{take_at, take-append-le, length-take-le}
 use Rattle.model.specs.declared.Refusal.{Refusal}
-use Rattle.model.specs.declared.Span.{Span}
-use Rattle.model.specs.declared.ReadAnswer.{ReadAnswer}
-use Rattle.model.specs.declared.ReadAnswer.TheVariants.{Read, Refused}
+use Rattle.std.specs.Prelude.{Ok, Err, IfOk}
+use Rattle.model.specs.declared.ReadLines.{ReadLines}
+use Rattle.model.specs.Answer.{ReadAnswer, lines_read}
 use Rattle.model.specs.Refusal.{refusal_of}
 use Rattle.model.specs.Outcome.{ReadOutcome, read}
 use Rattle.model.specs.Work.{placed}
@@ -33,39 +33,41 @@ module _ (front front' ls : List ℕ) {count : ℕ} (stands : front' ≡ placed 
   first_lines rest =
       take-append-le count front' rest (omega (arith, within, kept)) ∙ ap (take count) stands ∙ take_at ls (drop (length ls) front) count (sym counted)
 
-told_read : {a : ReadAnswer} {o : ReadOutcome} {count : ℕ} {pos neg : Span} → ReadAnswers a o → a ≡ Read count pos neg →
-    (ls : List ℕ) × (o ≡ read ls pos neg) × (count ≡ length ls)
-told_read (lines {ls = ls}) e = (ls, cc, cc)
+told_read : {a : ReadAnswer} {o : ReadOutcome} {found : ReadLines} → ReadAnswers a o → a ≡ Ok found →
+    (ls : List ℕ) × (o ≡ read ls found.positive found.negative) × (found.count ≡ length ls)
+told_read {found = found} (lines {ls = ls} {pos = pos} {neg = neg}) e =
+    let same : lines_read (length ls) pos neg ≡ found = cc in
+    (ls, ap (λ (r : ReadLines). read ls r.positive r.negative) same, sym (ap (λ (r : ReadLines). r.count) same))
 told_read refusal e = absurd (let z : ◌≡◌ {A = ℕ} 0 1 = cc in omega arith)
 
-told_refused : {a : ReadAnswer} {o : ReadOutcome} {why : Refusal} → ReadAnswers a o → a ≡ Refused why → o ≡ ReadOutcome.refused (refusal_of why)
+told_refused : {a : ReadAnswer} {o : ReadOutcome} {why : Refusal} → ReadAnswers a o → a ≡ Err why → o ≡ ReadOutcome.refused (refusal_of why)
 told_refused lines e = absurd (let z : ◌≡◌ {A = ℕ} 0 1 = cc in omega arith)
 told_refused refusal e = cc
 
 -- What the host gets where a reference is read.
-abbrev accepted : ℕ → Span → Span → HostRead
-accepted count pos neg =
+abbrev accepted : ℕ → ReadLines → HostRead
+accepted count found =
     record {
       refusal = 0;
       place = 0;
       lines = count;
-      pos_least = pos.least;
-      pos_greatest = pos.greatest;
-      neg_least = neg.least;
-      neg_greatest = neg.greatest;
+      pos_least = found.positive.least;
+      pos_greatest = found.positive.greatest;
+      neg_least = found.negative.least;
+      neg_greatest = found.negative.greatest;
     }
 
 -- Line numbers that are read, whatever was asked: they stand first, and there is room for them.
-module _ {Asks : ReadOutcome → Type 0} {front front' : List ℕ} {a : ReadAnswer} (d : ReadAnswered Asks front front' a) {count : ℕ} {pos neg : Span}
-    (e : a ≡ Read count pos neg) (kept : length front' ≡ length front) where
+module _ {Asks : ReadOutcome → Type 0} {front front' : List ℕ} {a : ReadAnswer} (d : ReadAnswered Asks front front' a) {found : ReadLines}
+    (e : a ≡ Ok found) (kept : length front' ≡ length front) where
   ls : List ℕ
   ls = (told_read d.answers e).0
 
-  outcome_is : d.outcome ≡ read ls pos neg
+  outcome_is : d.outcome ≡ read ls found.positive found.negative
   unfolding ls
   outcome_is = (told_read d.answers e).1
 
-  count_is : count ≡ length ls
+  count_is : found.count ≡ length ls
   unfolding ls
   count_is = (told_read d.answers e).2
 
@@ -73,25 +75,25 @@ module _ {Asks : ReadOutcome → Type 0} {front front' : List ℕ} {a : ReadAnsw
   unfolding lines_after
   stands = d.buffer_after ∙ ap (λ (o : ReadOutcome). lines_after o front) outcome_is
 
-  pub count_fits : count ≤ length front
+  pub count_fits : found.count ≤ length front
   count_fits = within front front' ls stands count_is kept
 
 -- ---- handed over
 
 -- The lines that were read, whatever the call: their bytes stand first in the host's buffer.
-pub handed_read : {a : ReadAnswer} {o : ReadOutcome} {count : ℕ} {pos neg : Span} {numbers room' : List ℕ} (before room : List ℕ) → ReadAnswers a o →
-    a ≡ Read count pos neg → numbers ≡ lines_after o before → room' ≡ placed (word_bytes (take count numbers)) room →
-    (accepted count pos neg ≡ host_read o) × (room' ≡ host_lines_after o room)
+pub handed_read : {a : ReadAnswer} {o : ReadOutcome} {found : ReadLines} {numbers room' : List ℕ} (before room : List ℕ) → ReadAnswers a o →
+    a ≡ Ok found → numbers ≡ lines_after o before → room' ≡ placed (word_bytes (take found.count numbers)) room →
+    (accepted found.count found ≡ host_read o) × (room' ≡ host_lines_after o room)
 unfolding lines_after placed host_read host_lines_after
-handed_read {o = o} {count} {pos} {neg} {numbers} before room t e stand put =
+handed_read {o = o} {found} {numbers} before room t e stand put =
     let k = told_read t e in
     let lent : numbers ≡ k.0 ++ drop (length k.0) before = stand ∙ ap (λ (o : ReadOutcome). lines_after o before) k.1 in
-    let first : take count numbers ≡ k.0 = ap (take count) lent ∙ take_at k.0 (drop (length k.0) before) count (sym k.2) in (
-      ap (λ (n : ℕ). accepted n pos neg) k.2 ∙ ap host_read (sym k.1),
+    let first : take found.count numbers ≡ k.0 = ap (take found.count) lent ∙ take_at k.0 (drop (length k.0) before) found.count (sym k.2) in (
+      ap (λ (n : ℕ). accepted n found) k.2 ∙ ap host_read (sym k.1),
       put ∙ ap (λ (l : List ℕ). placed (word_bytes l) room) first ∙ ap (λ (o : ReadOutcome). host_lines_after o room) (sym k.1),
     )
 
-pub handed_refused : {a : ReadAnswer} {o : ReadOutcome} {why : Refusal} {room : List ℕ} {r : HostRead} → ReadAnswers a o → a ≡ Refused why →
+pub handed_refused : {a : ReadAnswer} {o : ReadOutcome} {why : Refusal} {room : List ℕ} {r : HostRead} → ReadAnswers a o → a ≡ Err why →
     r ≡ host_read (ReadOutcome.refused (refusal_of why)) → (r ≡ host_read o) × (room ≡ host_lines_after o room)
 unfolding host_lines_after
 handed_refused {room = room} t e given =
@@ -122,3 +124,9 @@ module _ (numbers lines last : List ℕ) (room : ℕ) (is : room ≡ min (length
       (count ≤ length (take room (last ++ drop room numbers))) × (count * 4 ≤ length lines) × (count ≤ greatest_host_lines)
   lent_room count h =
       (omega (arith, kept, ap (length {A = ℕ}) lent_is), omega (arith, is, size), omega (arith, is, size, all))
+
+  -- What the reader answered of them can be handed over.
+  pub can_hand : {Asks : ReadOutcome → Type 0} {a : ReadAnswer} → ReadAnswered Asks (take room numbers) last a →
+      IfOk a (λ found. (found.count ≤ length (take room (last ++ drop room numbers))) × (found.count * 4 ≤ length lines) × (found.count ≤ greatest_host_lines))
+  can_hand {a = Ok found} d = lent_room found.count (count_fits d refl kept)
+  can_hand {a = Err why} d = tt

@@ -11,8 +11,9 @@ use borrow.Author.Tests.{ltb-true, ltb-false, lt-ltb, ne_eqb}
 use Rattle.model.proofs.Answering.{told_written}
 use Rattle.model.proofs.Opened.{opens_by}
 use Rattle.model.specs.declared.Refusal.{Refusal}
-use Rattle.model.specs.declared.WriteAnswer.{WriteAnswer}
-use Rattle.model.specs.declared.WriteAnswer.TheVariants.{Written, Refused}
+use Rattle.std.specs.Prelude.{Ok, Err, IfOk}
+use Rattle.model.specs.declared.WrittenBytes.{WrittenBytes}
+use Rattle.model.specs.Answer.{WriteAnswer}
 use Rattle.model.specs.Map.{Map}
 use Rattle.model.specs.Refusal.{row, number_of, refusal_of}
 use Rattle.model.specs.Stretch.{Stretch, StretchAnswer, check_stretch, greatest_stretch, stretch_of}
@@ -52,29 +53,29 @@ stretch_stands mb stretch ns pos neg tests work room o e h =
 
 -- ---- the answer
 
-told_refused : {a : WriteAnswer} {o : WriteOutcome} {why : Refusal} → WriteAnswers a o → a ≡ Refused why → o ≡ WriteOutcome.refused (refusal_of why)
+told_refused : {a : WriteAnswer} {o : WriteOutcome} {why : Refusal} → WriteAnswers a o → a ≡ Err why → o ≡ WriteOutcome.refused (refusal_of why)
 told_refused bytes e = absurd (let z : ◌≡◌ {A = ℕ} 0 1 = cc in omega arith)
 told_refused refusal e = cc
 
 -- A reference has 459 bytes at most.
 pub count_small : (mb : List ℕ) (s : Stretch) (tests : ℕ) {room room' : List ℕ} {a : WriteAnswer} →
-    WriteAnswered (Writes mb s tests work_length (length room)) room room' a → (count made excess : ℕ) → a ≡ Written count made excess →
-    count ≤ longest_reference
-count_small mb s tests {room = room} d count made excess e =
-    let t = told_written d.answers e in
-    let w = written_bytes mb t.0 s tests work_length (length room) made excess
+    WriteAnswered (Writes mb s tests work_length (length room)) room room' a → IfOk a (λ made. made.bytes ≤ longest_reference)
+count_small mb s tests {room = room} {a = Ok made} d =
+    let t = told_written {count = made.bytes} {made = made.tests} {excess = made.excess} d.answers refl in
+    let w = written_bytes mb t.0 s tests work_length (length room) made.tests made.excess
     (subst (λ (o : WriteOutcome). Writes mb s tests work_length (length room) o) t.1 d.asked) in
     omega (arith, t.2, w.2)
+count_small mb s tests {a = Err why} d = tt
 
 -- What a host gets tells the outcome.
-pub host_wrote_bytes : {a : WriteAnswer} {o : WriteOutcome} {count made excess : ℕ} → a ≡ Written count made excess → WriteAnswers a o →
-    record { refusal = 0; bytes = count; tests = made; excess = excess } ≡ host_written o
+pub host_wrote_bytes : {a : WriteAnswer} {o : WriteOutcome} {made : WrittenBytes} → a ≡ Ok made → WriteAnswers a o →
+    record { refusal = 0; bytes = made.bytes; tests = made.tests; excess = made.excess } ≡ host_written o
 unfolding host_written
-host_wrote_bytes {made = made} {excess = excess} e h =
-    let t = told_written h e in
-    ap (λ (n : ℕ). record { refusal = 0; bytes = n; tests = made; excess = excess }) (sym t.2) ∙ ap host_written (sym t.1)
+host_wrote_bytes {made = made} e h =
+    let t = told_written {count = made.bytes} {made = made.tests} {excess = made.excess} h e in
+    ap (λ (n : ℕ). record { refusal = 0; bytes = n; tests = made.tests; excess = made.excess }) (sym t.2) ∙ ap host_written (sym t.1)
 
-pub host_wrote_none : {a : WriteAnswer} {o : WriteOutcome} {why : Refusal} {n : ℕ} → a ≡ Refused why → n ≡ number_of (refusal_of why) → WriteAnswers a o →
+pub host_wrote_none : {a : WriteAnswer} {o : WriteOutcome} {why : Refusal} {n : ℕ} → a ≡ Err why → n ≡ number_of (refusal_of why) → WriteAnswers a o →
     record { refusal = n; bytes = 0; tests = 0; excess = 0 } ≡ host_written o
 unfolding host_written
 host_wrote_none e f h = ap (λ (k : ℕ). record { refusal = k; bytes = 0; tests = 0; excess = 0 }) f ∙ ap host_written (sym (told_refused h e))

@@ -1,24 +1,20 @@
 // The functions that a C program calls (paper 01, "The product"). include/openlr.h has them for C.
 #![tactic(auto)]
 
-ghost use Rattle.std.specs.Prelude.{◌≡◌, ℕ, ◌*◌, ◌≤◌, List, length, take};
+ghost use Rattle.std.specs.Prelude.{◌≡◌, ◌*◌, ◌≤◌, ℕ, List, length, take, IfOk};
 ghost use Rattle.model.specs.Refusal.{refusal_of};
 ghost use Rattle.model.specs.Reference.{longest_reference};
 ghost use Rattle.model.specs.Outcome.{ReadOutcome, Reads, WriteOutcome, Writes};
 ghost use Rattle.model.specs.Work.{work_length};
 ghost use Rattle.model.specs.Call.{lines_after, ReadAnswers, WriteAnswers, ReadAnswered, WriteAnswered};
-ghost use Rattle.model.specs.declared.Span.{Span};
-ghost use Rattle.model.specs.declared.ReadAnswer.TheVariants as Reader;
-ghost use Rattle.model.specs.declared.WriteAnswer.TheVariants as Writer;
 ghost use Rattle.model.specs.Host.{greatest_host_lines, host_read, host_lines_after, HostReadCall, host_written, HostWriteCall};
 ghost use Rattle.model.specs.OfMessage.{ReadsOfMessage, HostReadOfMessageCall};
 ghost use Rattle.model.specs.Stretch.{stretch_of};
 ghost use Rattle.openlr.specs.Host.{as_read, as_written, stretch_lines};
 
-use buffers::lesser;
 use buffers::words::{WORD_BYTES, put_words, take_words};
 use model::limits::{GREATEST_HOST_LINES, GREATEST_STRETCH, WORK_LENGTH};
-use model::{ReadAnswer, Refusal, WriteAnswer, number_of, row_of};
+use model::{ReadAnswer, Refusal, Row, WriteAnswer, number_of};
 
 pub mod messages;
 pub mod point;
@@ -53,7 +49,7 @@ pub struct Written {
 fn no_lines(why: Refusal) -> Lines
     ensures { as_read result ≡ host_read (ReadOutcome.refused (refusal_of why)) }
 {
-    let row = row_of(why);
+    let row = Row::from(why);
     Lines {
         refusal: row.0,
         place: row.1,
@@ -67,25 +63,22 @@ fn no_lines(why: Refusal) -> Lines
 
 // What the host gets for the writer's answer.
 fn told(answer: WriteAnswer) -> Written
-    requires { (count made excess : ℕ) → answer ≡ Writer.Written count made excess → count ≤ longest_reference }
+    requires { IfOk answer (λ made. made.bytes ≤ longest_reference) }
     ensures { (o : WriteOutcome) → WriteAnswers answer o → as_written result ≡ host_written o }
 {
     match answer {
-        WriteAnswer::Written(count, made, excess) => Written {
+        Ok(made) => Written {
             refusal: 0,
-            bytes: count as u32,
-            tests: made,
-            excess,
+            bytes: made.bytes as u32,
+            tests: made.tests,
+            excess: made.excess,
         },
-        WriteAnswer::Refused(why) => {
-            let number = number_of(why);
-            Written {
-                refusal: number,
-                bytes: 0,
-                tests: 0,
-                excess: 0,
-            }
-        }
+        Err(why) => Written {
+            refusal: number_of(why),
+            bytes: 0,
+            tests: 0,
+            excess: 0,
+        },
     }
 }
 
@@ -100,25 +93,25 @@ fn read_into(map: &[u8], reference: &[u8], numbers: &mut [u32]) -> ReadAnswer
 
 // What the host gets for the reader's answer. The lines that were read stand first in `numbers`, and go into `lines`, four bytes each, low byte first.
 fn handed(answer: ReadAnswer, numbers: &[u32], lines: &mut [u8]) -> Lines
-    requires { (count : ℕ) (pos neg : Span) → answer ≡ Reader.Read count pos neg
-        → (count ≤ length numbers.now) × (count * 4 ≤ length lines.old) × (count ≤ greatest_host_lines) }
+    requires { IfOk answer (λ found. (found.count ≤ length numbers.now) × (found.count * 4 ≤ length lines.old)
+        × (found.count ≤ greatest_host_lines)) }
     ensures { (o : ReadOutcome) (before : List ℕ) → ReadAnswers answer o → numbers.now ≡ lines_after o before
         → (as_read result ≡ host_read o) × (lines.new ≡ host_lines_after o lines.old) }
 {
     match answer {
-        ReadAnswer::Read(count, pos, neg) => {
-            put_words(&numbers[..count], lines);
+        Ok(found) => {
+            put_words(&numbers[..found.count], lines);
             Lines {
                 refusal: 0,
                 place: 0,
-                lines: count as u32,
-                pos_least: pos.least,
-                pos_greatest: pos.greatest,
-                neg_least: neg.least,
-                neg_greatest: neg.greatest,
+                lines: found.count as u32,
+                pos_least: found.positive.least,
+                pos_greatest: found.positive.greatest,
+                neg_least: found.negative.least,
+                neg_greatest: found.negative.greatest,
             }
         }
-        ReadAnswer::Refused(why) => no_lines(why),
+        Err(why) => no_lines(why),
     }
 }
 
@@ -127,7 +120,7 @@ fn read_lines(map: &[u8], reference: &[u8], numbers: &mut [u32], lines: &mut [u8
     requires { length numbers.old ≡ greatest_host_lines }
     ensures { HostReadCall map.now reference.now lines.old (as_read result) lines.new }
 {
-    let room = lesser(lines.len() / WORD_BYTES, numbers.len());
+    let room = (lines.len() / WORD_BYTES).min(numbers.len());
     let answer = read_into(map, reference, &mut numbers[..room]);
     handed(answer, &numbers[..room], lines)
 }
@@ -166,7 +159,7 @@ fn read_lines_of_message(
     requires { length numbers.old ≡ greatest_host_lines }
     ensures { HostReadOfMessageCall map.now message.now reference.now lines.old (as_read result) lines.new }
 {
-    let room = lesser(lines.len() / WORD_BYTES, numbers.len());
+    let room = (lines.len() / WORD_BYTES).min(numbers.len());
     let answer = read_of_message_into(map, message, reference, &mut numbers[..room]);
     handed(answer, &numbers[..room], lines)
 }

@@ -1,20 +1,16 @@
 // The functions for points along a line that a C program calls (paper 02, W5; out of a message: W10). include/openlr.h has them for C.
-ghost use Rattle.std.specs.Prelude.{◌≡◌, ℕ, ◌*◌, ◌≤◌, List, length};
+ghost use Rattle.std.specs.Prelude.{◌≡◌, ◌*◌, ◌≤◌, ℕ, List, length, IfOk};
 ghost use Rattle.model.specs.Refusal.{refusal_of};
 ghost use Rattle.model.specs.Work.{work_length};
 ghost use Rattle.model.specs.PointAlong.{PointReadOutcome, PointReads, PointReadAnswers, PointReadAnswered, point_lines_after, PointWriteOutcome, PointWrites, PointWriteAnswers, PointWriteAnswered, point_given};
 ghost use Rattle.model.specs.PointAlong.{longest_point};
-ghost use Rattle.model.specs.declared.Span.{Span};
-ghost use Rattle.model.specs.declared.PointReadAnswer.TheVariants as Reader;
-ghost use Rattle.model.specs.declared.PointWriteAnswer.TheVariants as Writer;
 ghost use Rattle.model.specs.Host.{greatest_host_lines, host_point, host_point_lines_after, HostPointReadCall, host_point_written, HostPointWriteCall};
 ghost use Rattle.model.specs.OfMessage.{PointReadsOfMessage, HostPointReadOfMessageCall};
 ghost use Rattle.openlr.specs.Host.{as_point, as_point_written};
 
-use buffers::lesser;
 use buffers::words::{WORD_BYTES, put_words};
 use model::limits::{GREATEST_HOST_LINES, WORK_LENGTH};
-use model::{PointReadAnswer, PointWriteAnswer, Refusal, number_of, row_of};
+use model::{PointReadAnswer, PointWriteAnswer, Refusal, Row, number_of};
 
 // What the host gets from the reader of points; `struct openlr_point` in C. 0 where a number says nothing.
 #[repr(C)]
@@ -41,7 +37,7 @@ pub struct PointWritten {
 fn no_point(why: Refusal) -> Point
     ensures { as_point result ≡ host_point (PointReadOutcome.refused (refusal_of why)) }
 {
-    let row = row_of(why);
+    let row = Row::from(why);
     Point {
         refusal: row.0,
         place: row.1,
@@ -65,25 +61,25 @@ fn read_point_into(map: &[u8], reference: &[u8], numbers: &mut [u32]) -> PointRe
 // What the host gets for the answer of the reader of points. The lines that were read stand first in `numbers`, and go into `lines`, four bytes each, low byte
 // first.
 fn handed(answer: PointReadAnswer, numbers: &[u32], lines: &mut [u8]) -> Point
-    requires { (count : ℕ) (span : Span) (orientation side : ℕ) → answer ≡ Reader.Read count span orientation side
-        → (count ≤ length numbers.now) × (count * 4 ≤ length lines.old) × (count ≤ greatest_host_lines) }
+    requires { IfOk answer (λ found. (found.count ≤ length numbers.now) × (found.count * 4 ≤ length lines.old)
+        × (found.count ≤ greatest_host_lines)) }
     ensures { (o : PointReadOutcome) (before : List ℕ) → PointReadAnswers answer o → numbers.now ≡ point_lines_after o before
         → (as_point result ≡ host_point o) × (lines.new ≡ host_point_lines_after o lines.old) }
 {
     match answer {
-        PointReadAnswer::Read(count, span, orientation, side) => {
-            put_words(&numbers[..count], lines);
+        Ok(found) => {
+            put_words(&numbers[..found.count], lines);
             Point {
                 refusal: 0,
                 place: 0,
-                lines: count as u32,
-                least: span.least,
-                greatest: span.greatest,
-                orientation,
-                side,
+                lines: found.count as u32,
+                least: found.offset.least,
+                greatest: found.offset.greatest,
+                orientation: found.orientation,
+                side: found.side,
             }
         }
-        PointReadAnswer::Refused(why) => no_point(why),
+        Err(why) => no_point(why),
     }
 }
 
@@ -92,7 +88,7 @@ fn read_point_lines(map: &[u8], reference: &[u8], numbers: &mut [u32], lines: &m
     requires { length numbers.old ≡ greatest_host_lines }
     ensures { HostPointReadCall map.now reference.now lines.old (as_point result) lines.new }
 {
-    let room = lesser(lines.len() / WORD_BYTES, numbers.len());
+    let room = (lines.len() / WORD_BYTES).min(numbers.len());
     let answer = read_point_into(map, reference, &mut numbers[..room]);
     handed(answer, &numbers[..room], lines)
 }
@@ -131,7 +127,7 @@ fn read_point_lines_of_message(
     requires { length numbers.old ≡ greatest_host_lines }
     ensures { HostPointReadOfMessageCall map.now message.now reference.now lines.old (as_point result) lines.new }
 {
-    let room = lesser(lines.len() / WORD_BYTES, numbers.len());
+    let room = (lines.len() / WORD_BYTES).min(numbers.len());
     let answer = read_point_of_message_into(map, message, reference, &mut numbers[..room]);
     handed(answer, &numbers[..room], lines)
 }
@@ -152,21 +148,18 @@ pub extern "C" fn openlr_read_point_of_message(
 
 // What the host gets for the answer of the writer of points.
 fn told(answer: PointWriteAnswer) -> PointWritten
-    requires { (count : ℕ) → answer ≡ Writer.Written count → count ≤ longest_point }
+    requires { IfOk answer (λ count. count ≤ longest_point) }
     ensures { (o : PointWriteOutcome) → PointWriteAnswers answer o → as_point_written result ≡ host_point_written o }
 {
     match answer {
-        PointWriteAnswer::Written(count) => PointWritten {
+        Ok(count) => PointWritten {
             refusal: 0,
             bytes: count as u32,
         },
-        PointWriteAnswer::Refused(why) => {
-            let number = number_of(why);
-            PointWritten {
-                refusal: number,
-                bytes: 0,
-            }
-        }
+        Err(why) => PointWritten {
+            refusal: number_of(why),
+            bytes: 0,
+        },
     }
 }
 

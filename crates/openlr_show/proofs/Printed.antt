@@ -5,7 +5,7 @@ use mathlib.Core.List.{List}
 use native.Mathlib.Omega.{arith}
 use lib.ListN.{length, take, drop, replicate, length-replicate}
 use lib.Seq.{take_at}
-use Rattle.model.specs.declared.ReadAnswer.{ReadAnswer}
+use Rattle.model.specs.Answer.{ReadAnswer}
 use Rattle.model.specs.Work.{work_length, placed}
 use Rattle.model.specs.Outcome.{Reads}
 use Rattle.model.specs.Call.{ReadCall}

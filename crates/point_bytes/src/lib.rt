@@ -6,7 +6,7 @@ ghost use Rattle.model.specs.Work.{placed};
 ghost use Rattle.model.specs.PointAlong.{shortest_point, greatest_mark};
 ghost use Rattle.point_bytes.specs.PointForm.{FormOf, with_marks, without_marks};
 
-use buffers::bytes::copy;
+use buffers::copy;
 use model::Refusal;
 use references::reference::{Reference, byte_at};
 

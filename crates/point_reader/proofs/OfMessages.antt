@@ -5,7 +5,8 @@ use mathlib.Core.Bool.{false}
 use mathlib.Core.List.{List}
 use lib.ListN.{length}
 use Rattle.model.specs.declared.Refusal.{Refusal}
-use Rattle.model.specs.declared.PointReadAnswer.{PointReadAnswer}
+use Rattle.std.proofs.Common.{Err}
+use Rattle.model.specs.Answer.{PointReadAnswer}
 use Rattle.model.specs.Refusal.{refusal_of}
 use Rattle.model.specs.Map.{Map, MapAnswer, decode}
 use Rattle.model.specs.Work.{work_length, cleared}
@@ -17,11 +18,10 @@ use Rattle.point_reader.proofs.Answers.{refused_point}
 use Rattle.front.proofs.OnFront.{other_map}
 use Rattle.model.proofs.Answering as Answering
 use Rattle.model.specs.declared.Refusal.TheVariants as why
-use Rattle.model.specs.declared.PointReadAnswer.TheVariants as Answer
 
 -- The message is of another map.
 pub front_refused : (mb message : List ℕ) (Asks : PointReadOutcome → Type 0) {lines : List ℕ} → same_map mb message ≡ false →
-    PointReadAnswered (OnFront PointReadOutcome.refused Asks (same_map mb message)) lines lines (Answer.Refused why.OtherMap)
+    PointReadAnswered (OnFront PointReadOutcome.refused Asks (same_map mb message)) lines lines (Err why.OtherMap)
 unfolding refusal_of
 front_refused mb message Asks e = other_map PointReadOutcome.refused Asks mb message e (refused_point why.OtherMap refl)
 
@@ -32,15 +32,12 @@ module _ (mb message ref lines : List ℕ) where
 
   -- The bytes are no map.
   pub map_refused_lem : (r : Refusal) → decode mb ≡ MapAnswer.refused (refusal_of r) →
-      PointReadAnswered (OnMap PointReadOutcome.refused Asks (decode mb)) lines lines (Answer.Refused r)
+      PointReadAnswered (OnMap PointReadOutcome.refused Asks (decode mb)) lines lines (Err r)
   map_refused_lem r e = refused_point r (rw e refl)
 
   -- The whole call.
-  pub area_short : (work : List ℕ) → length work < work_length → PointReadOfMessageCall mb message ref work lines (Answer.Refused why.WorkAreaShort) work lines
-  unfolding refusal_of
-  area_short work h = record { called = Answering.area_short PointReadOutcome.refused Asks mb h (refused_point why.WorkAreaShort refl) }
-
-  pub called : {after work work' : List ℕ} {a : PointReadAnswer} → work_length ≤ length work →
-      PointReadAnswered (OnMap PointReadOutcome.refused Asks (decode mb)) lines after a → work' ≡ cleared work →
+  pub called : {after work work' : List ℕ} {a : PointReadAnswer} → (length work < work_length → (a ≡ Err why.WorkAreaShort) × (after ≡ lines)) →
+      (work_length ≤ length work → PointReadAnswered (OnMap PointReadOutcome.refused Asks (decode mb)) lines after a) → work' ≡ cleared work →
       PointReadOfMessageCall mb message ref work lines a work' after
-  called h d e = record { called = Answering.called PointReadOutcome.refused Asks mb h d e }
+  unfolding refusal_of
+  called short ran e = record { called = Answering.stepped PointReadOutcome.refused Asks mb (refused_point why.WorkAreaShort refl) short ran e }

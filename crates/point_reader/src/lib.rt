@@ -4,86 +4,47 @@
 
 ghost use Rattle.std.specs.Prelude.{◌≡◌, ◌≤◌, length};
 ghost use Rattle.model.specs.Map.{Map, decode};
-ghost use Rattle.model.specs.Outcome.{ReadOutcome};
 ghost use Rattle.model.specs.PointAlong.{parsed, point_along_at, parse_point, PointReadOutcome, PointReadOn, PointReadParsed, PointReadMap, PointReadAnswered, PointReadCall};
 ghost use Rattle.model.specs.Work.{work_length};
 ghost use Rattle.model.specs.Opening.{OnMap};
 ghost use Rattle.model.specs.Front.{same_map};
 ghost use Rattle.model.specs.OfMessage.{OnFront, PointReadOfMessageCall};
-ghost use Rattle.model.specs.Call.{ReadAnswers};
 ghost use Rattle.search_cells.specs.Area.{Set};
-ghost use Rattle.point_reader.specs.Told.{ToldSo};
 
 use front::same_map;
-use model::limits::WORK_LENGTH;
-use model::{PointReadAnswer, ReadAnswer, Refusal};
+use model::{PointReadAnswer, ReadPoint, Refusal};
 use opening::{Opened, open_map};
-use point_bytes::{Form, Marks, form_of, marks_in, put_line};
+use point_bytes::{Marks, form_of, marks_in, put_line};
 use reader::on_points;
-use work_area::clear;
-
-// What the reader of lines answers, with a point's marks.
-fn with_marks(answer: ReadAnswer, marks: Marks) -> PointReadAnswer
-    ensures { ToldSo answer marks.orientation marks.side result }
-{
-    match answer {
-        ReadAnswer::Read(count, span, _) => PointReadAnswer::Read(
-            count,
-            span,
-            marks.orientation,
-            marks.side,
-        ),
-        ReadAnswer::Refused(why) => PointReadAnswer::Refused(why),
-    }
-}
+use work_area::step::in_work_area;
 
 // The answer for bytes that are a point along line: what is answered to the line reference with the same points, and the marks.
-fn on_point(
-    bytes: &[u8],
-    work: &mut [u32],
-    nodes: u32,
-    lines: usize,
-    out: &mut [u32],
-) -> PointReadAnswer
+fn on_point(bytes: &[u8], work: &mut [u32], opened: Opened, out: &mut [u32]) -> PointReadAnswer
     requires bytes_value { parse_point bytes.now ≡ parsed (point_along_at bytes.now) }
-    requires set { (m : Map) × Set m lines work.old × (length m.nodes ≡ nodes) }
-    ensures { (m : Map) → Set m lines work.old → length m.nodes ≡ nodes
+    requires set { (m : Map) × Set m opened.lines work.old × (length m.nodes ≡ opened.nodes) }
+    ensures { (m : Map) → Set m opened.lines work.old → length m.nodes ≡ opened.nodes
         → PointReadAnswered (PointReadOn m (point_along_at bytes.now) (length out.old)) out.old out.new result }
 {
     let mut line: [u8; 17] = [0; Marks::LONGEST];
     put_line(bytes, &mut line);
-    let answer = on_points(&line[..bytes.len()], 1, work, nodes, lines, out);
-    with_marks(answer, marks_in(bytes))
+    let found = on_points(&line[..bytes.len()], 1, work, opened, out)?;
+    let marks = marks_in(bytes);
+    Ok(ReadPoint {
+        count: found.count,
+        offset: found.positive,
+        orientation: marks.orientation,
+        side: marks.side,
+    })
 }
 
 // The answer on a map that is ready in the work area.
-fn on_map(
-    reference: &[u8],
-    work: &mut [u32],
-    nodes: u32,
-    lines: usize,
-    out: &mut [u32],
-) -> PointReadAnswer
-    requires { (m : Map) × Set m lines work.old × (length m.nodes ≡ nodes) }
-    ensures { (m : Map) → Set m lines work.old → length m.nodes ≡ nodes
+fn on_map(reference: &[u8], work: &mut [u32], opened: Opened, out: &mut [u32]) -> PointReadAnswer
+    requires { (m : Map) × Set m opened.lines work.old × (length m.nodes ≡ opened.nodes) }
+    ensures { (m : Map) → Set m opened.lines work.old → length m.nodes ≡ opened.nodes
         → PointReadAnswered (PointReadParsed m (parse_point reference.now) (length out.old)) out.old out.new result }
 {
-    match form_of(reference) {
-        Form::Sound => on_point(reference, work, nodes, lines, out),
-        Form::Refused(why) => PointReadAnswer::Refused(why),
-    }
-}
-
-// The answer where the work area is large enough.
-fn on_area(map: &[u8], reference: &[u8], work: &mut [u32], out: &mut [u32]) -> PointReadAnswer
-    requires { work_length ≤ length work.old }
-    ensures { PointReadAnswered (PointReadMap (decode map.now) reference.now (length out.old))
-        out.old out.new result }
-{
-    match open_map(map, work) {
-        Opened::Ready(nodes, lines) => on_map(reference, work, nodes, lines, out),
-        Opened::Refused(why) => PointReadAnswer::Refused(why),
-    }
+    form_of(reference)?;
+    on_point(reference, work, opened, out)
 }
 
 // Reads a point along a line on a map. An answer that it is read has the count of lines, which stand first in `lines`, the span of the offset, the
@@ -96,12 +57,18 @@ pub fn read_point(
 ) -> PointReadAnswer
     ensures { PointReadCall map.now reference.now work.old lines.old result work.new lines.new }
 {
-    if work.len() < WORK_LENGTH {
-        return PointReadAnswer::Refused(Refusal::WorkAreaShort);
-    }
-    let given = on_area(map, reference, &mut work[..WORK_LENGTH], lines);
-    clear(work);
-    given
+    in_work_area(
+        work,
+        lines,
+        |area, out|
+            requires { length area.old ≡ work_length }
+            ensures { PointReadAnswered (PointReadMap (decode map.entry.now) reference.entry.now (length out.old))
+                out.old out.new result }
+        {
+            let opened = open_map(map, area)?;
+            on_map(reference, area, opened, out)
+        },
+    )
 }
 
 // The answer on a map that is ready in the work area, for a point out of a message: whether the message is of that map is asked first.
@@ -110,38 +77,18 @@ fn on_front(
     message: &[u8],
     reference: &[u8],
     work: &mut [u32],
-    nodes: u32,
-    lines: usize,
+    opened: Opened,
     out: &mut [u32],
 ) -> PointReadAnswer
-    requires { (m : Map) × Set m lines work.old × (length m.nodes ≡ nodes) }
-    ensures { (m : Map) → Set m lines work.old → length m.nodes ≡ nodes
+    requires { (m : Map) × Set m opened.lines work.old × (length m.nodes ≡ opened.nodes) }
+    ensures { (m : Map) → Set m opened.lines work.old → length m.nodes ≡ opened.nodes
         → PointReadAnswered (OnFront PointReadOutcome.refused (PointReadParsed m (parse_point reference.now) (length out.old))
         (same_map map.now message.now)) out.old out.new result }
 {
     if !same_map(map, message) {
-        return PointReadAnswer::Refused(Refusal::OtherMap);
+        return Err(Refusal::OtherMap);
     }
-    on_map(reference, work, nodes, lines, out)
-}
-
-// The answer where the work area is large enough, for a point out of a message.
-fn on_area_of_message(
-    map: &[u8],
-    message: &[u8],
-    reference: &[u8],
-    work: &mut [u32],
-    out: &mut [u32],
-) -> PointReadAnswer
-    requires { work_length ≤ length work.old }
-    ensures { PointReadAnswered (OnMap PointReadOutcome.refused (λ m. OnFront PointReadOutcome.refused
-        (PointReadParsed m (parse_point reference.now) (length out.old)) (same_map map.now message.now))
-        (decode map.now)) out.old out.new result }
-{
-    match open_map(map, work) {
-        Opened::Ready(nodes, lines) => on_front(map, message, reference, work, nodes, lines, out),
-        Opened::Refused(why) => PointReadAnswer::Refused(why),
-    }
+    on_map(reference, work, opened, out)
 }
 
 // Reads a point along a line out of a message on a map: as `read_point`, once the message's front is that of the map. Nothing else is looked at in the message.
@@ -155,10 +102,17 @@ pub fn read_point_of_message(
     ensures { PointReadOfMessageCall map.now message.now reference.now work.old lines.old result
         work.new lines.new }
 {
-    if work.len() < WORK_LENGTH {
-        return PointReadAnswer::Refused(Refusal::WorkAreaShort);
-    }
-    let given = on_area_of_message(map, message, reference, &mut work[..WORK_LENGTH], lines);
-    clear(work);
-    given
+    in_work_area(
+        work,
+        lines,
+        |area, out|
+            requires { length area.old ≡ work_length }
+            ensures { PointReadAnswered (OnMap PointReadOutcome.refused (λ m. OnFront PointReadOutcome.refused
+                (PointReadParsed m (parse_point reference.entry.now) (length out.old)) (same_map map.entry.now message.entry.now))
+                (decode map.entry.now)) out.old out.new result }
+        {
+            let opened = open_map(map, area)?;
+            on_front(map, message, reference, area, opened, out)
+        },
+    )
 }

@@ -9,9 +9,8 @@ use Rattle.model.specs.PointTrip.{PointBack, PointsAlike}
 use Rattle.model.proofs.Answering.{told_point}
 use Rattle.model.proofs.PointTrip.{point_trip}
 use Rattle.model.specs.declared.Span.{Span}
-use Rattle.model.specs.declared.PointReadAnswer.{PointReadAnswer}
-use Rattle.model.specs.declared.PointReadAnswer.TheVariants.{Read}
-use Rattle.model.specs.declared.PointWriteAnswer.TheVariants.{Written}
+use Rattle.std.specs.Prelude.{Ok}
+use Rattle.model.specs.Answer.{PointReadAnswer, point_read}
 use Rattle.round_trip.proofs.Wrote.{WroteBytes, bytes_first, fit}
 use Rattle.point_trip.specs.Told.{HandedBack}
 
@@ -19,7 +18,7 @@ use Rattle.point_trip.specs.Told.{HandedBack}
 pub record Wrote (mb : List ℕ) (p : GivenPoint) (w b b' : List ℕ) (count : ℕ) : Type 0 where
   pub so : WroteBytes (λ bs. PointWrites mb p (length w) (length b) (PointWriteOutcome.written bs)) b b' count
 
-pub wrote : {mb : List ℕ} {p : GivenPoint} {w b w' b' : List ℕ} {count : ℕ} → PointWriteCall mb p w b (Written count) w' b' → Wrote mb p w b b' count
+pub wrote : {mb : List ℕ} {p : GivenPoint} {w b w' b' : List ℕ} {count : ℕ} → PointWriteCall mb p w b (Ok count) w' b' → Wrote mb p w b b' count
 unfolding point_bytes_after
 wrote {mb} {p} {w} {b} call =
     let d = call.called.answered in
@@ -38,7 +37,7 @@ bytes_fit k same = fit k.so same
 
 -- The reader's answer, where its outcome is known.
 answer_is : {a : PointReadAnswer} {o : PointReadOutcome} {ls : List ℕ} {span : Span} {orientation side : ℕ} → PointReadAnswers a o →
-    o ≡ read ls span orientation side → a ≡ Read (length ls) span orientation side
+    o ≡ read ls span orientation side → a ≡ Ok (point_read (length ls) span orientation side)
 answer_is {ls = ls} {span = span} (PointReadAnswers.lines {ls = ks} {span = s}) e =
     let same : ks ≡ ls = cc in
     let same_span : s ≡ span = cc in

@@ -1,16 +1,14 @@
 -- What writing a point and then reading the bytes comes to (paper 02, W5): "with a full work area and a line buffer that is not empty".
-use Rattle.std.specs.Prelude.{ℕ, ◌≤◌, ◌<◌, ◌≡◌, List, length, take}
+use Rattle.std.specs.Prelude.{ℕ, ◌≤◌, ◌<◌, ◌≡◌, List, length, take, Option, Some, None, Result, Ok, Err}
 use Rattle.model.specs.Work.{work_length, placed}
 use Rattle.model.specs.PointAlong.{GivenPoint, point_given, own_leg, PointReadCall, PointWriteCall}
 use Rattle.model.specs.PointTrip.{PointBack, PointsAlike}
-use Rattle.model.specs.declared.PointReadAnswer.{PointReadAnswer}
-use Rattle.model.specs.declared.PointReadAnswer.TheVariants.{Read}
+use Rattle.model.specs.Answer.{PointReadAnswer, point_read}
+use Rattle.model.specs.declared.Refusal.{Refusal}
+use Rattle.round_trip.specs.declared.Back.{Back}
+use Rattle.round_trip.specs.declared.Which.{Which}
+use Rattle.round_trip.specs.declared.Which.TheVariants.{First, Second}
 use Rattle.point_trip.specs.declared.Given.{Given}
-use Rattle.point_trip.specs.declared.Pair.{Pair}
-use Rattle.point_trip.specs.declared.Pair.TheVariants.{FirstRefused, SecondRefused, Differ, Same}
-use Rattle.point_trip.specs.declared.Trip.{Trip}
-use Rattle.point_trip.specs.declared.Trip.TheVariants.{Refused, Back}
-use Rattle.model.specs.declared.PointWriteAnswer.TheVariants as Writer
 
 -- The point of the definitions.
 abbrev pub as_given : Given → GivenPoint
@@ -22,28 +20,31 @@ pub record HandedBack (mb : List ℕ) (p : GivenPoint) (bs work work' lines line
   pub back : PointBack mb p bs
   pub call : PointReadCall mb bs work lines a work' lines'
   pub accepts : work_length ≤ length work → 0 < length lines →
-      (a ≡ Read 1 back.span p.orientation p.side) × (lines' ≡ placed (own_leg p) lines)
+      (a ≡ Ok (point_read 1 back.span p.orientation p.side)) × (lines' ≡ placed (own_leg p) lines)
 
--- The writer's call is one of the definitions. Where it refuses nothing else is changed; where it accepts, the first `count` bytes are read.
-abbrev pub TripTells : List ℕ → GivenPoint → List ℕ → List ℕ → List ℕ → List ℕ → List ℕ → List ℕ → List ℕ → List ℕ → Trip → Type 0
-TripTells mb p w w' b b' v v' l l' (Refused why) = PointWriteCall mb p w b (Writer.Refused why) w' b' × (v' ≡ v) × (l' ≡ l)
-TripTells mb p w w' b b' v v' l l' (Back count a) =
-    PointWriteCall mb p w b (Writer.Written count) w' b' × HandedBack mb p (take count b') v v' l l' a
+-- The writer's call is one of the definitions. Where it refuses nothing else is changed; where it accepts, the first bytes, as many as it wrote, are read.
+abbrev pub TripTells : List ℕ → GivenPoint → List ℕ → List ℕ → List ℕ → List ℕ → List ℕ → List ℕ → List ℕ → List ℕ →
+    Result (Back ℕ PointReadAnswer) Refusal → Type 0
+TripTells mb p w w' b b' v v' l l' (Err why) = PointWriteCall mb p w b (Err why) w' b' × (v' ≡ v) × (l' ≡ l)
+TripTells mb p w w' b b' v v' l l' (Ok back) =
+    PointWriteCall mb p w b (Ok back.written) w' b' × HandedBack mb p (take back.written b') v v' l l' back.answer
 
 -- Two points are written one after the other, the second with the work area that the first call left.
 pub record BothWritten (mb : List ℕ) (p q : GivenPoint) (w w' b b' o o' : List ℕ) (count size : ℕ) : Type 0 where
   pub between : List ℕ
-  pub first : PointWriteCall mb p w b (Writer.Written count) between b'
-  pub second : PointWriteCall mb q between o (Writer.Written size) w' o'
+  pub first : PointWriteCall mb p w b (Ok count) between b'
+  pub second : PointWriteCall mb q between o (Ok size) w' o'
 
 -- Where both are accepted with the same bytes, they are alike, and what reading the bytes gives is so for both. Otherwise nothing is read.
-abbrev pub PairTells : List ℕ → GivenPoint → GivenPoint → List ℕ → List ℕ → List ℕ → List ℕ → List ℕ → List ℕ → List ℕ → List ℕ → List ℕ → List ℕ → Pair → Type 0
-PairTells mb p q w w' b b' o o' v v' l l' (FirstRefused why) = PointWriteCall mb p w b (Writer.Refused why) w' b' × (o' ≡ o) × (v' ≡ v) × (l' ≡ l)
-PairTells mb p q w w' b b' o o' v v' l l' (SecondRefused why) =
-    ((between : List ℕ) × (count : ℕ) × PointWriteCall mb p w b (Writer.Written count) between b' × PointWriteCall mb q between o (Writer.Refused why) w' o') ×
+abbrev pub PairTells : List ℕ → GivenPoint → GivenPoint → List ℕ → List ℕ → List ℕ → List ℕ → List ℕ → List ℕ → List ℕ → List ℕ → List ℕ → List ℕ →
+    Result (Option (Back ℕ PointReadAnswer)) (Which Refusal) → Type 0
+PairTells mb p q w w' b b' o o' v v' l l' (Err (First why)) = PointWriteCall mb p w b (Err why) w' b' × (o' ≡ o) × (v' ≡ v) × (l' ≡ l)
+PairTells mb p q w w' b b' o o' v v' l l' (Err (Second why)) =
+    ((between : List ℕ) × (count : ℕ) × PointWriteCall mb p w b (Ok count) between b' × PointWriteCall mb q between o (Err why) w' o') ×
     (v' ≡ v) × (l' ≡ l)
-PairTells mb p q w w' b b' o o' v v' l l' Differ =
+PairTells mb p q w w' b b' o o' v v' l l' (Ok None) =
     ((count : ℕ) × (size : ℕ) × BothWritten mb p q w w' b b' o o' count size × (take count b' ≡ take size o' → ⊥)) × (v' ≡ v) × (l' ≡ l)
-PairTells mb p q w w' b b' o o' v v' l l' (Same count a) =
+PairTells mb p q w w' b b' o o' v v' l l' (Ok (Some back)) =
+    let count = back.written in
     BothWritten mb p q w w' b b' o o' count count × (take count b' ≡ take count o') × PointsAlike mb (take count b') p q ×
-    HandedBack mb p (take count b') v v' l l' a × HandedBack mb q (take count b') v v' l l' a
+    HandedBack mb p (take count b') v v' l l' back.answer × HandedBack mb q (take count b') v v' l l' back.answer

@@ -7,9 +7,8 @@ use native.Mathlib.Omega.{arith}
 use lib.ListN.{length, get_or, take, drop}
 use lib.Seq.{take_at}
 use Rattle.model.specs.declared.Refusal.{Refusal}
-use Rattle.model.specs.declared.WriteAnswer.{WriteAnswer}
-use Rattle.model.specs.declared.WriteAnswer.TheVariants.{Written, Refused}
-use Rattle.model.specs.declared.PointWriteAnswer.{PointWriteAnswer}
+use Rattle.std.specs.Prelude.{Ok, Err}
+use Rattle.model.specs.Answer.{WriteAnswer, PointWriteAnswer, bytes_written}
 use Rattle.model.specs.Refusal.{row, refusal_of}
 use Rattle.model.specs.Map.{Map}
 use Rattle.model.specs.Lines.{Connected, single, first_of, last_of, leaving, arriving}
@@ -37,7 +36,6 @@ use Rattle.point_bytes.proofs.AsLine.{as_line, with_length, line_size, first_p_a
 use Rattle.point_writer.specs.PointChecks.{PutsPoint}
 use Rattle.point_writer.proofs.Answers.{refused_point}
 use Rattle.model.specs.Refusal as definitions
-use Rattle.model.specs.declared.PointWriteAnswer.TheVariants as point
 
 -- The line alone, as a stretch.
 abbrev pub own_stretch : GivenPoint → Stretch
@@ -115,7 +113,7 @@ module _ (m : Map) (p : GivenPoint) where
     pub first : after ≡ placed (line_bytes m p) before
 
   pub own_written : {before after : List ℕ} {a : WriteAnswer} {count made excess : ℕ} →
-      WriteAnswered (WriteOn m (own_stretch p) one_made (length before)) before after a → a ≡ Written count made excess → OwnWritten before after count
+      WriteAnswered (WriteOn m (own_stretch p) one_made (length before)) before after a → a ≡ Ok (bytes_written count made excess) → OwnWritten before after count
   unfolding bytes_after
   own_written {before} d e =
       let k = told_written d.answers e in
@@ -128,13 +126,13 @@ module _ (m : Map) (p : GivenPoint) where
         first = d.buffer_after ∙ ap (λ (o : WriteOutcome). bytes_after o before) k.1 ∙ ap (λ (l : List ℕ). placed l before) g.1;
       }
 
-  refused_outcome : {a : WriteAnswer} {o : WriteOutcome} {r : Refusal} → WriteAnswers a o → a ≡ Refused r → o ≡ WriteOutcome.refused (refusal_of r)
+  refused_outcome : {a : WriteAnswer} {o : WriteOutcome} {r : Refusal} → WriteAnswers a o → a ≡ Err r → o ≡ WriteOutcome.refused (refusal_of r)
   refused_outcome WriteAnswers.bytes e = absurd (let z : ◌≡◌ {A = ℕ} 0 1 = cc in omega arith)
   refused_outcome {r = r} (WriteAnswers.refusal {why = w}) e = let same : w ≡ r = cc in ap (λ (x : Refusal). WriteOutcome.refused (refusal_of x)) same
 
   pub own_refused : {before after bytes : List ℕ} {a : WriteAnswer} {r : Refusal} (room : ℕ) → longest_point ≤ length before →
-      WriteAnswered (WriteOn m (own_stretch p) one_made (length before)) before after a → a ≡ Refused r →
-      PointWriteAnswered (PointWriteOn m p room) bytes bytes (point.Refused r)
+      WriteAnswered (WriteOn m (own_stretch p) one_made (length before)) before after a → a ≡ Err r →
+      PointWriteAnswered (PointWriteOn m p room) bytes bytes (Err r)
   own_refused {r = r} room full d e =
       let k = by_refused d.outcome full (one_test d.outcome d.asked) (refused_outcome d.answers e) in
       refused_point r (rw k.0 (PointWriteOn.not_good k.1))
@@ -163,17 +161,17 @@ marked_first m p buffer after count size e =
 pub point_put : (m : Map) (p : GivenPoint) {before after : List ℕ} (a : PointWriteAnswer) → Good m true (own_leg p) →
     PutsPoint (given_bytes m p) before after a → PointWriteAnswered (PointWriteOn m p (length before)) before after a
 unfolding point_bytes_after refusal_of
-point_put m p (point.Written n) g (size, room, e) =
+point_put m p (Ok n) g (size, room, e) =
     record {
       outcome = PointWriteOutcome.written (given_bytes m p);
       asked = PointWriteOn.accepted g (omega (arith, size, room));
-      answers = subst (λ (k : ℕ). PointWriteAnswers (point.Written k) (PointWriteOutcome.written (given_bytes m p))) (sym size) PointWriteAnswers.bytes;
+      answers = subst (λ (k : ℕ). PointWriteAnswers (Ok k) (PointWriteOutcome.written (given_bytes m p))) (sym size) PointWriteAnswers.bytes;
       buffer_after = e;
     }
-point_put m p (point.Refused why) g (is, room, e) =
+point_put m p (Err why) g (is, room, e) =
     record {
       outcome = PointWriteOutcome.refused (row 11);
       asked = PointWriteOn.no_room g room;
-      answers = subst (λ (r : Refusal). PointWriteAnswers (point.Refused r) (PointWriteOutcome.refused (row 11))) (sym is) PointWriteAnswers.refusal;
+      answers = subst (λ (r : Refusal). PointWriteAnswers (Err r) (PointWriteOutcome.refused (row 11))) (sym is) PointWriteAnswers.refusal;
       buffer_after = e;
     }

@@ -9,41 +9,32 @@ ghost use Rattle.work_area.specs.Area.{Held};
 ghost use Rattle.search_cells.specs.Area.{Set};
 ghost use Rattle.point_writer.specs.PointChecks.{ChecksPoint, PutsPoint};
 
-use buffers::bytes::copy;
+use buffers::copy;
 use buffers::wide;
-use model::limits::{GREATEST_MARK, WORK_LENGTH};
-use model::{PointWriteAnswer, Refusal, WriteAnswer};
-use opening::{Opened, open_map};
+use model::limits::GREATEST_MARK;
+use model::{PointWriteAnswer, Refusal};
+use opening::open_map;
 use point_bytes::{Marks, put_marks};
-use work_area::{LENGTH, clear, field};
+use work_area::step::in_work_area;
+use work_area::{LENGTH, field};
 use writer::on_part;
 
-// Whether a point is refused as it is given: 7, 9 or 25.
-#[derive(Clone, Copy)]
-pub enum Checked {
-    Passes,
-    Refused(Refusal),
-}
-
-// Asks a point as it is given: its line, its offset, and its marks.
-fn check(work: &[u32], lines: usize, line: u32, offset: u32, marks: Marks) -> Checked
+// Asks a point as it is given: its line, its offset, and its marks. It may be refused with 7, 9 or 25.
+fn check(work: &[u32], lines: usize, line: u32, offset: u32, marks: Marks) -> Result<(), Refusal>
     requires { (m : Map) × Held work.now lines m }
     ensures { (m : Map) → Held work.now lines m → ChecksPoint m (point_given line offset marks.orientation marks.side) result }
 {
     let number = wide(line);
     if lines <= number {
-        return Checked::Refused(Refusal::StretchLines);
+        return Err(Refusal::StretchLines);
     }
     if field(work, number, LENGTH) <= offset {
-        return Checked::Refused(Refusal::StretchOffsets);
+        return Err(Refusal::StretchOffsets);
     }
-    if GREATEST_MARK < marks.orientation {
-        return Checked::Refused(Refusal::PointMarks);
+    if GREATEST_MARK < marks.orientation || GREATEST_MARK < marks.side {
+        return Err(Refusal::PointMarks);
     }
-    if GREATEST_MARK < marks.side {
-        return Checked::Refused(Refusal::PointMarks);
-    }
-    Checked::Passes
+    Ok(())
 }
 
 // Puts bytes first in the buffer, if it has room for them: their count.
@@ -51,10 +42,10 @@ fn put_bytes(from: &[u8], bytes: &mut [u8]) -> PointWriteAnswer
     ensures { PutsPoint from.now bytes.old bytes.new result }
 {
     if bytes.len() < from.len() {
-        return PointWriteAnswer::Refused(Refusal::BytesShort);
+        return Err(Refusal::BytesShort);
     }
     copy(from, bytes);
-    PointWriteAnswer::Written(from.len())
+    Ok(from.len())
 }
 
 // The answer for a point that is not refused as it is given. Its line alone is a stretch of one leg, which one test settles, and
@@ -72,15 +63,10 @@ fn on_line(
         → PointWriteAnswered (PointWriteOn m (point_given line offset marks.orientation marks.side) (length bytes.old))
         bytes.old bytes.new result }
 {
-    let stretch = [line];
-    let mut reference: [u8; 17] = [0; Marks::LONGEST];
-    match on_part(work, lines, &stretch, offset, 0, 1, &mut reference) {
-        WriteAnswer::Written(count, _, _) => {
-            put_marks(&mut reference, marks);
-            put_bytes(&reference[..count], bytes)
-        }
-        WriteAnswer::Refused(why) => PointWriteAnswer::Refused(why),
-    }
+    let mut reference = [0u8; Marks::LONGEST];
+    let written = on_part(work, lines, &[line], offset, 0, 1, &mut reference)?;
+    put_marks(&mut reference, marks);
+    put_bytes(&reference[..written.bytes], bytes)
 }
 
 // The answer on a map that is ready in the work area.
@@ -98,29 +84,8 @@ fn on_map(
         (check_point m (point_given line offset marks.orientation marks.side)) (length bytes.old))
         bytes.old bytes.new result }
 {
-    match check(work, lines, line, offset, marks) {
-        Checked::Passes => on_line(work, lines, line, offset, marks, bytes),
-        Checked::Refused(why) => PointWriteAnswer::Refused(why),
-    }
-}
-
-// The answer where the work area is large enough.
-fn on_area(
-    map: &[u8],
-    line: u32,
-    offset: u32,
-    marks: Marks,
-    work: &mut [u32],
-    bytes: &mut [u8],
-) -> PointWriteAnswer
-    requires { work_length ≤ length work.old }
-    ensures { PointWriteAnswered (PointWriteMap (decode map.now) (point_given line offset marks.orientation marks.side)
-        (length bytes.old)) bytes.old bytes.new result }
-{
-    match open_map(map, work) {
-        Opened::Ready(_, lines) => on_map(work, lines, line, offset, marks, bytes),
-        Opened::Refused(why) => PointWriteAnswer::Refused(why),
-    }
+    check(work, lines, line, offset, marks)?;
+    on_line(work, lines, line, offset, marks, bytes)
 }
 
 // Writes a point along a line on a map: `offset` centimetres from where the line starts, with its orientation and side of road. An answer that it is
@@ -137,11 +102,17 @@ pub fn write_point(
     ensures { PointWriteCall map.now (point_given line offset orientation side) work.old bytes.old result
         work.new bytes.new }
 {
-    if work.len() < WORK_LENGTH {
-        return PointWriteAnswer::Refused(Refusal::WorkAreaShort);
-    }
     let marks = Marks { orientation, side };
-    let given = on_area(map, line, offset, marks, &mut work[..WORK_LENGTH], bytes);
-    clear(work);
-    given
+    in_work_area(
+        work,
+        bytes,
+        |area, out|
+            requires { length area.old ≡ work_length }
+            ensures { PointWriteAnswered (PointWriteMap (decode map.entry.now) (point_given line offset marks.orientation marks.side) (length out.old))
+                out.old out.new result }
+        {
+            let opened = open_map(map, area)?;
+            on_map(area, opened.lines, line, offset, marks, out)
+        },
+    )
 }

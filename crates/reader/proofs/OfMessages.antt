@@ -5,7 +5,8 @@ use mathlib.Core.Bool.{false}
 use mathlib.Core.List.{List}
 use lib.ListN.{length}
 use Rattle.model.specs.declared.Refusal.{Refusal}
-use Rattle.model.specs.declared.ReadAnswer.{ReadAnswer}
+use Rattle.std.proofs.Common.{Err}
+use Rattle.model.specs.Answer.{ReadAnswer}
 use Rattle.model.specs.Refusal.{refusal_of}
 use Rattle.model.specs.Map.{Map, MapAnswer, decode}
 use Rattle.model.specs.Work.{work_length, cleared}
@@ -19,11 +20,10 @@ use Rattle.model.proofs.Answering.{refused_read}
 use Rattle.front.proofs.OnFront.{other_map}
 use Rattle.model.proofs.Answering as Answering
 use Rattle.model.specs.declared.Refusal.TheVariants as why
-use Rattle.model.specs.declared.ReadAnswer.TheVariants as Answer
 
 -- The message is of another map.
 pub front_refused : (mb message : List ℕ) (Asks : ReadOutcome → Type 0) {lines : List ℕ} → same_map mb message ≡ false →
-    ReadAnswered (OnFront ReadOutcome.refused Asks (same_map mb message)) lines lines (Answer.Refused why.OtherMap)
+    ReadAnswered (OnFront ReadOutcome.refused Asks (same_map mb message)) lines lines (Err why.OtherMap)
 unfolding refusal_of
 front_refused mb message Asks e = other_map ReadOutcome.refused Asks mb message e (refused_read why.OtherMap refl)
 
@@ -34,15 +34,12 @@ module _ (mb message ref lines : List ℕ) where
 
   -- The bytes are no map.
   pub map_refused_lem : (r : Refusal) → decode mb ≡ MapAnswer.refused (refusal_of r) →
-      ReadAnswered (OnMap ReadOutcome.refused Asks (decode mb)) lines lines (Answer.Refused r)
+      ReadAnswered (OnMap ReadOutcome.refused Asks (decode mb)) lines lines (Err r)
   map_refused_lem r e = refused_read r (rw e refl)
 
   -- The whole call.
-  pub area_short : (work : List ℕ) → length work < work_length → ReadOfMessageCall mb message ref work lines (Answer.Refused why.WorkAreaShort) work lines
-  unfolding refusal_of
-  area_short work h = record { called = Answering.area_short ReadOutcome.refused Asks mb h (refused_read why.WorkAreaShort refl) }
-
-  pub called : {after work work' : List ℕ} {a : ReadAnswer} → work_length ≤ length work →
-      ReadAnswered (OnMap ReadOutcome.refused Asks (decode mb)) lines after a → work' ≡ cleared work →
+  pub called : {after work work' : List ℕ} {a : ReadAnswer} → (length work < work_length → (a ≡ Err why.WorkAreaShort) × (after ≡ lines)) →
+      (work_length ≤ length work → ReadAnswered (OnMap ReadOutcome.refused Asks (decode mb)) lines after a) → work' ≡ cleared work →
       ReadOfMessageCall mb message ref work lines a work' after
-  called h d e = record { called = Answering.called ReadOutcome.refused Asks mb h d e }
+  unfolding refusal_of
+  called short ran e = record { called = Answering.stepped ReadOutcome.refused Asks mb (refused_read why.WorkAreaShort refl) short ran e }

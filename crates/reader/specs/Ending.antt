@@ -1,5 +1,5 @@
 -- What is promised once every leg is read.
-use Rattle.std.specs.Prelude.{ℕ, ◌≡◌, Option, Some, None, List}
+use Rattle.std.specs.Prelude.{ℕ, ◌≡◌, List, Result, Ok, Err}
 use Rattle.model.specs.Map.{Map}
 use Rattle.model.specs.Reference.{Offset, Reference}
 use Rattle.model.specs.Span.{SpanRead, NoOffset}
@@ -7,12 +7,14 @@ use Rattle.model.specs.Reading.{banned_meeting}
 use Rattle.model.specs.Outcome.{ReadOutcome, ReadJoined}
 use Rattle.model.specs.Call.{ReadAnswers}
 use Rattle.model.specs.declared.Span.{Span}
-use Rattle.model.specs.declared.ReadAnswer.{ReadAnswer}
+use Rattle.model.specs.declared.Refusal.{Refusal}
+use Rattle.model.specs.Answer.{ReadAnswer}
+use Rattle.model.specs.declared.Refusal.TheVariants as why
 
--- The span of an offset on a leg, or that no offset gives its byte.
-pub record SpansOf (leg : ℕ) (offset : Offset) (r : Option Span) : Type 0 where
-  pub between : (s : Span) → r ≡ Some s → SpanRead leg offset s
-  pub nowhere : r ≡ None → NoOffset leg offset
+-- The span of an offset on a leg; or 19, since no offset gives its byte.
+abbrev pub SpansOf : ℕ → Offset → Result Span Refusal → Type 0
+SpansOf leg offset (Ok s) = SpanRead leg offset s
+SpansOf leg offset (Err r) = NoOffset leg offset × (r ≡ why.NoOffset)
 
 -- The answer for these legs is that of the definitions: 22, 19, 20, or accepted.
 pub record Ended (m : Map) (r : Reference) (room : ℕ) (lists : List (List ℕ)) (a : ReadAnswer) : Type 0 where

@@ -7,20 +7,20 @@ ghost use Rattle.reference_legs.specs.Legs.{SumsOf};
 ghost use Rattle.reader.specs.Ending.{SpansOf, Ended};
 
 use fields::offset::span_of;
-use model::{ReadAnswer, Refusal, Span};
+use model::{ReadAnswer, ReadLines, Refusal, Span};
 use reference_legs::Sums;
-use references::reference::{Offset, negative_offset, positive_offset};
+use references::reference::{negative_offset, positive_offset};
 
 // The span of an offset on a leg of this length: 0 and 0 where there is no byte.
-fn span(leg: u32, offset: Offset) -> Option<Span>
+fn span(leg: u32, offset: Option<u32>) -> Result<Span, Refusal>
     ensures { SpansOf leg (offset_in offset) result }
 {
     match offset {
-        Offset::Absent => Some(Span {
+        None => Ok(Span {
             least: 0,
             greatest: 0,
         }),
-        Offset::Byte(byte) => span_of(leg, byte),
+        Some(byte) => span_of(leg, byte).ok_or(Refusal::NoOffset),
     }
 }
 
@@ -30,19 +30,19 @@ pub fn answer(bytes: &[u8], points: usize, sums: Sums, room: usize) -> ReadAnswe
     ensures { (m : Map) → (lists : List (List ℕ)) → SumsOf m lists sums → Ended m (reference_at bytes.now points) room lists result }
 {
     if sums.barred {
-        return ReadAnswer::Refused(Refusal::JoinedBan);
+        return Err(Refusal::JoinedBan);
     }
-    let Some(positive) = span(sums.first, positive_offset(bytes, points)) else {
-        return ReadAnswer::Refused(Refusal::NoOffset);
-    };
-    let Some(negative) = span(sums.last, negative_offset(bytes, points)) else {
-        return ReadAnswer::Refused(Refusal::NoOffset);
-    };
+    let positive = span(sums.first, positive_offset(bytes, points))?;
+    let negative = span(sums.last, negative_offset(bytes, points))?;
     if sums.length as u64 <= positive.least as u64 + negative.least as u64 {
-        return ReadAnswer::Refused(Refusal::NoOffset);
+        return Err(Refusal::NoOffset);
     }
     if room < sums.count {
-        return ReadAnswer::Refused(Refusal::LinesShort);
+        return Err(Refusal::LinesShort);
     }
-    ReadAnswer::Read(sums.count, positive, negative)
+    Ok(ReadLines {
+        count: sums.count,
+        positive,
+        negative,
+    })
 }

@@ -21,13 +21,12 @@ ghost use Rattle.model.specs.Locate as definitions;
 use buffers::copy;
 use ending::answer;
 use front::same_map;
-use model::limits::WORK_LENGTH;
 use model::{ReadAnswer, Refusal};
 use opening::{Opened, open_map};
-use reference_legs::{Legs, read_legs};
-use references::points::{Places, locate};
-use references::reference::{Form, Reference};
-use work_area::clear;
+use reference_legs::read_legs;
+use references::points::locate;
+use references::reference::Reference;
+use work_area::step::in_work_area;
 
 mod ending;
 
@@ -56,7 +55,8 @@ fn put_lines(
         copy(&kept[..count], out);
         return;
     }
-    read_legs(bytes, points, places, work, lines, out);
+    // The same legs have been read once, so all of them are read again.
+    let _ = read_legs(bytes, points, places, work, lines, out);
 }
 
 // The answer for a reference whose points' nodes are known.
@@ -75,17 +75,10 @@ fn on_places(
         → ReadAnswered (ReadOn m (reference_at bytes.now points) (length out.old)) out.old out.new result }
 {
     let mut kept = [0; KEPT_LINES];
-    match read_legs(bytes, points, places, work, lines, &mut kept) {
-        Legs::Every(sums) => {
-            let given = answer(bytes, points, sums, out.len());
-            if let ReadAnswer::Read(count, _, _) = given {
-                put_lines(bytes, points, places, work, lines, &kept, count, out);
-            }
-            given
-        }
-        Legs::Unread(leg) => ReadAnswer::Refused(Refusal::NoReading(leg)),
-        Legs::Several(leg) => ReadAnswer::Refused(Refusal::SeveralReadings(leg)),
-    }
+    let sums = read_legs(bytes, points, places, work, lines, &mut kept)?;
+    let found = answer(bytes, points, sums, out.len())?;
+    put_lines(bytes, points, places, work, lines, &kept, found.count, out);
+    Ok(found)
 }
 
 // The answer for bytes that are a reference.
@@ -93,50 +86,27 @@ pub fn on_points(
     bytes: &[u8],
     points: usize,
     work: &mut [u32],
-    nodes: u32,
-    lines: usize,
+    opened: Opened,
     out: &mut [u32],
 ) -> ReadAnswer
     requires sound_bytes { SoundBytes bytes.now points }
-    requires set { (m : Map) × Set m lines work.old × (length m.nodes ≡ nodes) }
-    ensures { (m : Map) → Set m lines work.old → length m.nodes ≡ nodes
+    requires set { (m : Map) × Set m opened.lines work.old × (length m.nodes ≡ opened.nodes) }
+    ensures { (m : Map) → Set m opened.lines work.old → length m.nodes ≡ opened.nodes
         → ReadAnswered (ReadOn m (reference_at bytes.now points) (length out.old)) out.old out.new result }
 {
     let mut places = [0; Reference::MOST_POINTS];
-    match locate(bytes, points, work, nodes, &mut places) {
-        Places::Found => on_places(bytes, points, &places, work, lines, out),
-        Places::NoNode(point) => ReadAnswer::Refused(Refusal::NoNode(point)),
-    }
+    locate(bytes, points, work, opened.nodes, &mut places)?;
+    on_places(bytes, points, &places, work, opened.lines, out)
 }
 
 // The answer on a map that is ready in the work area.
-fn on_map(
-    reference: &[u8],
-    work: &mut [u32],
-    nodes: u32,
-    lines: usize,
-    out: &mut [u32],
-) -> ReadAnswer
-    requires { (m : Map) × Set m lines work.old × (length m.nodes ≡ nodes) }
-    ensures { (m : Map) → Set m lines work.old → length m.nodes ≡ nodes
+fn on_map(reference: &[u8], work: &mut [u32], opened: Opened, out: &mut [u32]) -> ReadAnswer
+    requires { (m : Map) × Set m opened.lines work.old × (length m.nodes ≡ opened.nodes) }
+    ensures { (m : Map) → Set m opened.lines work.old → length m.nodes ≡ opened.nodes
         → ReadAnswered (ReadParsed m (parse reference.now) (length out.old)) out.old out.new result }
 {
-    match Reference::of(reference) {
-        Form::Sound(sound) => on_points(reference, sound.points, work, nodes, lines, out),
-        Form::Refused(why) => ReadAnswer::Refused(why),
-    }
-}
-
-// The answer where the work area is large enough.
-fn on_area(map: &[u8], reference: &[u8], work: &mut [u32], out: &mut [u32]) -> ReadAnswer
-    requires { work_length ≤ length work.old }
-    ensures { ReadAnswered (ReadMap (decode map.now) reference.now (length out.old))
-        out.old out.new result }
-{
-    match open_map(map, work) {
-        Opened::Ready(nodes, lines) => on_map(reference, work, nodes, lines, out),
-        Opened::Refused(why) => ReadAnswer::Refused(why),
-    }
+    let sound = Reference::of(reference)?;
+    on_points(reference, sound.points, work, opened, out)
 }
 
 // Reads a reference on a map. An answer that it is read has the count of lines, which stand first in `lines`, and the spans of the two offsets.
@@ -144,12 +114,18 @@ fn on_area(map: &[u8], reference: &[u8], work: &mut [u32], out: &mut [u32]) -> R
 pub fn read(map: &[u8], reference: &[u8], work: &mut [u32], lines: &mut [u32]) -> ReadAnswer
     ensures { ReadCall map.now reference.now work.old lines.old result work.new lines.new }
 {
-    if work.len() < WORK_LENGTH {
-        return ReadAnswer::Refused(Refusal::WorkAreaShort);
-    }
-    let given = on_area(map, reference, &mut work[..WORK_LENGTH], lines);
-    clear(work);
-    given
+    in_work_area(
+        work,
+        lines,
+        |area, out|
+            requires { length area.old ≡ work_length }
+            ensures { ReadAnswered (ReadMap (decode map.entry.now) reference.entry.now (length out.old))
+                out.old out.new result }
+        {
+            let opened = open_map(map, area)?;
+            on_map(reference, area, opened, out)
+        },
+    )
 }
 
 // The answer on a map that is ready in the work area, for a reference out of a message: whether the message is of that map is asked first.
@@ -158,38 +134,18 @@ fn on_front(
     message: &[u8],
     reference: &[u8],
     work: &mut [u32],
-    nodes: u32,
-    lines: usize,
+    opened: Opened,
     out: &mut [u32],
 ) -> ReadAnswer
-    requires { (m : Map) × Set m lines work.old × (length m.nodes ≡ nodes) }
-    ensures { (m : Map) → Set m lines work.old → length m.nodes ≡ nodes
+    requires { (m : Map) × Set m opened.lines work.old × (length m.nodes ≡ opened.nodes) }
+    ensures { (m : Map) → Set m opened.lines work.old → length m.nodes ≡ opened.nodes
         → ReadAnswered (OnFront ReadOutcome.refused (ReadParsed m (parse reference.now) (length out.old))
         (same_map map.now message.now)) out.old out.new result }
 {
     if !same_map(map, message) {
-        return ReadAnswer::Refused(Refusal::OtherMap);
+        return Err(Refusal::OtherMap);
     }
-    on_map(reference, work, nodes, lines, out)
-}
-
-// The answer where the work area is large enough, for a reference out of a message.
-fn on_area_of_message(
-    map: &[u8],
-    message: &[u8],
-    reference: &[u8],
-    work: &mut [u32],
-    out: &mut [u32],
-) -> ReadAnswer
-    requires { work_length ≤ length work.old }
-    ensures { ReadAnswered (OnMap ReadOutcome.refused (λ m. OnFront ReadOutcome.refused
-        (ReadParsed m (parse reference.now) (length out.old)) (same_map map.now message.now))
-        (decode map.now)) out.old out.new result }
-{
-    match open_map(map, work) {
-        Opened::Ready(nodes, lines) => on_front(map, message, reference, work, nodes, lines, out),
-        Opened::Refused(why) => ReadAnswer::Refused(why),
-    }
+    on_map(reference, work, opened, out)
 }
 
 // Reads a reference out of a message on a map: as `read`, once the message's front is that of the map. Nothing else is looked at in the message.
@@ -203,10 +159,17 @@ pub fn read_of_message(
     ensures { ReadOfMessageCall map.now message.now reference.now work.old lines.old result
         work.new lines.new }
 {
-    if work.len() < WORK_LENGTH {
-        return ReadAnswer::Refused(Refusal::WorkAreaShort);
-    }
-    let given = on_area_of_message(map, message, reference, &mut work[..WORK_LENGTH], lines);
-    clear(work);
-    given
+    in_work_area(
+        work,
+        lines,
+        |area, out|
+            requires { length area.old ≡ work_length }
+            ensures { ReadAnswered (OnMap ReadOutcome.refused (λ m. OnFront ReadOutcome.refused
+                (ReadParsed m (parse reference.entry.now) (length out.old)) (same_map map.entry.now message.entry.now))
+                (decode map.entry.now)) out.old out.new result }
+        {
+            let opened = open_map(map, area)?;
+            on_front(map, message, reference, area, opened, out)
+        },
+    )
 }

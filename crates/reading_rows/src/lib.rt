@@ -5,7 +5,6 @@
 ghost use Rattle.std.specs.Counts.{IsPrefixLen};
 
 use answer_text::{put, put_head, put_number};
-use buffers::lesser;
 use cases::sum_of;
 use console::hand_over;
 use marks::{is_kept, put_rest, put_work};
@@ -14,28 +13,20 @@ use model::{PointReadAnswer, ReadAnswer, Span};
 // More bytes than a row has: 118 for the answer's first row, 25 for the sum, 13 for each of the last two.
 const ROW: usize = 192;
 
-// How many lines an answer hands back.
-fn count_of(answer: ReadAnswer) -> usize {
-    match answer {
-        ReadAnswer::Read(count, _, _) => count,
-        ReadAnswer::Refused(_) => 0,
-    }
-}
-
 // Puts an answer's first row and, where it hands back lines, a sum over them; a count beyond the buffer shows by itself.
 fn put_sum(answer: ReadAnswer, lines: &[u32], row: &mut [u8]) -> usize {
     let end = put_head(answer, row, 0);
-    let ReadAnswer::Read(count, _, _) = answer else {
+    let Ok(found) = answer else {
         return end;
     };
-    let handed_back = lesser(count, lines.len());
+    let handed_back = found.count.min(lines.len());
     put_number(b" sum ", sum_of(lines, 0, handed_back, 0), row, end)
 }
 
 // Prints the row of a reading of lines.
 pub fn show_lines(rt: &impl Print, answer: ReadAnswer, work: &[u32], lines: &[u32]) {
     let mut row = [0; ROW];
-    let count = lesser(count_of(answer), lines.len());
+    let count = answer.map_or(0, |found| found.count).min(lines.len());
     let sum = put_sum(answer, lines, &mut row);
     let state = put_work(work, &mut row, sum);
     let rest = put_rest(is_kept(lines, count), &mut row, state);
@@ -66,27 +57,19 @@ pub fn put_point(answer: PointReadAnswer, lines: &[u32], row: &mut [u8], at: usi
     ensures { IsPrefixLen result row.new }
 {
     match answer {
-        PointReadAnswer::Read(count, span, orientation, side) => {
-            let sum = sum_of(lines, 0, lesser(count, lines.len()), 0);
-            let end = put_span(count, span, row, at);
-            put_rest_of_point(orientation, side, sum, row, end)
+        Ok(found) => {
+            let sum = sum_of(lines, 0, found.count.min(lines.len()), 0);
+            let end = put_span(found.count, found.offset, row, at);
+            put_rest_of_point(found.orientation, found.side, sum, row, end)
         }
-        PointReadAnswer::Refused(why) => put_head(ReadAnswer::Refused(why), row, at),
-    }
-}
-
-// How many lines an answer hands back.
-fn point_line_count(answer: PointReadAnswer) -> usize {
-    match answer {
-        PointReadAnswer::Read(count, _, _, _) => count,
-        PointReadAnswer::Refused(_) => 0,
+        Err(why) => put_head(Err(why), row, at),
     }
 }
 
 // Prints the row of a reading of a point.
 pub fn show_point(rt: &impl Print, answer: PointReadAnswer, work: &[u32], lines: &[u32]) {
     let mut row = [0; ROW];
-    let count = lesser(point_line_count(answer), lines.len());
+    let count = answer.map_or(0, |found| found.count).min(lines.len());
     let told = put_point(answer, lines, &mut row, 0);
     let state = put_work(work, &mut row, told);
     let rest = put_rest(is_kept(lines, count), &mut row, state);

@@ -84,26 +84,6 @@ fn put_reading(work: &[u32], found: Verdict, out: &mut [u32], from: usize)
     write_lines(work, reading.first, &mut out[from..from + reading.count]);
 }
 
-// The verdict on the readings of a leg, to all of its termini. Where there is exactly one, its lines stand in `out` from number `from` on, if there is room.
-fn read_leg(work: &mut [u32], lines: usize, leg: Leg, out: &mut [u32], from: usize) -> Verdict
-    requires { (m : Map) × Set m lines work.old × (leg.to < length m.nodes) }
-    ensures { (m : Map) → Set m lines work.old → leg.to < length m.nodes
-        → Judged m lines (definitions.Reading m (leg_in leg)) (λ r ls. Inserted from ls out.old out.new) work.old work.new result }
-{
-    let mut found = Verdict::Unread;
-    let mut at = first_terminus(work, lines, leg);
-    while 0 < at {
-        let more = read_terminus(work, lines, at, leg);
-        put_reading(work, more, out, from);
-        found = both(found, more);
-        if let Verdict::Several = found {
-            return found;
-        }
-        at = next_terminus(work, lines, at, leg);
-    }
-    found
-}
-
 // Reads every leg between the nodes in `places`, up to the first without exactly one reading: that is refusal 17 or 18. The lines of the legs stand in
 // `out` as long as there is room.
 pub fn read_legs(
@@ -120,15 +100,26 @@ pub fn read_legs(
         → LegsDone m lines (legs_at bytes.now points places.now) work.new out.old out.new result }
 {
     let mut sums = Sums::default();
-    for k in 0..points {
-        let leg = leg_at(bytes, points, places, k);
-        let reading = match read_leg(work, lines, leg, out, sums.count) {
-            Verdict::One(reading) => reading,
-            Verdict::Unread => return Err(Refusal::NoReading(k as u32)),
-            Verdict::Several => return Err(Refusal::SeveralReadings(k as u32)),
-        };
-        let barred = barred_with(work, lines, sums, k, reading);
-        sums = with_leg(sums, k, reading, barred);
+    'legs: {
+        for k in 0..points {
+            let leg = leg_at(bytes, points, places, k);
+            let mut found = Verdict::Unread;
+            let mut at = first_terminus(work, lines, leg);
+            while 0 < at {
+                let more = read_terminus(work, lines, at, leg);
+                put_reading(work, more, out, sums.count);
+                found = both(found, more);
+                if let Verdict::Several = found {
+                    break 'legs Err(Refusal::SeveralReadings(k as u32));
+                }
+                at = next_terminus(work, lines, at, leg);
+            }
+            let Verdict::One(reading) = found else {
+                break 'legs Err(Refusal::NoReading(k as u32));
+            };
+            let barred = barred_with(work, lines, sums, k, reading);
+            sums = with_leg(sums, k, reading, barred);
+        }
+        Ok(sums)
     }
-    Ok(sums)
 }

@@ -4,7 +4,6 @@ ghost use Rattle.model.specs.Reference.{attributes, flags, spare_bits, offset_at
 ghost use Rattle.fields.specs.Leg.{attributes_in};
 ghost use Rattle.references.specs.Form.{FormOf, SoundBytes, offset_in};
 
-use buffers::bytes::wide;
 use fields::leg::Attributes;
 use model::Refusal;
 use model::limits::LONGEST_REFERENCE;
@@ -68,7 +67,7 @@ pub fn byte_at(bytes: &[u8], i: usize) -> u32
     requires { i < length bytes.now }
     ensures { (result ≡ get_or bytes.now i 0) × (result < 256) }
 {
-    wide(bytes[i])
+    u32::from(bytes[i])
 }
 
 // Byte R, after the last point's P.

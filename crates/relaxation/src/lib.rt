@@ -29,13 +29,7 @@ pub struct Going {
 fn noted(x: u32, note: u32) -> u32
     ensures { Noted x note result }
 {
-    if x == 0 {
-        return note;
-    }
-    if x == note {
-        return note;
-    }
-    SEVERAL
+    if x == 0 || x == note { note } else { SEVERAL }
 }
 
 // Records `note` for a predecessor of line `j`.
@@ -84,10 +78,7 @@ fn is_barred(work: &[u32], l: usize, j: usize) -> bool
     requires { (j < greatest_line_count) × (l < greatest_line_count) × (work_length ≤ length work.now) }
     ensures { Decides (marked work.now j ≡ l) result }
 {
-    if work[NEXT + j] / MARK_WEIGHT != l as u32 {
-        return false;
-    }
-    true
+    work[NEXT + j] / MARK_WEIGHT == l as u32
 }
 
 // Takes a line that the search goes on from into account at line `j`, which starts where it ends: the list and the queue now.

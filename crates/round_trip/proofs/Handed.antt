@@ -11,10 +11,10 @@ use Rattle.model.specs.Demand3.{ReadBack, Alike}
 use Rattle.model.proofs.Answering.{told_written}
 use Rattle.model.proofs.Demand3.{demand3}
 use Rattle.model.specs.declared.Span.{Span}
-use Rattle.model.specs.declared.ReadAnswer.{ReadAnswer}
-use Rattle.model.specs.declared.ReadAnswer.TheVariants.{Read}
-use Rattle.model.specs.declared.WriteAnswer.TheVariants.{Written}
-use Rattle.round_trip.specs.Trip.{HandedBack}
+use Rattle.std.specs.Prelude.{Ok}
+use Rattle.model.specs.Answer.{ReadAnswer, lines_read}
+use Rattle.model.specs.declared.WrittenBytes.{WrittenBytes}
+use Rattle.round_trip.specs.Trip.{HandedBack, WritesCount}
 use Rattle.round_trip.proofs.Wrote.{WroteBytes, bytes_first, fit}
 
 -- A writer's call that answers a count of bytes.
@@ -23,15 +23,15 @@ pub record Wrote (mb : List ℕ) (s : Stretch) (tests : ℕ) (w b b' : List ℕ)
   pub excess : ℕ
   pub so : WroteBytes (λ bs. Writes mb s tests (length w) (length b) (written bs made excess)) b b' count
 
-pub wrote : {mb : List ℕ} {s : Stretch} {tests : ℕ} {w b w' b' : List ℕ} {count made excess : ℕ} →
-    WriteCall mb s tests w b (Written count made excess) w' b' → Wrote mb s tests w b b' count
+pub wrote : {mb : List ℕ} {s : Stretch} {tests : ℕ} {w b w' b' : List ℕ} {written : WrittenBytes} →
+    WriteCall mb s tests w b (Ok written) w' b' → Wrote mb s tests w b b' written.bytes
 unfolding bytes_after
-wrote {mb} {s} {tests} {w} {b} {made = made} {excess = excess} call =
+wrote {mb} {s} {tests} {w} {b} {written = to} call =
     let d = call.called.answered in
-    let k = told_written d.answers refl in
+    let k = told_written {count = to.bytes} {made = to.tests} {excess = to.excess} d.answers refl in
     record {
-      made = made;
-      excess = excess;
+      made = to.tests;
+      excess = to.excess;
       so = record {
         list = k.0;
         writes = subst (λ (o : WriteOutcome). Writes mb s tests (length w) (length b) o) k.1 d.asked;
@@ -40,12 +40,16 @@ wrote {mb} {s} {tests} {w} {b} {made = made} {excess = excess} call =
       };
     }
 
+pub writes_count : {mb : List ℕ} {s : Stretch} {tests : ℕ} {w b w' b' : List ℕ} {written : WrittenBytes} →
+    WriteCall mb s tests w b (Ok written) w' b' → WritesCount mb s tests w b written.bytes w' b'
+writes_count call = (_, _, call)
+
 pub bytes_fit : {mb : List ℕ} {s : Stretch} {tests : ℕ} {w b b' : List ℕ} {count : ℕ} → Wrote mb s tests w b b' count → length b' ≡ length b →
     count ≤ length b'
 bytes_fit k same = fit k.so same
 
 -- The reader's answer, where its outcome is known.
-answer_is : {a : ReadAnswer} {o : ReadOutcome} {ls : List ℕ} {pos neg : Span} → ReadAnswers a o → o ≡ read ls pos neg → a ≡ Read (length ls) pos neg
+answer_is : {a : ReadAnswer} {o : ReadOutcome} {ls : List ℕ} {pos neg : Span} → ReadAnswers a o → o ≡ read ls pos neg → a ≡ Ok (lines_read (length ls) pos neg)
 answer_is {ls = ls} {pos = pos} {neg = neg} (lines {ls = ks} {pos = p} {neg = n}) e =
     let same : ks ≡ ls = cc in
     let same_pos : p ≡ pos = cc in

@@ -48,6 +48,7 @@ pub fn search(work: &mut [u32], lines: usize, from: Terminus, class: u32, limit:
 {
     let mut list = begin(work, lines, from, class, limit);
     let mut place: usize = 0;
+    // The end moves on as the search does, so there is no range to go over.
     while place < list.end {
         list = expand(work, lines, place, list, class, limit);
         place += 1;

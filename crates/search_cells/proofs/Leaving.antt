@@ -15,9 +15,9 @@ use lib.Dec.{eqb}
 use lib.ListN.{length, get_or, set, length-set}
 use lib.Seq.{get_or-set_other}
 use Rattle.model.specs.Lines.{line_at}
-use Rattle.buffers.specs.Kept.{Kept, Filled}
+use Rattle.buffers.specs.Kept.{Kept}
 use Rattle.search_cells.specs.Promises.{Linked}
-use Rattle.buffers.proofs.Kept.{kept_none, kept_then, at_set, kept_set}
+use Rattle.buffers.proofs.Kept.{kept_then, at_set, kept_set}
 use Rattle.search_cells.proofs.Reached.{listing_none}
 use Rattle.buffers.proofs.Cases.{picked, le_or_lt, here_or}
 use Rattle.search_cells.proofs.Holding.{held_kept, line_ok, few}
@@ -102,16 +102,6 @@ pub record Linking (w : List ℕ) (i : ℕ) (m : Map) (v : List ℕ) : Type 0 wh
   pub all : (l : ℕ) → l < i → far ≤ length_to v l
   pub kept : Kept search_from last_barred_from w v
 
-pub link_none : {w v : List ℕ} {n : ℕ} {m : Map} → Mirrored v n m → Filled heads_from greatest_node_count 0 w v → Linking v 0 m v
-link_none h f =
-    let k = h.formed in
-    record {
-      heads = λ a a<. f.filled a (omega arith);
-      nexts = λ l l<. absurd (omega arith);
-      all = λ l l<. absurd (omega arith);
-      kept = kept_none;
-    }
-
 pub linked : {w v : List ℕ} {n : ℕ} {m : Map} → n ≤ greatest_line_count → Linking w n m v → Linked w n m v
 linked {n = n} {m = m} few k =
     record {
@@ -179,6 +169,3 @@ module _ {w : List ℕ} {n l v : ℕ} {m : Map} (h : Mirrored w n m) (l< : l < n
 
   pub end_in : v < length m.nodes
   end_in = omega (arith, end_is, (line_ok h l<).end)
-
-  pub end_small : v < greatest_node_count
-  end_small = let f = h.formed in omega (arith, end_in)

@@ -6,7 +6,6 @@ pub mod Places
 pub mod Keeping
 pub mod Leaving
 pub mod Resetting
-pub mod Putting
 pub mod Inserting
 pub mod Sending
 pub mod Listing

@@ -13,7 +13,7 @@ use lib.ListN.{length, get_or, set, length-set}
 use lib.Seq.{get_or-set_other}
 use Rattle.buffers.specs.Kept.{Kept}
 use Rattle.search_cells.specs.Promises.{Reset}
-use Rattle.buffers.proofs.Kept.{kept_none, kept_then, at_set, kept_set}
+use Rattle.buffers.proofs.Kept.{kept_then, at_set, kept_set}
 use Rattle.search_cells.proofs.Reached.{listing_none}
 use Rattle.search_cells.proofs.Keeping.{marked_same}
 use Rattle.search_cells.proofs.Places.{place_le, past}
@@ -40,23 +40,6 @@ pub record Resetting (m : Map) (n count i : ℕ) (u w : List ℕ) : Type 0 where
   pub every : (l : ℕ) → l < n → length_to w l < far → (k : ℕ) × (i ≤ k) × (k < count) × (listed u k ≡ l + 1)
   pub bare : (a : ℕ) → a < length m.nodes → 0 < nearest_free w a → (k : ℕ) × (i ≤ k) × (k < count) × ((line_at m (listed u k - 1)).end ≡ a)
   pub kept : Kept search_from last_barred_from u w
-
-pub resetting_start : {m : Map} {n : ℕ} {u : List ℕ} (ch : Chained u n m) → Resetting m n ch.listing.0 0 u u
-resetting_start {m} {u = u} ch =
-    let s = ch.listing.1 in
-    record {
-      heads = λ a a<. refl;
-      nexts = λ k k<. (refl, refl);
-      gone = λ k k<. absurd (omega arith);
-      left = λ k i k<. refl;
-      every = λ l l< d. let a = s.every l l< d in (a.0, omega arith, a.1, a.2);
-      bare = λ a a< p.
-          let b = ch.bare a a< p in
-          let e = s.every b.0 b.1 b.2 in
-          let z : listed u e.0 - 1 ≡ b.0 = omega (arith, e.2) in
-          (e.0, omega arith, e.1, rw z b.3);
-      kept = kept_none;
-    }
 
 module _ {n count i : ℕ} {u w : List ℕ} {m : Map} (h : Mirrored u n m) (s : Listing u n count) (i< : i < n) (k : Resetting m n count i u w) where
   -- What stands at place `i`.

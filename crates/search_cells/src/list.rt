@@ -76,6 +76,7 @@ pub fn insert(work: &mut [u32], end: usize, key: u32)
         → Inserted place end key work.old work.new }
 {
     let mut i = end;
+    // A key before the end is not greater: so this test ends the loop, and a range would add its own to each turn.
     while key < work[QUEUE + i - 1] {
         work[QUEUE + i] = work[QUEUE + i - 1];
         i -= 1;

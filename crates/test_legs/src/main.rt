@@ -17,7 +17,7 @@ use fields::leg::{Attributes, Leg, Reading, Verdict, longest_leg};
 use legs::first_lines::both;
 use model::limits::WORK_LENGTH;
 use model::number_of;
-use opening::{Opened, open_map};
+use opening::open_map;
 use reference_legs::termini::{first_terminus, next_terminus, read_terminus};
 use search::search;
 use way_lengths::Terminus;
@@ -162,8 +162,8 @@ fn show(rt: &impl Print, map: &[u8], words: &[u8], work: &mut [u32])
     requires { work_length ≤ length work.old }
 {
     match open_map(map, work) {
-        Opened::Ready(nodes, lines) => show_leg(rt, work, nodes, lines, leg_of(words)),
-        Opened::Refused(why) => {
+        Ok(opened) => show_leg(rt, work, opened.nodes, opened.lines, leg_of(words)),
+        Err(why) => {
             print(rt, b"refused ", number_of(why) as u64);
         }
     }
@@ -174,21 +174,16 @@ fn run(rt: &impl Print, bytes: &[u8], work: &mut [u32])
     requires { work_length ≤ length work.old }
 {
     let mut at: usize = 0;
-    let mut map_from: usize = 0;
-    let mut map_to: usize = 0;
-    loop {
-        let Part::At(from, middle) = cases::part_at(bytes, at) else {
+    let mut map = Part { start: 0, end: 0 };
+    while let Some(given) = cases::part_at(bytes, at) {
+        let Some(leg) = cases::part_at(bytes, given.end) else {
             return;
         };
-        let Part::At(start, to) = cases::part_at(bytes, middle) else {
-            return;
-        };
-        at = to;
-        if from < middle {
-            map_from = from;
-            map_to = middle;
+        at = leg.end;
+        if given.start < given.end {
+            map = given;
         }
-        show(rt, &bytes[map_from..map_to], &bytes[start..to], work);
+        show(rt, &bytes[map.start..map.end], &bytes[leg.start..leg.end], work);
         hand_over(rt, b"\n");
     }
 }

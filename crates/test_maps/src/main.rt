@@ -7,9 +7,9 @@ ghost use Rattle.model.specs.Work.{work_length};
 ghost use Rattle.std.specs.Prelude.{◌≤◌, ◌<◌, length};
 
 use buffers::wide;
-use cases::{Part, sum_of};
+use cases::sum_of;
 use console::{hand_over, print};
-use depot_map::{MapRead, read_map};
+use depot_map::read_map;
 use model::limits::WORK_LENGTH;
 use model::number_of;
 use work_area::{BAN_EARLIER, BAN_HEADS, BAN_SECONDS, BANS, LINE_NUMBERS, LINES, NODE_NUMBERS};
@@ -24,10 +24,7 @@ fn put_chain(work: &[u32], l: usize, turns: &mut [u32], from: usize) -> usize
     let mut x = wide(work[BAN_HEADS + l]);
     while 0 < x {
         // A chain goes back, and its turns are among the map's. One that does not is cut.
-        if BANS < x {
-            return n;
-        }
-        if turns.len() - n < 2 {
+        if BANS < x || turns.len() - n < 2 {
             return n;
         }
         turns[n] = work[BAN_SECONDS + (x - 1)];
@@ -48,10 +45,8 @@ fn put_chains(work: &[u32], lines: usize, turns: &mut [u32]) -> usize
     ensures { result ≤ length turns.old }
 {
     let mut n = 0;
-    let mut l = 0;
-    while l < lines {
+    for l in 0..lines {
         n = put_chain(work, l, turns, n);
-        l += 1;
     }
     n
 }
@@ -60,18 +55,18 @@ fn show(rt: &impl Print, map: &[u8], work: &mut [u32])
     requires { work_length ≤ length work.old }
 {
     match read_map(map, work) {
-        MapRead::Whole(nodes, lines) => {
-            let count = lines as usize;
+        Ok(counts) => {
+            let lines = counts.lines as usize;
             let mut turns = [0; 2 * BANS];
-            let n = put_chains(work, count, &mut turns);
-            let of_nodes = sum_of(work, 0, NODE_NUMBERS * nodes as usize, 0);
-            let of_lines = sum_of(work, LINES, LINES + LINE_NUMBERS * count, of_nodes);
-            print(rt, b"nodes ", nodes as u64);
-            print(rt, b" lines ", lines as u64);
+            let n = put_chains(work, lines, &mut turns);
+            let of_nodes = sum_of(work, 0, NODE_NUMBERS * counts.nodes as usize, 0);
+            let of_lines = sum_of(work, LINES, LINES + LINE_NUMBERS * lines, of_nodes);
+            print(rt, b"nodes ", counts.nodes as u64);
+            print(rt, b" lines ", counts.lines as u64);
             print(rt, b" bans ", (n / 2) as u64);
             print(rt, b" sum ", sum_of(&turns, 0, n, of_lines));
         }
-        MapRead::Refused(why) => {
+        Err(why) => {
             print(rt, b"refused ", number_of(why) as u64);
         }
     }
@@ -82,12 +77,9 @@ fn run(rt: &impl Print, bytes: &[u8], work: &mut [u32])
     requires { work_length ≤ length work.old }
 {
     let mut at = 0;
-    loop {
-        let Part::At(from, to) = cases::part_at(bytes, at) else {
-            return;
-        };
-        show(rt, &bytes[from..to], work);
-        at = to;
+    while let Some(part) = cases::part_at(bytes, at) {
+        show(rt, &bytes[part.start..part.end], work);
+        at = part.end;
     }
 }
 

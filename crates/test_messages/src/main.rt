@@ -6,7 +6,6 @@
 ghost use Rattle.std.specs.Counts.{IsPrefixLen};
 
 use answer_text::{put, put_number};
-use buffers::lesser;
 use cases::{Part, sum_of_bytes, word_at};
 use console::hand_over;
 use marks::{fill, fill_bytes, put_work};
@@ -164,7 +163,7 @@ fn run_start(
     buffer: &mut [u8],
     work: &mut [u32],
 ) -> Message {
-    let length = lesser(word_at(rest, 0) as usize, work.len());
+    let length = (word_at(rest, 0) as usize).min(work.len());
     start_with(rt, map, m, buffer, &mut work[..length])
 }
 
@@ -224,10 +223,10 @@ fn run_read(
     work: &mut [u32],
     lines: &mut [u32],
 ) {
-    let length = lesser(word_at(rest, 0) as usize, work.len());
-    let room = lesser(word_at(rest, 4) as usize, lines.len());
-    let from = lesser(12, rest.len());
-    let to = lesser(from + word_at(rest, 8) as usize, rest.len());
+    let length = (word_at(rest, 0) as usize).min(work.len());
+    let room = (word_at(rest, 4) as usize).min(lines.len());
+    let from = rest.len().min(12);
+    let to = (from + word_at(rest, 8) as usize).min(rest.len());
     run_kind(
         rt,
         kind,
@@ -256,7 +255,7 @@ fn run_call(rt: &impl Print, kind: Kind, rest: &[u8], m: Message, buffer: &mut [
             m
         }
         _ => {
-            let number = lesser(4, rest.len());
+            let number = rest.len().min(4);
             ask_received(rt, &rest[number..], word_at(rest, 0));
             m
         }
@@ -286,7 +285,7 @@ fn run_on_map(
 
 // A buffer of as many bytes as the part's number says, filled with marks, and no message in it.
 fn begin(part: &[u8], buffer: &mut [u8]) -> Written {
-    let room = lesser(word_at(part, 1) as usize, buffer.len());
+    let room = (word_at(part, 1) as usize).min(buffer.len());
     fill_bytes(&mut buffer[..room]);
     Written {
         message: Message::Closed(0),
@@ -304,7 +303,7 @@ fn kind_of(part: &[u8]) -> Kind {
 
 // What stands behind a part's first byte.
 fn behind_kind(part: &[u8]) -> &[u8] {
-    let first = lesser(1, part.len());
+    let first = part.len().min(1);
     &part[first..]
 }
 
@@ -319,7 +318,7 @@ fn run_in_room(
     work: &mut [u32],
     lines: &mut [u32],
 ) -> Written {
-    let room = lesser(written.room, buffer.len());
+    let room = written.room.min(buffer.len());
     let message = run_on_map(
         rt,
         kind,
@@ -352,25 +351,20 @@ fn run_part(
 
 fn run(rt: &impl Print, bytes: &[u8], buffer: &mut [u8], work: &mut [u32], lines: &mut [u32]) {
     let mut at: usize = 0;
-    let mut map_from: usize = 0;
-    let mut map_to: usize = 0;
+    let mut map = Part { start: 0, end: 0 };
     let mut written = Written {
         message: Message::Closed(0),
         room: 0,
     };
-    loop {
-        let Part::At(from, to) = cases::part_at(bytes, at) else {
-            return;
-        };
-        at = to;
-        if let Kind::Map = kind_of(&bytes[from..to]) {
-            map_from = from;
-            map_to = to;
+    while let Some(part) = cases::part_at(bytes, at) {
+        at = part.end;
+        if let Kind::Map = kind_of(&bytes[part.start..part.end]) {
+            map = part;
         }
         written = run_part(
             rt,
-            &bytes[from..to],
-            &bytes[map_from..map_to],
+            &bytes[part.start..part.end],
+            &bytes[map.start..map.end],
             written,
             buffer,
             work,

@@ -4,7 +4,6 @@
 #![tactic(auto)]
 
 use answer_text::put;
-use buffers::lesser;
 use cases::{Part, word_at};
 use console::hand_over;
 use marks::{bytes_kept, fill, fill_bytes, put_point_written, put_rest, put_work};
@@ -18,14 +17,6 @@ const ROW: usize = 192;
 
 // The length of the byte buffer, some bytes more than a point has.
 const BYTES: usize = 40;
-
-// How many bytes an answer hands back.
-fn byte_count(answer: PointWriteAnswer) -> usize {
-    match answer {
-        PointWriteAnswer::Written(count) => count,
-        PointWriteAnswer::Refused(_) => 0,
-    }
-}
 
 // Fills the buffers, reads a point into them and prints the row.
 fn read_case(rt: &impl Print, map: &[u8], reference: &[u8], work: &mut [u32], lines: &mut [u32]) {
@@ -47,7 +38,7 @@ fn show_read(rt: &impl Print, map: &[u8], reference: &[u8], work: &mut [u32], li
 // Prints a row's first part.
 fn show_written(rt: &impl Print, answer: PointWriteAnswer, work: &[u32], bytes: &[u8]) {
     let mut row = [0; ROW];
-    let count = lesser(byte_count(answer), bytes.len());
+    let count = answer.unwrap_or(0).min(bytes.len());
     let written = put_point_written(answer, bytes, &mut row);
     let state = put_work(work, &mut row, written);
     let end = put_rest(bytes_kept(bytes, count), &mut row, state);
@@ -63,10 +54,10 @@ fn read_back(
     work: &mut [u32],
     lines: &mut [u32],
 ) {
-    let PointWriteAnswer::Written(count) = answer else {
+    let Ok(count) = answer else {
         return;
     };
-    let written = lesser(count, bytes.len());
+    let written = count.min(bytes.len());
     show_read(rt, map, &bytes[..written], work, lines);
 }
 
@@ -103,7 +94,7 @@ fn write_case(
 // Writes with a work area and a byte buffer of the lengths that the numbers of the case say.
 fn run_write(rt: &impl Print, map: &[u8], words: &[u8], work: &mut [u32], lines: &mut [u32]) {
     let mut buffer = [0; BYTES];
-    let room = lesser(word_at(words, 8) as usize, BYTES);
+    let room = (word_at(words, 8) as usize).min(BYTES);
     write_case(rt, map, words, work, &mut buffer[..room], lines);
 }
 
@@ -116,7 +107,7 @@ fn run_read(
     work: &mut [u32],
     lines: &mut [u32],
 ) {
-    let room = lesser(word_at(words, 8) as usize, lines.len());
+    let room = (word_at(words, 8) as usize).min(lines.len());
     read_case(rt, map, reference, work, &mut lines[..room]);
 }
 
@@ -129,7 +120,7 @@ fn run_case(
     work: &mut [u32],
     lines: &mut [u32],
 ) {
-    let length = lesser(word_at(words, 4) as usize, work.len());
+    let length = (word_at(words, 4) as usize).min(work.len());
     if word_at(words, 0) == 1 {
         run_write(rt, map, words, &mut work[..length], lines);
         return;
@@ -141,28 +132,23 @@ fn run_case(
 // room of the line or byte buffer, the line, the offset, the orientation and the side that are written, and 1 where the map is that of the case before.
 fn run(rt: &impl Print, bytes: &[u8], work: &mut [u32], lines: &mut [u32]) {
     let mut at: usize = 0;
-    let mut map_from: usize = 0;
-    let mut map_to: usize = 0;
-    loop {
-        let Part::At(from, middle) = cases::part_at(bytes, at) else {
+    let mut map = Part { start: 0, end: 0 };
+    while let Some(given) = cases::part_at(bytes, at) {
+        let Some(reference) = cases::part_at(bytes, given.end) else {
             return;
         };
-        let Part::At(start, end) = cases::part_at(bytes, middle) else {
+        let Some(words) = cases::part_at(bytes, reference.end) else {
             return;
         };
-        let Part::At(words, to) = cases::part_at(bytes, end) else {
-            return;
-        };
-        at = to;
-        if word_at(&bytes[words..to], 28) == 0 {
-            map_from = from;
-            map_to = middle;
+        at = words.end;
+        if word_at(&bytes[words.start..words.end], 28) == 0 {
+            map = given;
         }
         run_case(
             rt,
-            &bytes[map_from..map_to],
-            &bytes[start..end],
-            &bytes[words..to],
+            &bytes[map.start..map.end],
+            &bytes[reference.start..reference.end],
+            &bytes[words.start..words.end],
             work,
             lines,
         );

@@ -2,7 +2,6 @@
 // the work area, and whether the rest of the line buffer is as it was. What it prints is held to what the unrelated implementation says (oracle/pack.py).
 #![tactic(auto)]
 
-use buffers::lesser;
 use cases::{Part, word_at};
 use marks::fill;
 use reader::read;
@@ -25,8 +24,8 @@ fn run_case(
     work: &mut [u32],
     lines: &mut [u32],
 ) {
-    let work_length = lesser(word_at(words, 0) as usize, work.len());
-    let line_room = lesser(word_at(words, 4) as usize, lines.len());
+    let work_length = (word_at(words, 0) as usize).min(work.len());
+    let line_room = (word_at(words, 4) as usize).min(lines.len());
     call(
         rt,
         map,
@@ -40,28 +39,23 @@ fn run_case(
 // and 1 where the map is that of the case before.
 fn run(rt: &impl Print, bytes: &[u8], work: &mut [u32], lines: &mut [u32]) {
     let mut at: usize = 0;
-    let mut map_from: usize = 0;
-    let mut map_to: usize = 0;
-    loop {
-        let Part::At(from, middle) = cases::part_at(bytes, at) else {
+    let mut map = Part { start: 0, end: 0 };
+    while let Some(given) = cases::part_at(bytes, at) {
+        let Some(reference) = cases::part_at(bytes, given.end) else {
             return;
         };
-        let Part::At(start, end) = cases::part_at(bytes, middle) else {
+        let Some(words) = cases::part_at(bytes, reference.end) else {
             return;
         };
-        let Part::At(words, to) = cases::part_at(bytes, end) else {
-            return;
-        };
-        at = to;
-        if word_at(&bytes[words..to], 8) == 0 {
-            map_from = from;
-            map_to = middle;
+        at = words.end;
+        if word_at(&bytes[words.start..words.end], 8) == 0 {
+            map = given;
         }
         run_case(
             rt,
-            &bytes[map_from..map_to],
-            &bytes[start..end],
-            &bytes[words..to],
+            &bytes[map.start..map.end],
+            &bytes[reference.start..reference.end],
+            &bytes[words.start..words.end],
             work,
             lines,
         );

@@ -6,7 +6,6 @@
 ghost use Rattle.std.specs.Counts.{IsPrefixLen};
 
 use answer_text::{put, put_head, put_number};
-use buffers::lesser;
 use buffers::words::take_words;
 use cases::{Part, sum_of, word_at};
 use console::hand_over;
@@ -18,18 +17,10 @@ use writer::write;
 // More bytes than a part of a row has: 6 for a word, 118 for an answer's first row, 25 for a sum, 13 for each of the last two.
 const ROW: usize = 192;
 
-// How many bytes an answer hands back.
-fn count_of(answer: WriteAnswer) -> usize {
-    match answer {
-        WriteAnswer::Written(count, _, _) => count,
-        WriteAnswer::Refused(_) => 0,
-    }
-}
-
 // Prints a row's first part.
 fn show_call(rt: &impl Print, answer: WriteAnswer, work: &[u32], bytes: &[u8]) {
     let mut row = [0; ROW];
-    let count = lesser(count_of(answer), bytes.len());
+    let count = answer.map_or(0, |made| made.bytes).min(bytes.len());
     let written = put_written(answer, bytes, &mut row);
     let state = put_work(work, &mut row, written);
     let end = put_rest(bytes_kept(bytes, count), &mut row, state);
@@ -42,10 +33,10 @@ fn put_read(answer: ReadAnswer, lines: &[u32], row: &mut [u8]) -> usize
 {
     let start = put(b" read ", row, 0);
     let end = put_head(answer, row, start);
-    let ReadAnswer::Read(count, _, _) = answer else {
+    let Ok(found) = answer else {
         return end;
     };
-    let handed_back = lesser(count, lines.len());
+    let handed_back = found.count.min(lines.len());
     put_number(b" sum ", sum_of(lines, 0, handed_back, 0), row, end)
 }
 
@@ -66,10 +57,10 @@ fn read_back(
     work: &mut [u32],
     lines: &mut [u32],
 ) {
-    let WriteAnswer::Written(count, _, _) = answer else {
+    let Ok(made) = answer else {
         return;
     };
-    let written = lesser(count, bytes.len());
+    let written = made.bytes.min(bytes.len());
     show_read(rt, map, &bytes[..written], work, lines);
 }
 
@@ -103,8 +94,8 @@ fn run_case(
     bytes: &mut [u8],
     lines: &mut [u32],
 ) {
-    let work_length = lesser(word_at(words, 12) as usize, work.len());
-    let byte_room = lesser(word_at(words, 16) as usize, bytes.len());
+    let work_length = (word_at(words, 12) as usize).min(work.len());
+    let byte_room = (word_at(words, 16) as usize).min(bytes.len());
     call(
         rt,
         map,
@@ -139,28 +130,23 @@ fn run_parts(rt: &impl Print, map: &[u8], part: &[u8], words: &[u8], work: &mut 
 // and of the byte buffer, and 1 where the map is that of the case before.
 fn run(rt: &impl Print, file: &[u8], work: &mut [u32]) {
     let mut at: usize = 0;
-    let mut map_from: usize = 0;
-    let mut map_to: usize = 0;
-    loop {
-        let Part::At(from, middle) = cases::part_at(file, at) else {
+    let mut map = Part { start: 0, end: 0 };
+    while let Some(given) = cases::part_at(file, at) {
+        let Some(stretch) = cases::part_at(file, given.end) else {
             return;
         };
-        let Part::At(start, end) = cases::part_at(file, middle) else {
+        let Some(words) = cases::part_at(file, stretch.end) else {
             return;
         };
-        let Part::At(words, to) = cases::part_at(file, end) else {
-            return;
-        };
-        at = to;
-        if word_at(&file[words..to], 20) == 0 {
-            map_from = from;
-            map_to = middle;
+        at = words.end;
+        if word_at(&file[words.start..words.end], 20) == 0 {
+            map = given;
         }
         run_parts(
             rt,
-            &file[map_from..map_to],
-            &file[start..end],
-            &file[words..to],
+            &file[map.start..map.end],
+            &file[stretch.start..stretch.end],
+            &file[words.start..words.end],
             work,
         );
     }

@@ -11,7 +11,7 @@ use lib.Dec.{lit<}
 use Rattle.model.specs.Map.{Line, Map}
 use Rattle.model.specs.Lines.{line_at}
 use Rattle.buffers.specs.Kept.{Kept}
-use Rattle.buffers.proofs.Kept.{kept_none, kept_over}
+use Rattle.buffers.proofs.Kept.{kept_over}
 use Rattle.buffers.proofs.Cases.{here_or}
 use Rattle.work_area.specs.Area.{line_size, line_place, start_node, end_node, sector_out, sector_back, line_numbers, Holds}
 use Rattle.work_area.specs.Held.{line_from, held_line}
@@ -65,9 +65,6 @@ unfolding held_line line_from
 line_behind {w = w} {v = v} l h kept =
     let f : (k : ℕ) → get_or v (line_place l + k) 0 ≡ get_or w (line_place l + k) 0 = λ k. kept.above (line_place l + k) (omega arith) in
     line_path (kept.above (line_place l) h) (f 1) (f 2) (f 3) (f 4) (f 5) (f 6)
-
-pub swapped_none : {w : List ℕ} → EndsSwapped 0 w w
-swapped_none = record { turned = λ l l<. absurd (omega arith); kept = kept_none }
 
 pub swapped_more : {w v u x : List ℕ} {l : ℕ} → EndsSwapped l w v → Swapped (line_place l + start_node) (line_place l + end_node) v u →
     Swapped (line_place l + sector_out) (line_place l + sector_back) u x → EndsSwapped (l + 1) w x

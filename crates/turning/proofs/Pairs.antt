@@ -8,13 +8,13 @@ use lib.ListN.{length, get_or, take, length-map}
 use lib.Seq.{length-take-le, take-suc, take-length}
 use Rattle.model.specs.Map.{Turn, greatest_line_count}
 use Rattle.buffers.specs.Kept.{Kept}
-use Rattle.buffers.proofs.Kept.{kept_none, kept_then}
+use Rattle.buffers.proofs.Kept.{kept_then}
 use Rattle.work_area.specs.Area.{bans_from, bans_to, ban_second, ban_earlier, ban_at, BansHeld}
 use Rattle.work_area.specs.Mirror.{mirror_turn}
 use Rattle.banned_turns.specs.Put.{BanPut}
 use Rattle.banned_turns.proofs.Chains.{bans_more}
 use Rattle.banned_turns.proofs.Putting.{put_kept}
-use Rattle.turning.specs.Bans.{Known, Paired, FirstsNamed, BansTurned}
+use Rattle.turning.specs.Bans.{Known, Paired, BansTurned}
 
 -- The first `i` turns are turned round.
 abbrev turned : List Turn → ℕ → List Turn
@@ -34,15 +34,6 @@ pub record Turning (lines : ℕ) (bans : List Turn) (i : ℕ) (w v : List ℕ) :
   pub kept : Kept bans_from bans_to w v
 
 module _ {lines : ℕ} {bans : List Turn} {w : List ℕ} (paired : Paired w lines bans) where
-  pub turning_none : Turning lines bans 0 w w
-  turning_none =
-      record {
-        held = record { few = omega arith; heads = paired.heads; seconds = λ i h. absurd (omega arith); earlier = λ i h. absurd (omega arith) };
-        seconds = λ k h k<. paired.seconds k k<;
-        firsts = λ k h k<. paired.firsts k k<;
-        kept = kept_none;
-      }
-
   module _ {i : ℕ} {v : List ℕ} (known : Known lines bans) (few : lines ≤ greatest_line_count) (i< : i < length bans) (at : Turning lines bans i w v) where
     -- The second line of turn `i`, which it is put with, is a line.
     pub second_in : get_or v (ban_second i) 0 < lines
@@ -71,12 +62,3 @@ module _ {lines : ℕ} {bans : List Turn} {w : List ℕ} (paired : Paired w line
 pub turning_all : {lines : ℕ} {bans : List Turn} {w v : List ℕ} → Turning lines bans (length bans) w v → BansTurned lines bans w v
 turning_all {lines} {bans} {v = v} at =
     record { held = subst (λ (ts : List Turn). BansHeld v lines (map mirror_turn ts)) (take-length bans) at.held; kept = at.kept }
-
--- Where there is none, nothing is to be done.
-pub turned_none : {lines : ℕ} {bans : List Turn} {w : List ℕ} → BansHeld w lines bans → length bans ≡ 0 → BansTurned lines bans w w
-turned_none {bans = []} held e = record { held = held; kept = kept_none }
-turned_none {bans = t ∷ ts} held e = absurd (omega arith)
-
--- Both changes, one after the other.
-pub turned_then : {lines : ℕ} {bans : List Turn} {w v u : List ℕ} → FirstsNamed lines bans w v → BansTurned lines bans v u → BansTurned lines bans w u
-turned_then named turned = record { held = turned.held; kept = kept_then named.kept turned.kept }

@@ -182,19 +182,6 @@ pub record Walked (m : Map) (n c : ℕ) (f : Terminus) (limit : ℕ) (w : List �
   pub two : Two m c f (line at) (length_to w at) → Two m c f (line last) (length_to w last)
   pub ends : (k : ℕ) → last_of (lines_from w last (count + k)) ≡ last_of (lines_from w at (suc k))
 
-pub walked_start : {m : Map} {n c limit : ℕ} {f : Terminus} {w : List ℕ} (last : ℕ) → last < n → length_to w last ≤ limit →
-    Walked m n c f limit w last last 1
-walked_start last l< d =
-    record {
-      inside = l<;
-      near = d;
-      some = omega arith;
-      few = omega arith;
-      only = λ k o. let e : 1 + k ≡ suc k = omega arith in rw e o;
-      two = λ o. o;
-      ends = λ k. let e : 1 + k ≡ suc k = omega arith in rw e refl;
-    }
-
 pub walked_few : {m : Map} {n c limit : ℕ} {f : Terminus} {w : List ℕ} {last at count : ℕ} → last < n → Walked m n c f limit w last at count → count ≤ n
 walked_few {n = n} {w = w} {last = last} l< k =
     let f = k.few in

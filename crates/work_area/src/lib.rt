@@ -86,9 +86,5 @@ pub fn clear(work: &mut [u32])
     requires { work_length ≤ length work.old }
     ensures { work.new ≡ cleared work.old }
 {
-    let mut i: usize = 0;
-    while i < WORK_LENGTH {
-        work[i] = 0;
-        i += 1;
-    }
+    work[..WORK_LENGTH].fill(0);
 }

@@ -26,15 +26,12 @@ pub map_refused_lem : (map : List ℕ) (s : Stretch) {bytes : List ℕ} (tests r
 map_refused_lem map s tests room r e = refused_write r (rw e refl)
 
 -- The whole call.
-module _ (mb : List ℕ) (s : Stretch) (tests : ℕ) (bytes : List ℕ) where
-  pub area_short : (work : List ℕ) → length work < work_length → WriteCall mb s tests work bytes (Err why.WorkAreaShort) work bytes
-  unfolding refusal_of
-  area_short work h =
-      record {
-        called = Answering.area_short WriteOutcome.refused (λ m. WriteStretch m (check_stretch m s) tests (length bytes)) mb h
-            (refused_write why.WorkAreaShort refl);
-      }
-
-  pub called : {after work work' : List ℕ} {a : WriteAnswer} → work_length ≤ length work →
-      WriteAnswered (WriteMap (decode mb) s tests (length bytes)) bytes after a → work' ≡ cleared work → WriteCall mb s tests work bytes a work' after
-  called h d e = record { called = Answering.called WriteOutcome.refused (λ m. WriteStretch m (check_stretch m s) tests (length bytes)) mb h d e }
+pub called : (mb : List ℕ) (s : Stretch) (tests : ℕ) (before : List ℕ) {after work work' : List ℕ} {a : WriteAnswer} →
+    (length work < work_length → (a ≡ Err why.WorkAreaShort) × (after ≡ before)) →
+    (work_length ≤ length work → WriteAnswered (WriteMap (decode mb) s tests (length before)) before after a) → work' ≡ cleared work →
+    WriteCall mb s tests work before a work' after
+unfolding refusal_of
+called mb s tests before short ran e =
+    record {
+      called = Answering.stepped WriteOutcome.refused (λ m. WriteStretch m (check_stretch m s) tests (length before)) mb (refused_write why.WorkAreaShort refl) short ran e;
+    }

@@ -1,12 +1,9 @@
 -- None for a line that is free or has nothing to do.
-use Rattle.std.proofs.Common.{ℕ, ◌<◌, ◌∙◌, List, arith}
-use Rattle.model.specs.Map.{greatest_line_count}
-use Rattle.relaxation.specs.Underway.{Underway, Task}
+use Rattle.std.proofs.Common.{◌∙◌, arith}
 use Rattle.std.proofs.lemmas.Option.{none-some}
 use Rattle.search_cells.proofs.Holding.{held_kept, few}
-use Rattle.search_cells.proofs.Reached.{count_le}
 use Rattle.expansion.proofs.Marking.{aside_none, aside_then, aside_last}
-use Rattle.expansion.proofs.AtPlace.{waiting}
+use Rattle.expansion.proofs.AtPlace.{waiting, place_few}
 use Rattle.expansion.proofs.begin_walks.Goals as goal
 
 pub returns-then-going-eq0-2 : goal.returns-then-going-eq0-2
@@ -18,10 +15,6 @@ returns-then-going-eq0-2 c =
       told = λ z. absurd (omega (arith, c.if-going-eq0-2.true));
       aside = aside_none;
     }
-
--- A place of the queue lies in the work area.
-place_few : {q : Task} {n class limit place count end p : ℕ} {w : List ℕ} → Underway q n class limit p count end w → place < end → place < greatest_line_count
-place_few g inside = omega (arith, g.room, count_le g.listing, few g.held)
 
 pub overflow_add-key : goal.overflow_add-key
 overflow_add-key c = let k = place_few c.requires.5 c.requires.6 in omega arith

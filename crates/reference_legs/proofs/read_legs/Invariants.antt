@@ -1,9 +1,11 @@
--- The legs before leg `k` have one reading each.
-use Rattle.std.proofs.Common.{◌-◌}
+-- The legs before leg `k` have one reading each, and of leg `k` the termini that were asked are judged.
+use Rattle.std.proofs.Common.{◌≡◌, ◌-◌, ◌<◌, length}
 use Rattle.model.specs.Map.{Map}
 use Rattle.search_cells.specs.Area.{Set}
+use Rattle.fields.specs.declared.leg.Verdict.TheVariants.{Unread, Several}
 use Rattle.references.specs.Legs.{legs_on, legs_at}
 use Rattle.reference_legs.specs.Legs.{PlacesIn}
+use Rattle.reference_legs.proofs.Candidates.{Tried}
 use Rattle.reference_legs.proofs.Gathering.{Gathering}
 use Rattle.reference_legs.proofs.read_legs.Given as goal
 
@@ -11,3 +13,15 @@ abbrev pub invariant-loop-k : goal.invariant-loop-k
 invariant-loop-k l =
     (m : Map) → Set m l.lines l.fn.work → PlacesIn m l.points l.places →
     Gathering m l.lines (legs_at l.bytes l.points l.places) l.k (legs_on l.bytes l.points l.places l.k (l.points - l.k)) l.work l.fn.out l.out l.sums
+
+abbrev pub invariant-loop-at : goal.invariant-loop-at
+invariant-loop-at l =
+    record {
+      one : l.found ≡ Several → ⊥;
+      unread : l.found ≡ Unread → l.out ≡ l.initial.out;
+      tried : (m : Map) → Set m l.lines l.initial.work → l.leg.to < length m.nodes →
+          Tried m l.lines l.leg l.sums.count l.initial.out l.out l.initial.work l.work l.at l.found;
+    }
+
+abbrev pub decreases-loop-at : goal.decreases-loop-at
+decreases-loop-at l = l.at

@@ -3,8 +3,8 @@ use Rattle.std.proofs.Common.{◌-◌, ◌≤◌, length}
 use Rattle.model.specs.Work.{work_length}
 use Rattle.test_maps.proofs.run.Given as goal
 
-abbrev pub invariant-loop-from : goal.invariant-loop-from
-invariant-loop-from g l = (l.at ≤ length l.bytes) × (work_length ≤ length l.work)
+abbrev pub invariant-loop-part : goal.invariant-loop-part
+invariant-loop-part g l = (l.at ≤ length l.bytes) × (work_length ≤ length l.work)
 
-abbrev pub decreases-loop-from : goal.decreases-loop-from
-decreases-loop-from g l = length l.bytes - l.at
+abbrev pub decreases-loop-part : goal.decreases-loop-part
+decreases-loop-part g l = length l.bytes - l.at

@@ -3,7 +3,6 @@ use Rattle.std.proofs.Common.{◌≤◌, ℕ, List, length, arith}
 use Rattle.work_area.specs.Area.{Holds}
 use Rattle.model.specs.Map.{greatest_line_count, greatest_node_count, Map}
 use Rattle.model.specs.Work.{work_length}
-use Rattle.depot_map.proofs.Whole.{read_whole}
 use Rattle.test_maps.proofs.show.Goals as goal
 
 -- What a work area that holds a map says of its counts.
@@ -12,15 +11,15 @@ counts h = (h.full, omega (arith, h.node_count, h.formed.few_nodes), omega (arit
 
 pub put_chains-n-requires : goal.put_chains-n-requires
 put_chains-n-requires g c =
-    let w = read_whole c.read_map.ensures c.in-Whole.is in
+    let w = c.in-Ok.ensures.answers in
     omega (arith, counts w.held)
 
 pub sum_of-of_nodes-requires : goal.sum_of-of_nodes-requires
 sum_of-of_nodes-requires g c =
-    let w = read_whole c.read_map.ensures c.in-Whole.is in
+    let w = c.in-Ok.ensures.answers in
     omega (arith, counts w.held)
 
 pub sum_of-of_lines-requires : goal.sum_of-of_lines-requires
 sum_of-of_lines-requires g c =
-    let w = read_whole c.read_map.ensures c.in-Whole.is in
+    let w = c.in-Ok.ensures.answers in
     omega (arith, counts w.held, c.sum_of-of_nodes.ensures.1)

@@ -2,8 +2,8 @@
 use Rattle.std.proofs.Common.{◌-◌, ◌≤◌, length}
 use Rattle.test_reads.proofs.run.Given as goal
 
-abbrev pub invariant-loop-from : goal.invariant-loop-from
-invariant-loop-from g l = (l.at ≤ length l.bytes) × (l.map_from ≤ l.map_to) × (l.map_to ≤ length l.bytes)
+abbrev pub invariant-loop-given : goal.invariant-loop-given
+invariant-loop-given g l = (l.at ≤ length l.bytes) × (l.map.start ≤ l.map.end) × (l.map.end ≤ length l.bytes)
 
-abbrev pub decreases-loop-from : goal.decreases-loop-from
-decreases-loop-from g l = length l.bytes - l.at
+abbrev pub decreases-loop-given : goal.decreases-loop-given
+decreases-loop-given g l = length l.bytes - l.at

@@ -1,12 +1,12 @@
 -- A group more, and the last one, by the lemmas of proofs/Groups.antt.
 use Rattle.std.proofs.Common.{arith, refl, sym, ap, ◌∙◌, ◌≡◌, ◌≤◌, ◌⊎◌, length, drop, List, ℕ, suc, ◌+◌, ◌-◌, ◌*◌, ◌<◌, ◌^◌, get_or, add-one, subst, Some, None, Result, Ok, Err}
 use Rattle.std.proofs.Math.Nat.{mul-le-mul_right, pow-suc}
-use Rattle.std.proofs.lemmas.Grind.{get_or_default_zero}
-use borrow.Author.Tests.{true-ltb, false-ltb}
+use borrow.Author.Tests.{false-ltb}
 use Rattle.std.specs.Result.{OkIff, result_ok}
 use Rattle.std.proofs.lemmas.Result.{OkIff-at_ok, OkIff-at_err}
 use Rattle.std.proofs.lemmas.Option.{none-some, same_Some}
 use Rattle.model.specs.Number.{Number, got, faulty, number, groups}
+use Rattle.buffers.proofs.Got.{byte_read}
 use Rattle.buffers.proofs.Groups.{none_left, more, padded, whole, large, weight_low}
 use Rattle.buffers.proofs.number.number_at.Goals as goal
 
@@ -14,10 +14,6 @@ use Rattle.buffers.proofs.number.number_at.Goals as goal
 turn : (i weight value : ℕ) (bs : List ℕ) {r : Number} → i < 5 → groups (5 - i) weight value bs ≡ r →
     groups (suc (4 - i)) weight value bs ≡ r
 turn i weight value bs h e = let s : 5 - i ≡ suc (4 - i) = omega arith in rw s at e
-
--- The byte that is read, as the definitions have it.
-read : (bytes : List ℕ) (at x b : ℕ) → at < length bytes → x ≡ get_or bytes at x → b ≡ x → get_or bytes at 0 ≡ b
-read bytes at x b h e s = sym (get_or_default_zero bytes at x h) ∙ sym e ∙ sym s
 
 -- Bounds on what a group adds: groups have seven bits, and a weight is at most 128 to the power of 4.
 light : (i weight b : ℕ) → i < 5 → weight ≡ 128 ^ i → b ≤ 127 → (weight ≤ 268_435_456) × (b * weight ≤ 127 * weight)
@@ -58,9 +54,8 @@ returns-in_err-get c =
 pub returns-then-weight-ne1 : goal.returns-then-weight-ne1
 returns-then-weight-ne1 c =
     let l = c.loop-i in
-    let here = true-ltb _ _ c.in_ok-get.ensures.lookup.0 in
-    let b = read _ _ _ _ here c.in_ok-get.ensures.lookup.1 c.from-b.ensures in
-    sym (padded _ _ _ _ _ here (b ∙ c.if-b-eq0.true) c.if-weight-ne1.true) ∙ turn l.i _ _ _ c.loop-i-test.true l.invariant.to_come
+    let b = byte_read c.args.map.now l.at _ c.from-b.result c.in_ok-get.ensures.lookup.0 c.in_ok-get.ensures.lookup.1 c.from-b.ensures in
+    sym (padded _ _ _ _ _ b.0 (b.1 ∙ c.if-b-eq0.true) c.if-weight-ne1.true) ∙ turn l.i _ _ _ c.loop-i-test.true l.invariant.to_come
 
 pub overflow_mul-b : goal.overflow_mul-b
 overflow_mul-b c =
@@ -73,20 +68,18 @@ overflow_add-value c =
 pub returns-in_err-x : goal.returns-in_err-x
 returns-in_err-x c =
     let l = c.loop-i in
-    let here = true-ltb _ _ c.in_ok-get.ensures.lookup.0 in
-    let b = read _ _ _ _ here c.in_ok-get.ensures.lookup.1 c.from-b.ensures in
+    let b = byte_read c.args.map.now l.at _ c.from-b.result c.in_ok-get.ensures.lookup.0 c.in_ok-get.ensures.lookup.1 c.from-b.ensures in
     let large_sum = none_fits c.try_from.result _ _ c.try_from.ensures c.in_err-x.ensures.value in
     rw c.from_residual-in_err-x.ensures
-    (sym (last_large _ _ _ _ _ _ here b c.if-b-lt-GROUP.true c.else-b-eq0.either large_sum) ∙ turn l.i _ _ _ c.loop-i-test.true l.invariant.to_come)
+    (sym (last_large _ _ _ _ _ _ b.0 b.1 c.if-b-lt-GROUP.true c.else-b-eq0.either large_sum) ∙ turn l.i _ _ _ c.loop-i-test.true l.invariant.to_come)
 
 pub returns-then-b-lt-GROUP : goal.returns-then-b-lt-GROUP
 returns-then-b-lt-GROUP c =
     let l = c.loop-i in
-    let here = true-ltb _ _ c.in_ok-get.ensures.lookup.0 in
-    let b = read _ _ _ _ here c.in_ok-get.ensures.lookup.1 c.from-b.ensures in
+    let b = byte_read c.args.map.now l.at _ c.from-b.result c.in_ok-get.ensures.lookup.0 c.in_ok-get.ensures.lookup.1 c.from-b.ensures in
     let sum = some_fits c.try_from.result _ _ _ c.try_from.ensures c.in_ok-x.ensures.value in
     rw sum.1
-    (sym (last_whole _ _ _ _ _ _ here b c.if-b-lt-GROUP.true c.else-b-eq0.either sum.0) ∙ turn l.i _ _ _ c.loop-i-test.true l.invariant.to_come)
+    (sym (last_whole _ _ _ _ _ _ b.0 b.1 c.if-b-lt-GROUP.true c.else-b-eq0.either sum.0) ∙ turn l.i _ _ _ c.loop-i-test.true l.invariant.to_come)
 
 pub overflow_mul-value : goal.overflow_mul-value
 overflow_mul-value c =
@@ -106,13 +99,12 @@ overflow_mul-weight c =
 pub loop-i-preserved : goal.loop-i-preserved
 loop-i-preserved c =
     let l = c.loop-i in
-    let here = true-ltb _ _ c.in_ok-get.ensures.lookup.0 in
-    let b = read _ _ _ _ here c.in_ok-get.ensures.lookup.1 c.from-b.ensures in
+    let b = byte_read c.args.map.now l.at _ c.from-b.result c.in_ok-get.ensures.lookup.0 c.in_ok-get.ensures.lookup.1 c.from-b.ensures in
     let e : 5 - (l.i + 1) ≡ 4 - l.i = omega arith in
     record {
       weight_is = rw add-one (rw pow-suc (ap (λ x. x * 128) l.invariant.weight_is));
       below = omega (arith, light l.i l.weight (c.from-b.result - 128) (omega arith) l.invariant.weight_is (omega arith));
-      to_come = rw e (sym (one_more _ _ _ _ _ _ here b c.if-b-lt-GROUP.false) ∙ turn l.i _ _ _ c.loop-i-test.true l.invariant.to_come);
+      to_come = rw e (sym (one_more _ _ _ _ _ _ b.0 b.1 c.if-b-lt-GROUP.false) ∙ turn l.i _ _ _ c.loop-i-test.true l.invariant.to_come);
     }
 
 pub returns : goal.returns

@@ -1,5 +1,5 @@
 -- Each turn takes in the first lines at one place more. Where two ways are found, no more can change that.
-use Rattle.std.proofs.Common.{◌≡◌, ◌+◌, ◌-◌, ◌≤◌, ◌<◌, ◌∙◌, sym, arith}
+use Rattle.std.proofs.Common.{◌≡◌, ◌+◌, ◌-◌, ◌∙◌, sym, arith}
 use Rattle.search_cells.specs.Area.{listed}
 use Rattle.search_cells.proofs.Reached.{count_le}
 use Rattle.search_cells.proofs.Places.{past, line_there, new_there}

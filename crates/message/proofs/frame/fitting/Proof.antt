@@ -7,9 +7,6 @@ use native.Mathlib.Omega.{arith}
 use borrow.Author.Rules.{rules}
 use Rattle.message.proofs.frame.fitting.Statement.{statement}
 use Rattle.message.proofs.frame.fitting.Tie as tie
-use Rattle.message.proofs.frame.fitting.Reads as reads
-use Rattle.message.proofs.frame.fitting.Lts as lts
-use Rattle.message.proofs.frame.end_of.Reads as end-of-reads
 
 returns : tie.Need-returns-then-added-gt-LONGEST_REFERENCE
 returns c = sym (long_reference _ _ _ (omega arith))

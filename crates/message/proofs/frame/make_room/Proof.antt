@@ -7,9 +7,6 @@ use native.Mathlib.Omega.{arith}
 use borrow.Author.Rules.{rules}
 use Rattle.message.proofs.frame.make_room.Statement.{statement}
 use Rattle.message.proofs.frame.make_room.Tie as tie
-use Rattle.message.proofs.frame.make_room.Reads as reads
-use Rattle.message.proofs.frame.make_room.Lts as lts
-use Rattle.message.proofs.frame.move_up.Reads as move-up-reads
 
 move-up-requires : tie.Need-move_up-requires
 move-up-requires c κs =

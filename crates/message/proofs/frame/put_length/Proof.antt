@@ -10,8 +10,6 @@ use native.Mathlib.Omega.{arith}
 use borrow.Author.Rules.{rules}
 use Rattle.message.proofs.frame.put_length.Statement.{statement}
 use Rattle.message.proofs.frame.put_length.Tie as tie
-use Rattle.message.proofs.frame.put_length.Reads as reads
-use Rattle.message.proofs.frame.put_length.Lts as lts
 
 cast-part : tie.Need-overflow_cast-part
 cast-part c = search rules

@@ -1,6 +1,6 @@
 -- The first point, then one point more each turn; or a point without a node.
 use Rattle.std.proofs.Common.{sym, ◌∙◌, arith, ◌+◌}
-use Rattle.std.proofs.lemmas.Result.{err_from_is_err_and}
+use Rattle.model.proofs.Answering.{passed_on}
 use Rattle.buffers.proofs.Kept.{kept_none}
 use Rattle.references.proofs.Located.{located_none}
 use Rattle.references.proofs.Seeking.{node_found, node_missing}
@@ -9,10 +9,9 @@ use Rattle.references.proofs.points.locate.Goals as goal
 
 pub returns-in_err-places : goal.returns-in_err-places
 returns-in_err-places c =
-    let p = err_from_is_err_and c.from_residual.result c.from_residual.ensures.1 in
+    let passed = passed_on c.from_residual.result c.from_residual.ensures.1 in
     let gone = node_missing (rw (c.at3.ensures.0, c.at3-2.ensures.0) at c.find.ensures) _ (sym c.ok_or.ensures.value ∙ c.in_err-places.was) in
-    rw
-    (p.1, p.2)
+    rw passed
     (record { answers = record { point = 0; is = gone.0; missing = λ m lines h. located_none m _ _ (gone.1 m lines h) }; kept = kept_none })
 
 pub loop-k-init : goal.loop-k-init
@@ -22,10 +21,9 @@ loop-k-init c =
 
 pub returns-in_err-places-2 : goal.returns-in_err-places-2
 returns-in_err-places-2 c =
-    let p = err_from_is_err_and c.from_residual-in_err-places-2.result c.from_residual-in_err-places-2.ensures.1 in
+    let passed = passed_on c.from_residual-in_err-places-2.result c.from_residual-in_err-places-2.ensures.1 in
     let gone = node_missing (rw c.next_sought-next.ensures at c.find-in-loop-k.ensures) _ (sym c.ok_or-in-loop-k.ensures.value ∙ c.in_err-places-2.was) in
-    rw
-    (p.1, p.2)
+    rw passed
     (record {
       answers = record {
         point = c.loop-k.k + 1;

@@ -1,7 +1,6 @@
 -- Each turn puts one line more into its list.
-use Rattle.std.proofs.Common.{◌≡◌, ◌≤◌, ◌<◌, ◌∙◌, ℕ, length, arith}
-use Rattle.model.specs.Map.{greatest_line_count, greatest_node_count}
-use Rattle.search_cells.proofs.Leaving.{link_none, link_step, linked, nodes_in, head_small}
+use Rattle.std.proofs.Common.{◌≡◌, ◌∙◌, ℕ, arith}
+use Rattle.search_cells.proofs.Leaving.{link_step, linked, nodes_in, head_small}
 use Rattle.buffers.proofs.Kept.{kept_then, kept_within}
 use Rattle.search_cells.proofs.Holding.{held_kept, few}
 use Rattle.search_cells.proofs.adjacency.link.Goals as goal

@@ -1,5 +1,5 @@
 -- What `Resetting` says of the places gone through is carried over each turn, and says at the end that nothing is reached.
-use Rattle.std.proofs.Common.{◌≡◌, ℕ, ◌+◌, ◌-◌, ◌≤◌, ◌<◌, ◌∙◌, refl, List, length, get_or, arith, rules}
+use Rattle.std.proofs.Common.{◌≡◌, ℕ, ◌+◌, ◌-◌, ◌<◌, ◌∙◌, refl, List, length, get_or, arith, rules}
 use Rattle.model.specs.Map.{Map}
 use Rattle.work_area.specs.Area.{line_place, start_node, heads_from}
 use Rattle.search_cells.specs.Area.{Mirrored, Chained, listed}

@@ -1,0 +1,6 @@
+-- The numbers in the work area are the line's.
+use Rattle.legs.proofs.Lines.{arriving_at}
+use Rattle.legs.proofs.attributes.arrives_as.Goals as goal
+
+pub returns : goal.returns
+returns c m h = rw (arriving_at h _ c.requires.l_lt_lines) c.has_attributes.ensures

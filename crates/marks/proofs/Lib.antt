@@ -1,2 +1,0 @@
--- Laws of marks.
-pub mod Marks

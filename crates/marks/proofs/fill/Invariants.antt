@@ -1,0 +1,6 @@
+-- The places so far have their marks.
+use Rattle.marks.specs.Marks.{mark_of, Marked}
+use Rattle.marks.proofs.fill.Given as goal
+
+abbrev pub invariant-loop-i : goal.invariant-loop-i
+invariant-loop-i l = Marked mark_of l.buffer 0 l.i

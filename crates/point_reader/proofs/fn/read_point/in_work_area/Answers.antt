@@ -1,0 +1,9 @@
+-- Bytes that are no map.
+use Rattle.model.proofs.Answering.{passed_on}
+use Rattle.point_reader.proofs.Answers.{map_refused_lem}
+use Rattle.point_reader.proofs.fn.read_point.in_work_area.Goals as goal
+
+pub returns-in_err-opened : goal.returns-in_err-opened
+returns-in_err-opened c =
+    let passed = passed_on c.from_residual.result c.from_residual.ensures.1 in
+    rw passed (map_refused_lem _ _ _ _ c.in_err-opened.ensures.answers)

@@ -1,2 +1,0 @@
--- What is promised of an answer with a point's marks.
-pub mod Told
