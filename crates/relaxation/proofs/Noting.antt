@@ -1,1 +1,0 @@
--- Notes: one that is noted too stays small, and the store that notes it.
