@@ -1,6 +1,6 @@
 -- The form of a reference's bytes: its refusals one after another, the spare bits one point at a time, and the place of the offsets.
 use Prim.Native.Nat.{ℕ, suc, ◌+◌, ◌*◌, ◌-◌, ◌/◌, ◌%◌, ◌≤◌, ◌<◌}
-use mathlib.Core.Path.{◌≡◌, subst, ◌∙◌}
+use mathlib.Core.Path.{◌≡◌, ◌∙◌}
 use mathlib.Core.Bool.{cond, ◌||◌}
 use mathlib.Core.Logic.{◌⊎◌, inl, inr}
 use mathlib.Core.List.{List}
@@ -9,11 +9,7 @@ use lib.ListN.{length, get_or}
 use lib.Dec.{leb, eqb}
 use borrow.Author.Tests.{lt-ltb, le-ltb, eq-eqb}
 use Rattle.model.specs.Reference.{status_byte, shortest_reference, longest_reference, point_count, reference_at, spare_bits, flags, parsed, refused, ParseAnswer, parse}
-use Rattle.model.specs.Refusal.{row, refusal_of}
-use Rattle.model.specs.declared.Refusal.{Refusal}
-use Rattle.references.specs.declared.reference.Reference.{Reference}
-use Rattle.std.proofs.Common.{Result, Ok, Err}
-use Rattle.references.specs.Form.{SoundBytes, FormOf}
+use Rattle.model.specs.Refusal.{row}
 use Rattle.references.specs.Legs.{place_p}
 
 -- ---- refusal 14: the spare bits from point `k` on
@@ -72,11 +68,3 @@ module _ (bs : List ℕ) (long : shortest_reference ≤ length bs) (short : leng
   after_status e =
       let counted : (length bs - 9) / 7 ≡ (length bs - shortest_reference) / 7 + 1 = omega arith in
       after_length ∙ rw (eq-eqb _ _ e, counted)
-
--- What is known of the bytes once their form is known.
-module _ (bytes : List ℕ) (r : Result Reference Refusal) (form : FormOf bytes r) where
-  pub sound_form : {q : Reference} → r ≡ Ok q → SoundBytes bytes q.points
-  sound_form e = subst (λ (f : Result Reference Refusal). FormOf bytes f) e form
-
-  pub refused_form : {why : Refusal} → r ≡ Err why → parse bytes ≡ refused (refusal_of why)
-  refused_form e = subst (λ (f : Result Reference Refusal). FormOf bytes f) e form
