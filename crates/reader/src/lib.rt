@@ -85,7 +85,7 @@ pub fn on_points(
     opened: Opened,
     out: &mut [u32],
 ) -> ReadAnswer
-    requires set { (m : Map) × Set m opened.lines work.old × (length m.nodes ≡ opened.nodes) }
+    requires { (m : Map) × Set m opened.lines work.old × (length m.nodes ≡ opened.nodes) }
     ensures { (m : Map) → Set m opened.lines work.old → length m.nodes ≡ opened.nodes
         → ReadAnswered (ReadOn m (reference_at reference.entry.bytes.now reference.entry.points) (length out.old)) out.old out.new result }
 {
