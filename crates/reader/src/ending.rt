@@ -1,8 +1,8 @@
 // What is asked once every leg is read: whether a banned turn stands where two meet, the offsets' spans, and whether the lines fit their buffer.
 ghost use Rattle.std.specs.Prelude.{ℕ, List};
 ghost use Rattle.model.specs.Map.{Map};
-ghost use Rattle.model.specs.Reference.{reference_at};
 ghost use Rattle.references.specs.Form.{offset_in};
+ghost use Rattle.references.specs.Formed.{reference_in};
 ghost use Rattle.reference_legs.specs.Legs.{SumsOf};
 ghost use Rattle.reader.specs.Ending.{SpansOf, Ended};
 
@@ -27,7 +27,7 @@ fn span(leg: u32, offset: Option<u32>) -> Result<Span, Refusal>
 // The answer for legs of these sums and a line buffer of `room` numbers. The positive offset lies on the first leg, the negative on the last.
 pub fn answer(reference: Reference, sums: Sums, room: usize) -> ReadAnswer
     ensures { (m : Map) → (lists : List (List ℕ)) → SumsOf m lists sums
-        → Ended m (reference_at reference.entry.bytes.now reference.entry.points) room lists result }
+        → Ended m (reference_in reference.entry) room lists result }
 {
     if sums.barred {
         return Err(Refusal::JoinedBan);

@@ -3,7 +3,7 @@
 
 ghost use Rattle.std.specs.Prelude.{◌≡◌, ℕ, ◌≤◌, ◌<◌, List, length, take};
 ghost use Rattle.model.specs.Map.{Map, decode};
-ghost use Rattle.model.specs.Reference.{reference_at, parse};
+ghost use Rattle.model.specs.Reference.{parse};
 ghost use Rattle.model.specs.Reading.{joined};
 ghost use Rattle.model.specs.Outcome.{LegsRead, every, ReadOutcome, ReadOn, ReadParsed, ReadMap};
 ghost use Rattle.model.specs.Locate.{located};
@@ -13,7 +13,7 @@ ghost use Rattle.model.specs.Front.{same_map};
 ghost use Rattle.model.specs.OfMessage.{OnFront, ReadOfMessageCall};
 ghost use Rattle.model.specs.Call.{ReadAnswered, ReadCall};
 ghost use Rattle.search_cells.specs.Area.{Set};
-ghost use Rattle.references.specs.Legs.{legs_at};
+ghost use Rattle.references.specs.Formed.{reference_in, legs_in};
 ghost use Rattle.reference_legs.specs.Legs.{PlacesIn};
 ghost use Rattle.model.specs.Locate as definitions;
 
@@ -45,7 +45,7 @@ fn put_lines(
     requires points_lt_places { (reference.points < length places.now) × (count ≤ length out.old) }
     requires set { (m : Map) × Set m lines work.old × PlacesIn m reference.points places.now }
     ensures { (m : Map) → Set m lines work.old → PlacesIn m reference.entry.points places.now → (lists : List (List ℕ))
-        → LegsRead m 0 (legs_at reference.entry.bytes.now reference.entry.points places.now) (every lists) → length (joined lists) ≡ count
+        → LegsRead m 0 (legs_in reference.entry places.now) (every lists) → length (joined lists) ≡ count
         → (count ≤ length kept.now → take count kept.now ≡ joined lists)
         → out.new ≡ placed (joined lists) out.old }
 {
@@ -68,8 +68,8 @@ fn on_places(
     requires points_lt_places { reference.points < length places.now }
     requires set { (m : Map) × Set m lines work.old × PlacesIn m reference.points places.now }
     ensures { (m : Map) → Set m lines work.old → PlacesIn m reference.entry.points places.now
-        → definitions.locate m (reference_at reference.entry.bytes.now reference.entry.points) ≡ located (legs_at reference.entry.bytes.now reference.entry.points places.now)
-        → ReadAnswered (ReadOn m (reference_at reference.entry.bytes.now reference.entry.points) (length out.old)) out.old out.new result }
+        → definitions.locate m (reference_in reference.entry) ≡ located (legs_in reference.entry places.now)
+        → ReadAnswered (ReadOn m (reference_in reference.entry) (length out.old)) out.old out.new result }
 {
     let mut kept = [0; KEPT_LINES];
     let sums = read_legs(reference, places, work, lines, &mut kept)?;
@@ -87,7 +87,7 @@ pub fn on_points(
 ) -> ReadAnswer
     requires { (m : Map) × Set m opened.lines work.old × (length m.nodes ≡ opened.nodes) }
     ensures { (m : Map) → Set m opened.lines work.old → length m.nodes ≡ opened.nodes
-        → ReadAnswered (ReadOn m (reference_at reference.entry.bytes.now reference.entry.points) (length out.old)) out.old out.new result }
+        → ReadAnswered (ReadOn m (reference_in reference.entry) (length out.old)) out.old out.new result }
 {
     let mut places = [0; Reference::MOST_POINTS];
     locate(reference, work, opened.nodes, &mut places)?;

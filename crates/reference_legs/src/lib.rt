@@ -7,7 +7,7 @@ ghost use Rattle.model.specs.Lines.{Connected};
 ghost use Rattle.model.specs.Reading.{greatest_leg_length};
 ghost use Rattle.work_area.specs.Area.{Held};
 ghost use Rattle.search_cells.specs.Area.{lines_from, Set};
-ghost use Rattle.references.specs.Legs.{legs_at};
+ghost use Rattle.references.specs.Formed.{legs_in};
 ghost use Rattle.fields.specs.Leg.{leg_in};
 ghost use Rattle.legs.specs.Verdict.{Judged};
 ghost use Rattle.reference_legs.specs.Legs.{barred_with, sums_with, Put, Inserted, PlacesIn, LegsDone};
@@ -96,7 +96,7 @@ pub fn read_legs(
     requires points_lt_places { reference.points < length places.now }
     requires set { (m : Map) × Set m lines work.old × PlacesIn m reference.points places.now }
     ensures { (m : Map) → Set m lines work.old → PlacesIn m reference.entry.points places.now
-        → LegsDone m lines (legs_at reference.entry.bytes.now reference.entry.points places.now) work.new out.old out.new result }
+        → LegsDone m lines (legs_in reference.entry places.now) work.new out.old out.new result }
 {
     let mut sums = Sums::default();
     'legs: {

@@ -1,6 +1,6 @@
 // A reference's bytes: whether they have the form of one, and what their fields say.
 ghost use Rattle.std.specs.Prelude.{◌≡◌, ◌+◌, ◌*◌, ◌≤◌, ◌<◌, true, length, get_or};
-ghost use Rattle.model.specs.Reference.{attributes, flags, spare_bits, offset_at, reference_at};
+ghost use Rattle.model.specs.Reference.{attributes, flags, spare_bits, offset_at};
 ghost use Rattle.fields.specs.Leg.{attributes_in};
 ghost use Rattle.references.specs.Form.{SoundBytes, offset_in};
 
@@ -17,7 +17,7 @@ pub struct Reference<'a> {
 }
 
 impl<'a> Reference<'a> {
-    ghost use Rattle.references.specs.Formed.{FormOf};
+    ghost use Rattle.references.specs.Formed.{FormOf, reference_in};
 
     // The status byte, which comes first.
     pub const STATUS: u8 = 0x0B;
@@ -67,7 +67,7 @@ impl<'a> Reference<'a> {
 
     // The positive offset.
     pub fn positive_offset(self) -> Option<u32>
-        ensures { offset_in result ≡ (reference_at self.entry.bytes.now self.entry.points).pos }
+        ensures { offset_in result ≡ (reference_in self.entry).pos }
     {
         let r = byte_r(self.bytes, self.points);
         offset_at(
@@ -79,7 +79,7 @@ impl<'a> Reference<'a> {
 
     // The negative offset. Its byte stands after that of the positive one.
     pub fn negative_offset(self) -> Option<u32>
-        ensures { offset_in result ≡ (reference_at self.entry.bytes.now self.entry.points).neg }
+        ensures { offset_in result ≡ (reference_in self.entry).neg }
     {
         let r = byte_r(self.bytes, self.points);
         let positive = (r / 64 % 2) as usize;

@@ -1,16 +1,12 @@
 -- The legs one after another, and of each its termini.
-use Rattle.std.proofs.Common.{◌≡◌, ◌-◌, ◌+◌, ◌<◌, ◌∷◌, length, arith, refl, sym, ◌∙◌, ℕ}
-use Rattle.model.specs.Map.{Map}
-use Rattle.search_cells.specs.Area.{Set}
+use Rattle.std.proofs.Common.{◌≡◌, ◌-◌, arith, refl, sym, ◌∙◌, ℕ}
 use Rattle.fields.specs.declared.leg.Reading.{Reading}
 use Rattle.fields.specs.declared.leg.Verdict.{Verdict}
 use Rattle.fields.specs.declared.leg.Verdict.TheVariants.{Unread, One, Several}
 use Rattle.fields.specs.Leg.{arrival_in, leg_in}
-use Rattle.references.specs.Legs.{legs_on, legs_at}
-use Rattle.reference_legs.specs.Legs.{PlacesIn}
 use Rattle.reference_legs.specs.TerminusAt.{next_at}
 use Rattle.reference_legs.proofs.OneMore.{next_less, walk_start, walk_end}
-use Rattle.reference_legs.proofs.Gathering.{Gathering, none_counted, gather_none, gather_on, gather_unread, gather_several, gather_end, read_bounds, read_first}
+use Rattle.reference_legs.proofs.Gathering.{none_counted, gather_none, gather_on, gather_unread, gather_several, gather_end, read_bounds, read_first}
 use Rattle.reference_legs.proofs.Candidates.{Tried, leg_next, leg_to, legs_end, tried_on, unread_on, standing, several_tried}
 use Rattle.reference_legs.proofs.read_legs.Goals as goal
 
