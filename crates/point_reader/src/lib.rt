@@ -16,6 +16,7 @@ use model::{PointReadAnswer, ReadPoint, Refusal};
 use opening::{Opened, open_map};
 use point_bytes::{Marks, form_of, marks_in, put_line};
 use reader::on_points;
+use references::reference::Reference;
 use work_area::step::in_work_area;
 
 // The answer for bytes that are a point along line: what is answered to the line reference with the same points, and the marks.
@@ -25,9 +26,13 @@ fn on_point(bytes: &[u8], work: &mut [u32], opened: Opened, out: &mut [u32]) -> 
     ensures { (m : Map) → Set m opened.lines work.old → length m.nodes ≡ opened.nodes
         → PointReadAnswered (PointReadOn m (point_along_at bytes.now) (length out.old)) out.old out.new result }
 {
-    let mut line: [u8; 17] = [0; Marks::LONGEST];
-    put_line(bytes, &mut line);
-    let found = on_points(&line[..bytes.len()], 1, work, opened, out)?;
+    let mut copy: [u8; 17] = [0; Marks::LONGEST];
+    put_line(bytes, &mut copy);
+    let line = Reference {
+        bytes: &copy[..bytes.len()],
+        points: 1,
+    };
+    let found = on_points(line, work, opened, out)?;
     let marks = marks_in(bytes);
     Ok(ReadPoint {
         count: found.count,

@@ -1,15 +1,15 @@
 // What is asked once every leg is read: whether a banned turn stands where two meet, the offsets' spans, and whether the lines fit their buffer.
 ghost use Rattle.std.specs.Prelude.{ℕ, List};
 ghost use Rattle.model.specs.Map.{Map};
-ghost use Rattle.model.specs.Reference.{reference_at};
-ghost use Rattle.references.specs.Form.{SoundBytes, offset_in};
+ghost use Rattle.references.specs.Form.{offset_in};
+ghost use Rattle.references.specs.Formed.{reference_in};
 ghost use Rattle.reference_legs.specs.Legs.{SumsOf};
 ghost use Rattle.reader.specs.Ending.{SpansOf, Ended};
 
 use fields::offset::span_of;
 use model::{ReadAnswer, ReadLines, Refusal, Span};
 use reference_legs::Sums;
-use references::reference::{negative_offset, positive_offset};
+use references::reference::Reference;
 
 // The span of an offset on a leg of this length: 0 and 0 where there is no byte.
 fn span(leg: u32, offset: Option<u32>) -> Result<Span, Refusal>
@@ -25,15 +25,15 @@ fn span(leg: u32, offset: Option<u32>) -> Result<Span, Refusal>
 }
 
 // The answer for legs of these sums and a line buffer of `room` numbers. The positive offset lies on the first leg, the negative on the last.
-pub fn answer(bytes: &[u8], points: usize, sums: Sums, room: usize) -> ReadAnswer
-    requires { SoundBytes bytes.now points }
-    ensures { (m : Map) → (lists : List (List ℕ)) → SumsOf m lists sums → Ended m (reference_at bytes.now points) room lists result }
+pub fn answer(reference: Reference, sums: Sums, room: usize) -> ReadAnswer
+    ensures { (m : Map) → (lists : List (List ℕ)) → SumsOf m lists sums
+        → Ended m (reference_in reference.entry) room lists result }
 {
     if sums.barred {
         return Err(Refusal::JoinedBan);
     }
-    let positive = span(sums.first, positive_offset(bytes, points))?;
-    let negative = span(sums.last, negative_offset(bytes, points))?;
+    let positive = span(sums.first, reference.positive_offset())?;
+    let negative = span(sums.last, reference.negative_offset())?;
     if sums.length as u64 <= positive.least as u64 + negative.least as u64 {
         return Err(Refusal::NoOffset);
     }

@@ -3,7 +3,7 @@
 
 ghost use Rattle.std.specs.Prelude.{◌≡◌, ℕ, ◌≤◌, ◌<◌, List, length, take};
 ghost use Rattle.model.specs.Map.{Map, decode};
-ghost use Rattle.model.specs.Reference.{reference_at, parse};
+ghost use Rattle.model.specs.Reference.{parse};
 ghost use Rattle.model.specs.Reading.{joined};
 ghost use Rattle.model.specs.Outcome.{LegsRead, every, ReadOutcome, ReadOn, ReadParsed, ReadMap};
 ghost use Rattle.model.specs.Locate.{located};
@@ -13,8 +13,7 @@ ghost use Rattle.model.specs.Front.{same_map};
 ghost use Rattle.model.specs.OfMessage.{OnFront, ReadOfMessageCall};
 ghost use Rattle.model.specs.Call.{ReadAnswered, ReadCall};
 ghost use Rattle.search_cells.specs.Area.{Set};
-ghost use Rattle.references.specs.Form.{SoundBytes};
-ghost use Rattle.references.specs.Legs.{legs_at};
+ghost use Rattle.references.specs.Formed.{reference_in, legs_in};
 ghost use Rattle.reference_legs.specs.Legs.{PlacesIn};
 ghost use Rattle.model.specs.Locate as definitions;
 
@@ -35,8 +34,7 @@ const KEPT_LINES: usize = 2_304;
 
 // Writes the `count` lines of a reference that is accepted.
 fn put_lines(
-    bytes: &[u8],
-    points: usize,
+    reference: Reference,
     places: &[u32],
     work: &mut [u32],
     lines: usize,
@@ -44,10 +42,10 @@ fn put_lines(
     count: usize,
     out: &mut [u32],
 )
-    requires sound_bytes { SoundBytes bytes.now points × (points < length places.now) × (count ≤ length out.old) }
-    requires set { (m : Map) × Set m lines work.old × PlacesIn m points places.now }
-    ensures { (m : Map) → Set m lines work.old → PlacesIn m points places.now → (lists : List (List ℕ))
-        → LegsRead m 0 (legs_at bytes.now points places.now) (every lists) → length (joined lists) ≡ count
+    requires points_lt_places { (reference.points < length places.now) × (count ≤ length out.old) }
+    requires set { (m : Map) × Set m lines work.old × PlacesIn m reference.points places.now }
+    ensures { (m : Map) → Set m lines work.old → PlacesIn m reference.entry.points places.now → (lists : List (List ℕ))
+        → LegsRead m 0 (legs_in reference.entry places.now) (every lists) → length (joined lists) ≡ count
         → (count ≤ length kept.now → take count kept.now ≡ joined lists)
         → out.new ≡ placed (joined lists) out.old }
 {
@@ -56,47 +54,44 @@ fn put_lines(
         return;
     }
     // The same legs have been read once, so all of them are read again.
-    let _ = read_legs(bytes, points, places, work, lines, out);
+    let _ = read_legs(reference, places, work, lines, out);
 }
 
 // The answer for a reference whose points' nodes are known.
 fn on_places(
-    bytes: &[u8],
-    points: usize,
+    reference: Reference,
     places: &[u32],
     work: &mut [u32],
     lines: usize,
     out: &mut [u32],
 ) -> ReadAnswer
-    requires sound_bytes { SoundBytes bytes.now points × (points < length places.now) }
-    requires set { (m : Map) × Set m lines work.old × PlacesIn m points places.now }
-    ensures { (m : Map) → Set m lines work.old → PlacesIn m points places.now
-        → definitions.locate m (reference_at bytes.now points) ≡ located (legs_at bytes.now points places.now)
-        → ReadAnswered (ReadOn m (reference_at bytes.now points) (length out.old)) out.old out.new result }
+    requires points_lt_places { reference.points < length places.now }
+    requires set { (m : Map) × Set m lines work.old × PlacesIn m reference.points places.now }
+    ensures { (m : Map) → Set m lines work.old → PlacesIn m reference.entry.points places.now
+        → definitions.locate m (reference_in reference.entry) ≡ located (legs_in reference.entry places.now)
+        → ReadAnswered (ReadOn m (reference_in reference.entry) (length out.old)) out.old out.new result }
 {
     let mut kept = [0; KEPT_LINES];
-    let sums = read_legs(bytes, points, places, work, lines, &mut kept)?;
-    let found = answer(bytes, points, sums, out.len())?;
-    put_lines(bytes, points, places, work, lines, &kept, found.count, out);
+    let sums = read_legs(reference, places, work, lines, &mut kept)?;
+    let found = answer(reference, sums, out.len())?;
+    put_lines(reference, places, work, lines, &kept, found.count, out);
     Ok(found)
 }
 
 // The answer for bytes that are a reference.
 pub fn on_points(
-    bytes: &[u8],
-    points: usize,
+    reference: Reference,
     work: &mut [u32],
     opened: Opened,
     out: &mut [u32],
 ) -> ReadAnswer
-    requires sound_bytes { SoundBytes bytes.now points }
-    requires set { (m : Map) × Set m opened.lines work.old × (length m.nodes ≡ opened.nodes) }
+    requires { (m : Map) × Set m opened.lines work.old × (length m.nodes ≡ opened.nodes) }
     ensures { (m : Map) → Set m opened.lines work.old → length m.nodes ≡ opened.nodes
-        → ReadAnswered (ReadOn m (reference_at bytes.now points) (length out.old)) out.old out.new result }
+        → ReadAnswered (ReadOn m (reference_in reference.entry) (length out.old)) out.old out.new result }
 {
     let mut places = [0; Reference::MOST_POINTS];
-    locate(bytes, points, work, opened.nodes, &mut places)?;
-    on_places(bytes, points, &places, work, opened.lines, out)
+    locate(reference, work, opened.nodes, &mut places)?;
+    on_places(reference, &places, work, opened.lines, out)
 }
 
 // The answer on a map that is ready in the work area.
@@ -106,7 +101,7 @@ fn on_map(reference: &[u8], work: &mut [u32], opened: Opened, out: &mut [u32]) -
         → ReadAnswered (ReadParsed m (parse reference.now) (length out.old)) out.old out.new result }
 {
     let sound = Reference::of(reference)?;
-    on_points(reference, sound.points, work, opened, out)
+    on_points(sound, work, opened, out)
 }
 
 // Reads a reference on a map. An answer that it is read has the count of lines, which stand first in `lines`, and the spans of the two offsets.

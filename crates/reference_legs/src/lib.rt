@@ -7,8 +7,7 @@ ghost use Rattle.model.specs.Lines.{Connected};
 ghost use Rattle.model.specs.Reading.{greatest_leg_length};
 ghost use Rattle.work_area.specs.Area.{Held};
 ghost use Rattle.search_cells.specs.Area.{lines_from, Set};
-ghost use Rattle.references.specs.Form.{SoundBytes};
-ghost use Rattle.references.specs.Legs.{legs_at};
+ghost use Rattle.references.specs.Formed.{legs_in};
 ghost use Rattle.fields.specs.Leg.{leg_in};
 ghost use Rattle.legs.specs.Verdict.{Judged};
 ghost use Rattle.reference_legs.specs.Legs.{barred_with, sums_with, Put, Inserted, PlacesIn, LegsDone};
@@ -19,6 +18,7 @@ use fields::leg::{Leg, Reading, Verdict};
 use legs::first_lines::both;
 use model::Refusal;
 use references::leg::leg_at;
+use references::reference::Reference;
 use termini::{first_terminus, next_terminus, read_terminus};
 use ways::write_lines;
 
@@ -87,22 +87,21 @@ fn put_reading(work: &[u32], found: Verdict, out: &mut [u32], from: usize)
 // Reads every leg between the nodes in `places`, up to the first without exactly one reading: that is refusal 17 or 18. The lines of the legs stand in
 // `out` as long as there is room.
 pub fn read_legs(
-    bytes: &[u8],
-    points: usize,
+    reference: Reference,
     places: &[u32],
     work: &mut [u32],
     lines: usize,
     out: &mut [u32],
 ) -> Result<Sums, Refusal>
-    requires sound_bytes { SoundBytes bytes.now points × (points < length places.now) }
-    requires set { (m : Map) × Set m lines work.old × PlacesIn m points places.now }
-    ensures { (m : Map) → Set m lines work.old → PlacesIn m points places.now
-        → LegsDone m lines (legs_at bytes.now points places.now) work.new out.old out.new result }
+    requires points_lt_places { reference.points < length places.now }
+    requires set { (m : Map) × Set m lines work.old × PlacesIn m reference.points places.now }
+    ensures { (m : Map) → Set m lines work.old → PlacesIn m reference.entry.points places.now
+        → LegsDone m lines (legs_in reference.entry places.now) work.new out.old out.new result }
 {
     let mut sums = Sums::default();
     'legs: {
-        for k in 0..points {
-            let leg = leg_at(bytes, points, places, k);
+        for k in 0..reference.points {
+            let leg = leg_at(reference, places, k);
             let mut found = Verdict::Unread;
             let mut at = first_terminus(work, lines, leg);
             while 0 < at {

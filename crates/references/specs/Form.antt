@@ -1,8 +1,5 @@
--- What the form of a reference's bytes is, and which offset of the definitions an offset of the code is.
-use Rattle.std.specs.Prelude.{ℕ, ◌+◌, ◌*◌, ◌≤◌, ◌≡◌, List, length, get_or, Option, Some, None, Result, Ok, Err}
-use Rattle.model.specs.declared.Refusal.{Refusal}
-use Rattle.model.specs.Refusal.{refusal_of}
-use Rattle.references.specs.declared.reference.Reference.{Reference}
+-- What sound bytes of a reference are, and which offset of the definitions an offset of the code is.
+use Rattle.std.specs.Prelude.{ℕ, ◌+◌, ◌*◌, ◌≤◌, ◌≡◌, List, length, get_or, Option, Some, None}
 use Rattle.model.specs.Reference as definitions
 
 -- The bytes are a reference of so many points but the last. Their length says how far they can be read.
@@ -11,11 +8,6 @@ pub record SoundBytes (bytes : List ℕ) (points : ℕ) : Type 0 where
   pub some : 1 ≤ points
   pub few : points ≤ 64
   pub sized : length bytes ≡ 9 + 7 * points + definitions.flags (get_or bytes (8 + 7 * points) 0)
-
--- What a form says of the bytes: refused with 12 to 15, or a reference.
-abbrev pub FormOf : List ℕ → Result Reference Refusal → Type 0
-FormOf bytes (Ok r) = SoundBytes bytes r.points
-FormOf bytes (Err why) = definitions.parse bytes ≡ definitions.refused (refusal_of why)
 
 -- The offset of the definitions.
 abbrev pub offset_in : Option ℕ → definitions.Offset

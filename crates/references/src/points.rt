@@ -2,7 +2,6 @@
 ghost use Rattle.std.specs.Prelude.{◌≡◌, ◌+◌, ◌*◌, ◌≤◌, ◌<◌, length};
 ghost use Rattle.model.specs.Map.{greatest_node_count};
 ghost use Rattle.model.specs.Work.{work_length};
-ghost use Rattle.references.specs.Form.{SoundBytes};
 ghost use Rattle.references.specs.Legs.{PlacesPut, sought_after};
 
 use crate::node::{Sought, find};
@@ -26,18 +25,18 @@ fn next_sought(bytes: &[u8], work: &[u32], k: usize, from: u32) -> Sought
 
 // Puts the node of each point into `places`, up to the first point that has none: that is refusal 16.
 pub fn locate(
-    bytes: &[u8],
-    points: usize,
+    reference: Reference,
     work: &[u32],
     nodes: u32,
     places: &mut [u32],
 ) -> Result<(), Refusal>
-    requires { SoundBytes bytes.now points × (work_length ≤ length work.now) × (nodes ≤ greatest_node_count) × (points < length places.old) }
-    ensures { PlacesPut bytes.now points work.now nodes places.old places.new result }
+    requires { (work_length ≤ length work.now) × (nodes ≤ greatest_node_count) × (reference.points < length places.old) }
+    ensures { PlacesPut reference.entry.bytes.now reference.entry.points work.now nodes places.old places.new result }
 {
+    let bytes = reference.bytes;
     let first = Sought::Codes(at3(bytes, 1), at3(bytes, 4));
     places[0] = find(work, nodes, first).ok_or(Refusal::NoNode(0))?;
-    for k in 0..points {
+    for k in 0..reference.points {
         let next = next_sought(bytes, work, k, places[k]);
         places[k + 1] = find(work, nodes, next).ok_or(Refusal::NoNode((k + 1) as u32))?;
     }

@@ -1,20 +1,24 @@
 // A reference's bytes: whether they have the form of one, and what their fields say.
 ghost use Rattle.std.specs.Prelude.{◌≡◌, ◌+◌, ◌*◌, ◌≤◌, ◌<◌, true, length, get_or};
-ghost use Rattle.model.specs.Reference.{attributes, flags, spare_bits, offset_at, reference_at};
+ghost use Rattle.model.specs.Reference.{attributes, flags, spare_bits, offset_at};
 ghost use Rattle.fields.specs.Leg.{attributes_in};
-ghost use Rattle.references.specs.Form.{FormOf, SoundBytes, offset_in};
+ghost use Rattle.references.specs.Form.{SoundBytes, offset_in};
 
 use fields::leg::Attributes;
 use model::Refusal;
 use model::limits::LONGEST_REFERENCE;
 
-// A reference by its count of points but the last, which is its count of legs. The rest stays in the bytes.
+// A reference: its bytes, and its count of points but the last, which is its count of legs.
 #[derive(Clone, Copy)]
-pub struct Reference {
+pub struct Reference<'a> {
+    pub bytes: &'a [u8],
     pub points: usize,
+    pub ghost sound: { SoundBytes bytes.now points },
 }
 
-impl Reference {
+impl<'a> Reference<'a> {
+    ghost use Rattle.references.specs.Formed.{FormOf, reference_in};
+
     // The status byte, which comes first.
     pub const STATUS: u8 = 0x0B;
 
@@ -37,7 +41,7 @@ impl Reference {
     pub const FIRST_P: usize = 7;
 
     // The reference that the bytes are, or the first of refusals 12 to 15. What is over after whole points are offset bytes, at most 2.
-    pub fn of(bytes: &[u8]) -> Result<Reference, Refusal>
+    pub fn of(bytes: &'a [u8]) -> Result<Self, Refusal>
         ensures { FormOf bytes.now result }
     {
         let n = bytes.len();
@@ -58,7 +62,32 @@ impl Reference {
         if flag_count(byte_r(bytes, points)) != left {
             return Err(Refusal::ReferenceFlags);
         }
-        Ok(Reference { points })
+        Ok(Reference { bytes, points })
+    }
+
+    // The positive offset.
+    pub fn positive_offset(self) -> Option<u32>
+        ensures { offset_in result ≡ (reference_in self.entry).pos }
+    {
+        let r = byte_r(self.bytes, self.points);
+        offset_at(
+            self.bytes,
+            r / 64 % 2 == 1,
+            Self::FIRST_P + 2 + Self::MIDDLE_POINT * self.points,
+        )
+    }
+
+    // The negative offset. Its byte stands after that of the positive one.
+    pub fn negative_offset(self) -> Option<u32>
+        ensures { offset_in result ≡ (reference_in self.entry).neg }
+    {
+        let r = byte_r(self.bytes, self.points);
+        let positive = (r / 64 % 2) as usize;
+        offset_at(
+            self.bytes,
+            r / 32 % 2 == 1,
+            Self::FIRST_P + 2 + Self::MIDDLE_POINT * self.points + positive,
+        )
     }
 }
 
@@ -129,31 +158,4 @@ fn offset_at(bytes: &[u8], flagged: bool, i: usize) -> Option<u32>
     } else {
         None
     }
-}
-
-// The positive offset.
-pub fn positive_offset(bytes: &[u8], points: usize) -> Option<u32>
-    requires { SoundBytes bytes.now points }
-    ensures { offset_in result ≡ (reference_at bytes.now points).pos }
-{
-    let r = byte_r(bytes, points);
-    offset_at(
-        bytes,
-        r / 64 % 2 == 1,
-        Reference::FIRST_P + 2 + Reference::MIDDLE_POINT * points,
-    )
-}
-
-// The negative offset. Its byte stands after that of the positive one.
-pub fn negative_offset(bytes: &[u8], points: usize) -> Option<u32>
-    requires { SoundBytes bytes.now points }
-    ensures { offset_in result ≡ (reference_at bytes.now points).neg }
-{
-    let r = byte_r(bytes, points);
-    let positive = (r / 64 % 2) as usize;
-    offset_at(
-        bytes,
-        r / 32 % 2 == 1,
-        Reference::FIRST_P + 2 + Reference::MIDDLE_POINT * points + positive,
-    )
 }

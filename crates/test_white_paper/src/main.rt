@@ -3,7 +3,6 @@
 #![tactic(auto)]
 
 ghost use Rattle.std.specs.Prelude.{◌<◌};
-ghost use Rattle.references.specs.Form.{SoundBytes};
 
 use buffers::bytes::{at2, at3};
 use console::{hand_over, load, print};
@@ -14,7 +13,7 @@ use fields::sector::sector;
 use model::limits::{DISTANCE_STEP, STEP_ADDED};
 use model::number_of;
 use references::leg::leg_at;
-use references::reference::{Reference, negative_offset, positive_offset};
+use references::reference::Reference;
 
 // The coordinates of Table 72 in hundred-thousandths of a degree, with what the map adds to them.
 const LONGITUDE_1: u32 = 18_000_000 + 612_683;
@@ -65,12 +64,11 @@ fn reached(k: usize, by_lon: u32, by_lat: u32) -> bool {
 }
 
 // The coordinates of each point, the differences to it from the second on.
-fn show_coordinates(rt: &impl Print, bytes: &[u8], points: usize)
-    requires { SoundBytes bytes.now points }
-{
+fn show_coordinates(rt: &impl Print, reference: Reference) {
+    let bytes = reference.bytes;
     print(rt, b"Table 72: 1 code ", at3(bytes, 1) as u64);
     print(rt, b" code ", at3(bytes, 4) as u64);
-    for k in 0..points {
+    for k in 0..reference.points {
         let by_lon = at2(bytes, 10 + 7 * k);
         let by_lat = at2(bytes, 12 + 7 * k);
         print(rt, b"\nTable 72: ", (k + 2) as u64);
@@ -109,12 +107,10 @@ fn print_distance(rt: &impl Print, d: u32) {
 }
 
 // What the bytes say of the lines at each point and of the legs between them.
-fn show_points(rt: &impl Print, bytes: &[u8], points: usize)
-    requires { SoundBytes bytes.now points }
-{
-    let places = [0; 65];
-    for k in 0..points {
-        let leg = leg_at(bytes, points, &places, k);
+fn show_points(rt: &impl Print, reference: Reference) {
+    let places = [0; Reference::MOST_POINTS];
+    for k in 0..reference.points {
+        let leg = leg_at(reference, &places, k);
         show_point(rt, k + 1, leg.leaves);
         print(rt, b" FRC", leg.lowest as u64);
         print_distance(rt, leg.distance);
@@ -163,11 +159,10 @@ fn show_fields(rt: &impl Print) {
 fn show(rt: &impl Print, bytes: &[u8]) {
     match Reference::of(bytes) {
         Ok(reference) => {
-            let points = reference.points;
-            show_coordinates(rt, bytes, points);
-            show_points(rt, bytes, points);
-            show_offset(rt, b"\nTable 93: positive", positive_offset(bytes, points));
-            show_offset(rt, b"\nTable 93: negative", negative_offset(bytes, points));
+            show_coordinates(rt, reference);
+            show_points(rt, reference);
+            show_offset(rt, b"\nTable 93: positive", reference.positive_offset());
+            show_offset(rt, b"\nTable 93: negative", reference.negative_offset());
         }
         Err(why) => {
             print(rt, b"refused ", number_of(why) as u64);

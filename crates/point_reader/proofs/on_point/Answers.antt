@@ -11,16 +11,16 @@ use Rattle.point_reader.proofs.on_point.Goals as goal
 pub put_line-requires : goal.put_line-requires
 put_line-requires c = let s = (shaped _ _ c.requires.bytes_value).0 in (s.long, s.short)
 
-pub slice_bounds-line-end : goal.slice_bounds-line-end
-slice_bounds-line-end c = let s = (shaped _ _ c.requires.bytes_value).0 in omega (arith, s.short, c.put_line.auto.line)
+pub slice_bounds-copy-end : goal.slice_bounds-copy-end
+slice_bounds-copy-end c = let s = (shaped _ _ c.requires.bytes_value).0 in omega (arith, s.short, c.put_line.auto.line)
 
-pub slice_bounds-on_points-end : goal.slice_bounds-on_points-end
-slice_bounds-on_points-end c =
+pub slice_bounds-line-end : goal.slice_bounds-line-end
+slice_bounds-line-end c =
     let s = (shaped _ _ c.requires.bytes_value).0 in
     sym (length-take-le _ _ (omega (arith, s.short, c.put_line.auto.line)))
 
-pub on_points-requires-clause-sound_bytes : goal.on_points-requires-clause-sound_bytes
-on_points-requires-clause-sound_bytes c = rw (line_first _ _ _ c.put_line.ensures) (sound_line _ (shaped _ _ c.requires.bytes_value).0)
+pub invariant_of-line : goal.invariant_of-line
+invariant_of-line c = record { sound = rw (line_first _ _ _ c.put_line.ensures) (sound_line _ (shaped _ _ c.requires.bytes_value).0) }
 
 pub marks_in-marks-requires : goal.marks_in-marks-requires
 marks_in-marks-requires c = (shaped _ _ c.requires.bytes_value).0.long

@@ -20,7 +20,7 @@ put_lines-requires c =
     let p = c.requires.set in
     let done = c.in_ok-sums.ensures p.0 p.1 p.2 in
     let k = counted (c.in_ok-found.ensures p.0 done.tells.lists done.tells.sums) in
-    record { sound_bytes = (c.requires.sound_bytes.0, c.requires.sound_bytes.1, k.1); set = (p.0, done.set, p.2) }
+    record { points_lt_places = (c.requires.points_lt_places, k.1); set = (p.0, done.set, p.2) }
 
 pub returns : goal.returns
 returns c m set places found =

@@ -11,8 +11,8 @@ use Rattle.reference_legs.proofs.read_legs.Given as goal
 
 abbrev pub invariant-loop-k : goal.invariant-loop-k
 invariant-loop-k l =
-    (m : Map) → Set m l.lines l.fn.work → PlacesIn m l.points l.places →
-    Gathering m l.lines (legs_at l.bytes l.points l.places) l.k (legs_on l.bytes l.points l.places l.k (l.points - l.k)) l.work l.fn.out l.out l.sums
+    (m : Map) → Set m l.lines l.fn.work → PlacesIn m l.reference.points l.places →
+    Gathering m l.lines (legs_at l.reference.bytes.now l.reference.points l.places) l.k (legs_on l.reference.bytes.now l.reference.points l.places l.k (l.reference.points - l.k)) l.work l.fn.out l.out l.sums
 
 abbrev pub invariant-loop-at : goal.invariant-loop-at
 invariant-loop-at l =

@@ -17,7 +17,7 @@ returns-in_err-places c =
 pub loop-k-init : goal.loop-k-init
 loop-k-init c =
     let here = node_found (rw (c.at3.ensures.0, c.at3-2.ensures.0) at c.find.ensures) _ (sym c.ok_or.ensures.value ∙ c.in_ok-places.was) in
-    record { kept = kept_set c.args.points 0 _ (omega arith) kept_none; tracked = tracked_first _ _ _ c.args.places.now _ (omega arith) here }
+    record { kept = kept_set c.args.reference.points 0 _ (omega arith) kept_none; tracked = tracked_first _ _ _ c.args.places.now _ (omega arith) here }
 
 pub returns-in_err-places-2 : goal.returns-in_err-places-2
 returns-in_err-places-2 c =
@@ -37,7 +37,7 @@ pub loop-k-preserved : goal.loop-k-preserved
 loop-k-preserved c =
     let next = node_found (rw c.next_sought-next.ensures at c.find-in-loop-k.ensures) _ (sym c.ok_or-in-loop-k.ensures.value ∙ c.in_ok-places-2.was) in
     record {
-      kept = kept_set c.args.points _ _ (omega arith) c.loop-k.invariant.kept;
+      kept = kept_set c.args.reference.points _ _ (omega arith) c.loop-k.invariant.kept;
       tracked = tracked_more _ _ _ c.loop-k.places _ c.loop-k.k (omega arith) c.loop-k.invariant.tracked next;
     }
 

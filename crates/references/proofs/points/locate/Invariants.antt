@@ -6,4 +6,4 @@ use Rattle.references.proofs.points.locate.Given as goal
 
 abbrev pub invariant-loop-k : goal.invariant-loop-k
 invariant-loop-k l =
-    record { kept : Kept 0 (l.points + 1) l.fn.places l.places; tracked : Tracked l.bytes l.work l.nodes l.k l.places }
+    record { kept : Kept 0 (l.reference.points + 1) l.fn.places l.places; tracked : Tracked l.reference.bytes.now l.work l.nodes l.k l.places }

@@ -31,13 +31,15 @@ returns-then-flag_count-left c =
     ∙ rw
     (sym c.spare_bits.ensures ∙ c.if-spare_bits.false, ne_eqb _ _ (λ e. c.if-flag_count-left.true (c.flag_count.ensures ∙ ap flags c.byte_r.ensures.0 ∙ sym e)))
 
-pub returns : goal.returns
-returns c =
+pub invariant_of-result : goal.invariant_of-result
+invariant_of-result c =
     let same = sym c.if-flag_count-left.false ∙ c.flag_count.ensures ∙ ap flags c.byte_r.ensures.0 in
     record {
-      parses = after_status _ (omega arith) (omega arith) (omega arith) c.if-bytes-ne-STATUS.false
-          ∙ rw (sym c.spare_bits.ensures ∙ c.if-spare_bits.false, eq-eqb _ _ same);
-      some = omega arith;
-      few = omega arith;
-      sized = omega arith;
+      sound = record {
+        parses = after_status _ (omega arith) (omega arith) (omega arith) c.if-bytes-ne-STATUS.false
+            ∙ rw (sym c.spare_bits.ensures ∙ c.if-spare_bits.false, eq-eqb _ _ same);
+        some = omega arith;
+        few = omega arith;
+        sized = omega arith;
+      };
     }
