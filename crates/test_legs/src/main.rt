@@ -183,7 +183,12 @@ fn run(rt: &impl Print, bytes: &[u8], work: &mut [u32])
         if given.start < given.end {
             map = given;
         }
-        show(rt, &bytes[map.start..map.end], &bytes[leg.start..leg.end], work);
+        show(
+            rt,
+            &bytes[map.start..map.end],
+            &bytes[leg.start..leg.end],
+            work,
+        );
         hand_over(rt, b"\n");
     }
 }
