@@ -3,7 +3,7 @@
 ghost use Rattle.std.specs.Prelude.{◌<◌, length};
 ghost use Rattle.model.specs.Map.{Map};
 ghost use Rattle.work_area.specs.Area.{Held};
-ghost use Rattle.stretches.specs.Stretch.{Known};
+ghost use Rattle.stretches.specs.Known.{Known};
 ghost use Rattle.sole_ways.specs.SoleWays.{Marks};
 ghost use Rattle.leg_tests.specs.LegTests.{Alone};
 ghost use Rattle.leg_tests.specs.Leaving.{Leaving};

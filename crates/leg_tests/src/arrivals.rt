@@ -3,7 +3,7 @@ ghost use Rattle.std.specs.Prelude.{◌≡◌, ◌≤◌, length};
 ghost use Rattle.model.specs.Map.{Map};
 ghost use Rattle.model.specs.Lines.{Connected};
 ghost use Rattle.search_cells.specs.Area.{Set};
-ghost use Rattle.stretches.specs.Stretch.{Known};
+ghost use Rattle.stretches.specs.Known.{Known};
 ghost use Rattle.leg_tests.specs.Arrivals.{arrivals_length, Firsts, Nexts};
 
 use search_cells::adjacency::{first_leaving, next_leaving};

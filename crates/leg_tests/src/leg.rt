@@ -9,7 +9,7 @@ ghost use Rattle.model.specs.Reading.{any, matching};
 ghost use Rattle.work_area.specs.Area.{Held};
 ghost use Rattle.buffers.specs.Decides.{Decides};
 ghost use Rattle.fields.specs.Leg.{arrival_in, leg_in};
-ghost use Rattle.stretches.specs.Stretch.{Known};
+ghost use Rattle.stretches.specs.Known.{Known};
 ghost use Rattle.leg_tests.specs.LegTests.{leg_from, Fits, Measured};
 
 use fields::coordinate::{LONGITUDE_ADDED, difference, longitude_difference};

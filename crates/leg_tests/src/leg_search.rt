@@ -13,7 +13,7 @@ ghost use Rattle.search_cells.specs.Area.{Set};
 ghost use Rattle.way_lengths.specs.Ways.{Stands};
 ghost use Rattle.buffers.specs.Decides.{Decides};
 ghost use Rattle.legs.specs.Verdict.{LimitFor, Says, Anywhere, ReadingTo};
-ghost use Rattle.stretches.specs.Stretch.{Known};
+ghost use Rattle.stretches.specs.Known.{Known};
 ghost use Rattle.leg_tests.specs.LegTests.{leg_from, Alone, Serves, EndsThere, Sole, OwnLines, DoneFor, DoneUpTo, Trial, Prepared};
 ghost use Rattle.model.specs.Reading as definitions;
 

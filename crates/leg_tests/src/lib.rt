@@ -9,7 +9,7 @@ ghost use Rattle.model.specs.LegTests.{tests_made};
 ghost use Rattle.work_area.specs.Area.{Held};
 ghost use Rattle.buffers.specs.Kept.{Kept};
 ghost use Rattle.search_cells.specs.Area.{Set};
-ghost use Rattle.stretches.specs.Stretch.{Known};
+ghost use Rattle.stretches.specs.Known.{Known};
 ghost use Rattle.sole_ways.specs.SoleWays.{Blank};
 ghost use Rattle.leg_tests.specs.LegTests.{Noted, NotesKept, FirstMarked, SoleTested, SoleColumn, SoleLegs, ColumnTested, LegsSifted, AllTested};
 ghost use Rattle.leg_tests.specs.Leaving.{Leaving};

@@ -10,7 +10,7 @@ use lib.Dec.{eqb}
 use Rattle.model.specs.Map.{Map}
 use Rattle.model.specs.Choice.{Good}
 use Rattle.work_area.specs.Area.{Held}
-use Rattle.stretches.specs.Stretch.{Known}
+use Rattle.stretches.specs.Known.{Known}
 use Rattle.point_choice.specs.Cuts.{Route, there, leg, cut_legs}
 use Rattle.reference_bytes.specs.Put.{cut_at, cut_leg, CutInto}
 use Rattle.stretches.proofs.Stretches.{known_drop}

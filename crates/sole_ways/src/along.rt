@@ -8,7 +8,7 @@ ghost use Rattle.work_area.specs.Mirror.{mirror};
 ghost use Rattle.way_lengths.specs.Ways.{line};
 ghost use Rattle.search_cells.specs.Area.{Set, length_to, predecessor};
 ghost use Rattle.buffers.specs.Decides.{Decides};
-ghost use Rattle.stretches.specs.Stretch.{Known};
+ghost use Rattle.stretches.specs.Known.{Known};
 ghost use Rattle.sole_ways.specs.SoleWays.{Follows, Advanced, Arriving, Rival, SoleUnder};
 
 use crate::ahead::Along;

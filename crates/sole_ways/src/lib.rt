@@ -9,7 +9,7 @@ ghost use Rattle.model.specs.Lines.{Connected};
 ghost use Rattle.model.specs.LegTests.{tests_made};
 ghost use Rattle.work_area.specs.Mirror.{mirror};
 ghost use Rattle.search_cells.specs.Area.{Set};
-ghost use Rattle.stretches.specs.Stretch.{Known};
+ghost use Rattle.stretches.specs.Known.{Known};
 ghost use Rattle.sole_ways.specs.SoleWays.{Blank, Arriving, RowsTested};
 
 use model::limits::GREATEST_LEG_LENGTH;

@@ -4,7 +4,7 @@ ghost use Rattle.model.specs.Map.{Map};
 ghost use Rattle.model.specs.Reading.{greatest_leg_length};
 ghost use Rattle.work_area.specs.Area.{Held};
 ghost use Rattle.work_area.specs.Mirror.{mirror};
-ghost use Rattle.stretches.specs.Stretch.{Known};
+ghost use Rattle.stretches.specs.Known.{Known};
 ghost use Rattle.sole_ways.specs.SoleWays.{none_from, Measures, OneMore};
 
 use stretches::lines::field_of;

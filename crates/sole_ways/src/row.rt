@@ -6,7 +6,7 @@ ghost use Rattle.work_area.specs.Mirror.{mirror};
 ghost use Rattle.search_cells.specs.Area.{Set};
 ghost use Rattle.buffers.specs.Decides.{Decides};
 ghost use Rattle.buffers.specs.Kept.{Kept};
-ghost use Rattle.stretches.specs.Stretch.{Known};
+ghost use Rattle.stretches.specs.Known.{Known};
 ghost use Rattle.sole_ways.specs.SoleWays.{mark, Arriving, WalledIf, RowBefore, RowCleared, RowTested};
 
 use crate::part::{none_from, one_more};

@@ -7,7 +7,7 @@ ghost use Rattle.model.specs.Work.{work_length};
 ghost use Rattle.work_area.specs.Mirror.{mirror};
 ghost use Rattle.search_cells.specs.Area.{Set, several, predecessor};
 ghost use Rattle.buffers.specs.Decides.{Decides};
-ghost use Rattle.stretches.specs.Stretch.{Known};
+ghost use Rattle.stretches.specs.Known.{Known};
 ghost use Rattle.sole_ways.specs.SoleWays.{Follows, Joins, Bars, WalledIf};
 
 use crate::ahead::Along;
