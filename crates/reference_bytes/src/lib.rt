@@ -7,7 +7,6 @@ ghost use Rattle.model.specs.Reference.{point_bytes};
 ghost use Rattle.model.specs.Choice.{points_of, stretch_bytes};
 ghost use Rattle.work_area.specs.Area.{Held};
 ghost use Rattle.fields.specs.Leg.{attributes_in};
-ghost use Rattle.stretches.specs.Known.{Known};
 ghost use Rattle.model.specs.Stretch.{stretch_of};
 ghost use Rattle.point_choice.specs.Cuts.{cut_legs};
 ghost use Rattle.reference_bytes.specs.Point.{bytes_of_point, PointIs};
@@ -21,7 +20,7 @@ use fields::leg::Attributes;
 use fields::offset::offset_byte;
 use point::{Point, point_of};
 use references::reference::Reference;
-use stretches::lines::{attributes_of, coordinate, node_of, total_length};
+use stretches::lines::{LineList, coordinate};
 use work_area::{SECTOR_BACK, START};
 
 mod point;
@@ -33,7 +32,7 @@ const NEGATIVE: u32 = 32;
 
 // Puts the status byte and the codes of the first point.
 fn put_start(work: &[u32], stretch: LineList, bytes: &mut [u8])
-    requires known { (0 < length stretch.numbers.now) × (7 ≤ length bytes.old) }
+    requires room { (0 < length stretch.numbers.now) × (7 ≤ length bytes.old) }
     requires held { (m : Map) × Held work.now stretch.lines m }
     ensures { (m : Map) → Held work.now stretch.entry.lines m
         → bytes.new ≡ put_at 0 (start_bytes m stretch.entry.numbers.now) bytes.old }
@@ -59,13 +58,14 @@ fn put_point(bytes: &mut [u8], at: usize, point: Point)
 }
 
 // The lines of leg `t`.
-fn leg_of<'a>(stretch: &'a [u32], cuts: &[u32], legs: usize, t: usize) -> &'a [u32]
+fn leg_of<'a>(stretch: LineList<'a>, cuts: &[u32], legs: usize, t: usize) -> LineList<'a>
     requires t_lt_legs { (t < legs) × (legs < length cuts.now) }
-    requires by_index { (m : Map) × (cs : List ℕ) × CutInto m stretch.now cuts.now legs cs }
-    ensures { (m : Map) → (cs : List ℕ) → CutInto m stretch.now cuts.now legs cs
-        → result.now ≡ cut_leg stretch.now cs t }
+    requires by_index { (m : Map) × (cs : List ℕ) × CutInto m stretch.numbers.now cuts.now legs cs }
+    ensures map { result.lines ≡ stretch.entry.lines }
+    ensures leg { (m : Map) → (cs : List ℕ) → CutInto m stretch.entry.numbers.now cuts.now legs cs
+        → result.numbers.now ≡ cut_leg stretch.entry.numbers.now cs t }
 {
-    &stretch[wide(cuts[t])..wide(cuts[t + 1])]
+    stretch.part(wide(cuts[t]), wide(cuts[t + 1]))
 }
 
 // Puts the points but the last, one after another.
@@ -84,7 +84,7 @@ fn put_points(
 {
     for t in 0..legs {
         let leg = leg_of(stretch, cuts, legs, t);
-        let point = point_of(work, stretch.lines, leg);
+        let point = point_of(work, leg);
         put_point(
             bytes,
             Reference::FIRST_P + Reference::MIDDLE_POINT * t,
@@ -157,8 +157,8 @@ fn put_end(
 {
     let at = Reference::FIRST_P + Reference::MIDDLE_POINT * legs;
     let a = stretch.attributes_of(work, stretch.numbers.len() - 1, SECTOR_BACK);
-    let first = total_length(work, stretch.lines, leg_of(stretch, cuts, legs, 0)) as u32;
-    let last = total_length(work, stretch.lines, leg_of(stretch, cuts, legs, legs - 1)) as u32;
+    let first = leg_of(stretch, cuts, legs, 0).total_length(work) as u32;
+    let last = leg_of(stretch, cuts, legs, legs - 1).total_length(work) as u32;
     put_last(bytes, at, a, pos, neg);
     put_offsets(bytes, at + 2, first, pos, last, neg)
 }

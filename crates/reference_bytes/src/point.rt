@@ -4,12 +4,11 @@ ghost use Rattle.model.specs.Map.{Map};
 ghost use Rattle.model.specs.Difference.{Near, difference};
 ghost use Rattle.model.specs.Choice.{Good};
 ghost use Rattle.work_area.specs.Area.{Held};
-ghost use Rattle.stretches.specs.Known.{Known};
 ghost use Rattle.reference_bytes.specs.Point.{PointIs, DifferencesAre};
 
 use fields::coordinate::{LONGITUDE_ADDED, difference, longitude_difference};
 use fields::leg::distance;
-use stretches::lines::{attributes_of, coordinate, lowest_class, node_of, total_length};
+use stretches::lines::{LineList, coordinate};
 use work_area::{END, SECTOR_OUT, START};
 
 // The numbers in the bytes of a point but the last: P, Q and D, and the differences to the next point.
@@ -60,7 +59,7 @@ fn differences_of(work: &[u32], leg: LineList) -> Differences
 // The point that a leg that may be used starts at.
 #[tactic(auto, using(crate::proofs::Points::small))]
 pub fn point_of(work: &[u32], leg: LineList) -> Point
-    requires known { (length leg.numbers.now ≤ 64) }
+    requires few { length leg.numbers.now ≤ 64 }
     requires held { (m : Map) × (last : Bool) × Held work.now leg.lines m × Good m last leg.numbers.now }
     ensures { (m : Map) → (last : Bool) → Held work.now leg.entry.lines m → Good m last leg.entry.numbers.now
         → PointIs m leg.entry.numbers.now result }
