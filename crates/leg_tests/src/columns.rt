@@ -36,16 +36,7 @@ pub fn test_column(
     for i in (0..j).rev() {
         let alone = table[POSITIONS * i] == 1;
         let mark = table[POSITIONS * i + j];
-        let cell = test_cell(
-            work,
-            stretch,
-            i,
-            j,
-            to,
-            own,
-            alone,
-            Cell { mark, last },
-        );
+        let cell = test_cell(work, stretch, i, j, to, own, alone, Cell { mark, last });
         table[POSITIONS * i + j] = cell.mark;
         last = cell.last;
     }

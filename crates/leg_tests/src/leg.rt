@@ -67,14 +67,7 @@ fn arrival_to(work: &[u32], stretch: LineList, j: usize) -> Option<Attributes>
 }
 
 // The leg from position `i` to position `j`, of this lowest class and length, as its bytes will say.
-pub fn leg_of(
-    work: &[u32],
-    stretch: LineList,
-    i: usize,
-    j: usize,
-    class: u32,
-    len: u32,
-) -> Leg
+pub fn leg_of(work: &[u32], stretch: LineList, i: usize, j: usize, class: u32, len: u32) -> Leg
     requires bounds { (i < j) × (j ≤ length stretch.numbers.now) }
     requires held { (m : Map) × Held work.now stretch.lines m }
     ensures { (m : Map) → Held work.now stretch.entry.lines m → Measured m stretch.entry.numbers.now i j class len

@@ -29,14 +29,7 @@ use work_area::{FRC, LENGTH};
 
 // A length for a search to look ahead to from the leg from position `i`, so that it serves longer legs too: `goal`, or how long the legs of
 // the same lowest class get where that is less.
-fn look_ahead(
-    work: &[u32],
-    stretch: LineList,
-    i: usize,
-    class: u32,
-    len: u32,
-    goal: u32,
-) -> u32
+fn look_ahead(work: &[u32], stretch: LineList, i: usize, class: u32, len: u32, goal: u32) -> u32
     requires bounds { (i ≤ length stretch.numbers.now) × (goal ≤ greatest_leg_length) }
     requires held { (m : Map) × Held work.now stretch.lines m }
     ensures { len ≤ result }

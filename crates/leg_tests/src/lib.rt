@@ -118,12 +118,7 @@ fn mark_first(stretch: &[u32], tests: usize, table: &mut [u8]) -> usize
 }
 
 // Tests whether legs are sole ways, row by row on the map turned round: the tests made.
-fn test_turned(
-    work: &mut [u32],
-    stretch: LineList,
-    tests: usize,
-    table: &mut [u8],
-) -> usize
+fn test_turned(work: &mut [u32], stretch: LineList, tests: usize, table: &mut [u8]) -> usize
     requires stretch_len_bound { (length stretch.numbers.now ≤ 64) × (65 * length stretch.numbers.now ≤ length table.old) × Blank table.old }
     requires set { (m : Map) × Set m stretch.lines work.old × Connected m stretch.numbers.now }
     ensures value { result ≡ tests_made (length stretch.entry.numbers.now) tests }
@@ -140,12 +135,7 @@ fn test_turned(
 }
 
 // The same, without a search where the first leg is the only one to test.
-fn test_sole_ways(
-    work: &mut [u32],
-    stretch: LineList,
-    tests: usize,
-    table: &mut [u8],
-) -> usize
+fn test_sole_ways(work: &mut [u32], stretch: LineList, tests: usize, table: &mut [u8]) -> usize
     requires stretch_len_bound { (length stretch.numbers.now ≤ 64) × (65 * length stretch.numbers.now ≤ length table.old) × Blank table.old }
     requires set { (m : Map) × Set m stretch.lines work.old × Connected m stretch.numbers.now }
     ensures value { result ≡ tests_made (length stretch.entry.numbers.now) tests }
@@ -163,12 +153,7 @@ fn test_sole_ways(
 
 // Tests as many legs of a stretch as it may, or all, in order of their start, then their end: the tests made. Number 65 * i + j of the table becomes 1 where the
 // leg from position `i` to position `j` is tested good.
-pub fn test_legs(
-    work: &mut [u32],
-    stretch: LineList,
-    tests: usize,
-    table: &mut [u8],
-) -> usize
+pub fn test_legs(work: &mut [u32], stretch: LineList, tests: usize, table: &mut [u8]) -> usize
     requires stretch_len_bound { (length stretch.numbers.now ≤ 64) × (65 * length stretch.numbers.now ≤ length table.old) × Blank table.old }
     requires set { (m : Map) × Set m stretch.lines work.old × Connected m stretch.numbers.now }
     ensures value { result ≡ tests_made (length stretch.entry.numbers.now) tests }

@@ -9,8 +9,7 @@ ghost use Rattle.work_area.specs.Area.{Held};
 ghost use Rattle.search_cells.specs.Area.{Set};
 ghost use Rattle.point_writer.specs.PointChecks.{ChecksPoint, PutsPoint};
 
-use buffers::copy;
-use buffers::wide;
+use buffers::{copy, wide};
 use model::limits::GREATEST_MARK;
 use model::{PointWriteAnswer, Refusal};
 use opening::open_map;

@@ -69,13 +69,7 @@ fn leg_of<'a>(stretch: LineList<'a>, cuts: &[u32], legs: usize, t: usize) -> Lin
 }
 
 // Puts the points but the last, one after another.
-fn put_points(
-    work: &[u32],
-    stretch: LineList,
-    cuts: &[u32],
-    legs: usize,
-    bytes: &mut [u8],
-)
+fn put_points(work: &[u32], stretch: LineList, cuts: &[u32], legs: usize, bytes: &mut [u8])
     requires legs_in_bounds { (legs < length cuts.now) × (7 + 7 * legs ≤ length bytes.old) }
     requires by_index { (m : Map) × (cs : List ℕ) × Held work.now stretch.lines m × CutInto m stretch.numbers.now cuts.now legs cs }
     ensures { (m : Map) → (cs : List ℕ) → Held work.now stretch.entry.lines m

@@ -30,14 +30,7 @@ pub fn goal_for(len: u32, reach: u32) -> u32
 }
 
 // A longer part for a search to look ahead to, so that it serves later legs too: up to `goal` or to position `end`, over lines up to the class `most`.
-fn look_ahead(
-    work: &[u32],
-    stretch: LineList,
-    part: Part,
-    end: usize,
-    most: u32,
-    goal: u32,
-) -> Part
+fn look_ahead(work: &[u32], stretch: LineList, part: Part, end: usize, most: u32, goal: u32) -> Part
     requires bounds { (end ≤ length stretch.numbers.now) × (goal ≤ greatest_leg_length) }
     requires held { (m : Map) × Held work.now stretch.lines m }
     ensures { (part.class ≤ result.class) × (part.length ≤ result.length) × (result.class ≤ max part.class most) }

@@ -42,13 +42,7 @@ fn steps_on(work: &[u32], stretch: LineList, at: usize) -> bool
 }
 
 // Goes on along the stretch's lines while they are the only way, to position `to` at most: the position it comes to. A test costs a step.
-pub fn advance(
-    work: &[u32],
-    stretch: LineList,
-    from: usize,
-    to: usize,
-    before: Along,
-) -> usize
+pub fn advance(work: &[u32], stretch: LineList, from: usize, to: usize, before: Along) -> usize
     requires to_le_to { (before.to ≤ to) × (to ≤ length stretch.numbers.now) }
     requires set { (m : Map) × Set m stretch.lines work.now × Connected (mirror m) stretch.numbers.now × Follows m stretch.lines stretch.numbers.now from work.now before
         × (total (mirror m) (slice from to stretch.numbers.now) ≤ before.limit) × (lowest (mirror m) (slice from to stretch.numbers.now) ≤ before.class) }

@@ -53,13 +53,7 @@ fn serve(
 }
 
 // Whether a leg's lines are a sole way among those that the search went along. They are the only way up to position `at`.
-fn is_sole(
-    work: &[u32],
-    stretch: LineList,
-    part: Part,
-    arrivals: &[u32],
-    at: usize,
-) -> bool
+fn is_sole(work: &[u32], stretch: LineList, part: Part, arrivals: &[u32], at: usize) -> bool
     requires stretch_len_bound { length stretch.numbers.now ≤ 64 }
     requires set { (m : Map) × (a : Along) × Set m stretch.lines work.now × OnTrial m stretch.lines stretch.numbers.now part × Arriving m stretch.lines stretch.numbers.now arrivals.now
         × Follows m stretch.lines stretch.numbers.now part.from work.now a × Serves part a
@@ -80,13 +74,7 @@ fn is_sole(
 }
 
 // Goes on along a leg's lines after a search that serves it, and tells whether they are a sole way among those that it went along.
-fn look(
-    work: &[u32],
-    stretch: LineList,
-    part: Part,
-    arrivals: &[u32],
-    along: Along,
-) -> SoleTest
+fn look(work: &[u32], stretch: LineList, part: Part, arrivals: &[u32], along: Along) -> SoleTest
     requires stretch_len_bound { length stretch.numbers.now ≤ 64 }
     requires set { (m : Map) × Set m stretch.lines work.now × OnTrial m stretch.lines stretch.numbers.now part × Arriving m stretch.lines stretch.numbers.now arrivals.now
         × Follows m stretch.lines stretch.numbers.now part.from work.now along × Serves part along × (along.to ≤ part.to) }

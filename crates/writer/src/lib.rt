@@ -38,12 +38,7 @@ struct Found {
 
 // Tests legs, and chooses points over those tested good: `cuts` gets 0 and then where each leg ends. There may be no choice of points even when untested
 // legs count as good, or none over legs tested good.
-fn find(
-    work: &mut [u32],
-    part: LineList,
-    tests: u32,
-    cuts: &mut [u32],
-) -> Result<Found, Refusal>
+fn find(work: &mut [u32], part: LineList, tests: u32, cuts: &mut [u32]) -> Result<Found, Refusal>
     requires part_len_bound { (length part.numbers.now ≤ 64) × (length part.numbers.now < length cuts.old) }
     requires set { (m : Map) × Set m part.lines work.old × Connected m part.numbers.now }
     ensures { (m : Map) → Set m part.entry.lines work.old → Connected m part.entry.numbers.now
@@ -79,9 +74,7 @@ pub fn on_part(
 {
     let mut cuts = [0; CUTS];
     let found = find(work, part, tests, &mut cuts)?;
-    let count = put(work, part, &cuts, found.legs, pos, neg, bytes).ok_or(
-        Refusal::BytesShort,
-    )?;
+    let count = put(work, part, &cuts, found.legs, pos, neg, bytes).ok_or(Refusal::BytesShort)?;
     Ok(WrittenBytes {
         bytes: count,
         tests: found.tests,
@@ -109,14 +102,7 @@ fn on_map(
         numbers: &stretch[left.from..left.to],
         lines,
     };
-    on_part(
-        work,
-        part,
-        left.pos,
-        left.neg,
-        tests,
-        bytes,
-    )
+    on_part(work, part, left.pos, left.neg, tests, bytes)
 }
 
 // Writes a stretch of lines with its offsets, in centimetres, on a map, by `tests` leg tests at most. An answer that it is written has the count of bytes,
