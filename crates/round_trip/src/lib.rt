@@ -77,7 +77,8 @@ pub fn write_two_and_read(
     )
     .map_err(Which::Second)?;
     let same = &bytes[..one.bytes];
-    if same != &others[..other.bytes] {
+    let theirs = &others[..other.bytes];
+    if same != theirs {
         return Ok(None);
     }
     let answer = read(map, same, reading, lines);

@@ -15,13 +15,13 @@ slice_bounds-same-end-2 c =
     let one : c.write.result ≡ Ok c.in_ok-one.one = grind arith in
     sym (length-take-le _ _ (bytes_fit (wrote (rw one at c.write.ensures)) c.write.auto.bytes))
 
-pub slice_bounds-ne-end : goal.slice_bounds-ne-end
-slice_bounds-ne-end c =
+pub slice_bounds-theirs-end : goal.slice_bounds-theirs-end
+slice_bounds-theirs-end c =
     let other : c.write-2.result ≡ Ok c.in_ok-other.other = grind arith in
     bytes_fit (wrote (rw other at c.write-2.ensures)) c.write-2.auto.bytes
 
-pub slice_bounds-ne-end-2 : goal.slice_bounds-ne-end-2
-slice_bounds-ne-end-2 c =
+pub slice_bounds-theirs-end-2 : goal.slice_bounds-theirs-end-2
+slice_bounds-theirs-end-2 c =
     let other : c.write-2.result ≡ Ok c.in_ok-other.other = grind arith in
     sym (length-take-le _ _ (bytes_fit (wrote (rw other at c.write-2.ensures)) c.write-2.auto.bytes))
 
