@@ -74,7 +74,7 @@ pub fn sum_of(numbers: &[u32], from: usize, to: usize, sum: u64) -> u64
     total
 }
 
-// The sum over the first `to` bytes.
+// The sum over the first `to` bytes. One function for numbers of either type would be no plainer: its contract would have to name the number that each element is.
 pub fn sum_of_bytes(bytes: &[u8], to: usize) -> u64
     requires { to ≤ length bytes.now }
     ensures { (result ≡ sum_from bytes.now 0 to 0) × (result < modulus) }

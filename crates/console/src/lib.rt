@@ -11,7 +11,7 @@ use std::fs::File;
 use std::io::Read;
 use std::rt::Files;
 
-// Reads until the buffer is full, the input ends or a read fails: how many bytes.
+// Reads until the buffer is full, the input ends or a read fails: how many bytes. A read takes several bytes at a time, so no range counts them.
 fn read_full(from: &mut impl Read, buffer: &mut [u8]) -> usize
     ensures { IsPrefixLen result buffer.new }
 {

@@ -13,6 +13,7 @@ use model::limits::WORK_LENGTH;
 use model::{Message, MessageAnswer, Refusal, number_of};
 
 // What a host holds of a message; `struct openlr_message` in C. `refusal` is that of the call that returned it, and no call looks at it.
+// C has numbers for the refusal and for whether a reference is open.
 #[repr(C)]
 #[derive(Clone, Copy)]
 pub struct Held {
@@ -66,7 +67,7 @@ fn holding(m: Message) -> Held
     }
 }
 
-// What a host gets where a call is refused: the number, and the rest as it was given.
+// What a host gets where a call is refused: the number, and the rest as it was given, so that it takes two values and is no `From`.
 #[tactic(auto, unfolding(model::specs::HostMessage::host_message, crate::specs::Held::as_message))]
 fn refused(given: Held, why: Refusal) -> Held
     ensures { as_message result ≡ host_message (as_message given) (Err why) }

@@ -67,8 +67,9 @@ pub fn write_two_and_read(
         bytes.old bytes.new others.old others.new lines.old lines.new result }
 {
     let one = write(map, first, pos, neg, tests, bytes).map_err(Which::First)?;
-    let other = write(map, second, second_pos, second_neg, second_tests, others)
-        .map_err(Which::Second)?;
+    let other = write(map, second, second_pos, second_neg, second_tests, others).map_err(
+        Which::Second,
+    )?;
     let same = &bytes[..one.bytes as usize];
     if same != &others[..other.bytes as usize] {
         return Ok(None);

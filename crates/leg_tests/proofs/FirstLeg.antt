@@ -13,7 +13,7 @@ use Rattle.model.specs.LegTests.{legs_before, turn, leg_count, tests_made}
 use Rattle.model.proofs.LegTests.{turn_by_start, turn_first, turn_last}
 use Rattle.buffers.proofs.Kept.{kept_none, kept_set}
 use Rattle.search_cells.specs.Area.{Set}
-use Rattle.stretches.specs.Stretch.{Known}
+use Rattle.stretches.specs.Known.{Known}
 use Rattle.sole_ways.specs.SoleWays.{mark, Marks, SoleLeg, Blank}
 use Rattle.sole_ways.proofs.Marks.{marks_both, mark_sound, mark_complete}
 use Rattle.sole_ways.proofs.Slices.{slice_one}

@@ -16,7 +16,7 @@ use Rattle.work_area.specs.Area.{Held}
 use Rattle.way_lengths.specs.declared.Terminus.{Terminus}
 use Rattle.way_lengths.specs.Ways.{line, node}
 use Rattle.legs.specs.Verdict.{TerminusOf, at_node, at_line}
-use Rattle.stretches.specs.Stretch.{Known}
+use Rattle.stretches.specs.Known.{Known}
 use Rattle.leg_tests.specs.LegTests.{leg_from, Serves, Own, EndsThere}
 use Rattle.sole_ways.proofs.Slices.{last_of_slice}
 use Rattle.leg_tests.proofs.Slices.{to_of_slice}

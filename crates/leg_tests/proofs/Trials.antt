@@ -27,7 +27,7 @@ use Rattle.fields.specs.declared.leg.Reading.{Reading}
 use Rattle.fields.specs.declared.leg.Verdict.{Verdict}
 use Rattle.legs.specs.Verdict.{LimitFor, TerminusOf, Ready, ReadingTo, ReadingFrom, Says, Anywhere}
 use Rattle.legs.proofs.Joining.{says_same, says_then}
-use Rattle.stretches.specs.Stretch.{Known}
+use Rattle.stretches.specs.Known.{Known}
 use Rattle.leg_tests.specs.LegTests.{leg_from, Alone, Serves, Own, OwnLines, DoneUpTo, OnLeg, Trial, Prepared}
 use Rattle.sole_ways.proofs.Slices.{first_of_slice, last_of_slice, slice_connected}
 use Rattle.model.specs.Reading as definitions

@@ -16,7 +16,7 @@ use Rattle.way_lengths.specs.declared.Terminus.{Terminus}
 use Rattle.way_lengths.specs.Ways.{line, Ends, Stands}
 use Rattle.search_cells.specs.Area.{Searched, Set}
 use Rattle.legs.specs.Verdict.{LimitFor, TerminusOf, ReadingTo, ToLines}
-use Rattle.stretches.specs.Stretch.{Known}
+use Rattle.stretches.specs.Known.{Known}
 use Rattle.point_choice.specs.Cuts.{Tested}
 use Rattle.sole_ways.specs.SoleWays.{mark, Marks, own_end, SoleLeg, Worked}
 use Rattle.leg_tests.specs.declared.cells.Cell.{Cell}

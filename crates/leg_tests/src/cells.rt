@@ -8,7 +8,7 @@ ghost use Rattle.leg_tests.specs.LegTests.{Alone, Own, EndsThere, DoneFor, OnLeg
 
 use crate::leg::leg_fits;
 use crate::leg_search::{Done, prepare, test_leg};
-use stretches::lines::{lowest_class, total_length};
+use stretches::lines::LineList;
 use way_lengths::Terminus;
 
 // A leg's number in the table, and the last search from the terminus, if there is one. The number stays a byte, since no heap is used and the table is lent.
@@ -21,8 +21,7 @@ pub struct Cell {
 // The number of a leg that is no longer than a leg can be, by the readings to a terminus: after a search back from there, if the last one does not serve it.
 fn search_cell(
     work: &mut [u32],
-    lines: usize,
-    stretch: &[u32],
+    stretch: LineList,
     i: usize,
     j: usize,
     to: Terminus,
@@ -30,19 +29,20 @@ fn search_cell(
     alone: bool,
     before: Cell,
 ) -> Cell
-    requires { (m : Map) × Set m lines work.old × OnLeg m lines stretch.now i j × SoleLeg m stretch.now i j
-        × Decides (Alone m lines stretch.now i) alone × EndsThere m lines stretch.now j to own
-        × DoneFor m lines to before.last work.old }
-    ensures { (m : Map) → Set m lines work.old → OnLeg m lines stretch.now i j → SoleLeg m stretch.now i j
-        → Decides (Alone m lines stretch.now i) alone → EndsThere m lines stretch.now j to own
-        → DoneFor m lines to before.last work.old
-        → CellSearched m lines stretch.now i j to work.old work.new result }
+    requires { (m : Map) × Set m stretch.lines work.old × OnLeg m stretch.lines stretch.numbers.now i j × SoleLeg m stretch.numbers.now i j
+        × Decides (Alone m stretch.lines stretch.numbers.now i) alone × EndsThere m stretch.lines stretch.numbers.now j to own
+        × DoneFor m stretch.lines to before.last work.old }
+    ensures { (m : Map) → Set m stretch.entry.lines work.old → OnLeg m stretch.entry.lines stretch.entry.numbers.now i j → SoleLeg m stretch.entry.numbers.now i j
+        → Decides (Alone m stretch.entry.lines stretch.entry.numbers.now i) alone → EndsThere m stretch.entry.lines stretch.entry.numbers.now j to own
+        → DoneFor m stretch.entry.lines to before.last work.old
+        → CellSearched m stretch.entry.lines stretch.entry.numbers.now i j to work.old work.new result }
 {
-    let class = lowest_class(work, lines, &stretch[i..j]);
-    let len = total_length(work, lines, &stretch[i..j]) as u32;
-    let limit = prepare(work, lines, stretch, i, to, class, len, before.last);
+    let leg = stretch.part(i, j);
+    let class = leg.lowest_class(work);
+    let len = leg.total_length(work) as u32;
+    let limit = prepare(work, stretch, i, to, class, len, before.last);
     let last = Some(Done { class, limit });
-    if test_leg(work, lines, stretch, i, j, class, len, alone, own, limit) {
+    if test_leg(work, stretch, i, j, class, len, alone, own, limit) {
         return Cell { mark: 1, last };
     }
     Cell { mark: 0, last }
@@ -51,23 +51,22 @@ fn search_cell(
 // The number of a leg that is a sole way after the test of its own terminus. Where its first line is alone it is the only reading there.
 fn own_cell(
     work: &mut [u32],
-    lines: usize,
-    stretch: &[u32],
+    stretch: LineList,
     i: usize,
     j: usize,
     to: Terminus,
     alone: bool,
     before: Cell,
 ) -> Cell
-    requires { (m : Map) × Set m lines work.old × OnLeg m lines stretch.now i j × SoleLeg m stretch.now i j
-        × Decides (Alone m lines stretch.now i) alone × Own m lines stretch.now j to
-        × DoneFor m lines to before.last work.old }
-    ensures { before.mark ≡ 1 → (m : Map) → Set m lines work.old → OnLeg m lines stretch.now i j
-        → SoleLeg m stretch.now i j → Decides (Alone m lines stretch.now i) alone → Own m lines stretch.now j to
-        → DoneFor m lines to before.last work.old
-        → CellTested m lines stretch.now i j to true before.mark work.old work.new result }
+    requires { (m : Map) × Set m stretch.lines work.old × OnLeg m stretch.lines stretch.numbers.now i j × SoleLeg m stretch.numbers.now i j
+        × Decides (Alone m stretch.lines stretch.numbers.now i) alone × Own m stretch.lines stretch.numbers.now j to
+        × DoneFor m stretch.lines to before.last work.old }
+    ensures { before.mark ≡ 1 → (m : Map) → Set m stretch.entry.lines work.old → OnLeg m stretch.entry.lines stretch.entry.numbers.now i j
+        → SoleLeg m stretch.entry.numbers.now i j → Decides (Alone m stretch.entry.lines stretch.entry.numbers.now i) alone → Own m stretch.entry.lines stretch.entry.numbers.now j to
+        → DoneFor m stretch.entry.lines to before.last work.old
+        → CellTested m stretch.entry.lines stretch.entry.numbers.now i j to true before.mark work.old work.new result }
 {
-    if !leg_fits(work, lines, stretch, i, j) {
+    if !leg_fits(work, stretch, i, j) {
         return Cell {
             mark: 0,
             last: before.last,
@@ -76,14 +75,13 @@ fn own_cell(
     if alone {
         return before;
     }
-    search_cell(work, lines, stretch, i, j, to, true, alone, before)
+    search_cell(work, stretch, i, j, to, true, alone, before)
 }
 
 // The number of the leg from position `i` to position `j` after the test of a terminus. Where it is not 1 there is nothing to test.
 pub fn test_cell(
     work: &mut [u32],
-    lines: usize,
-    stretch: &[u32],
+    stretch: LineList,
     i: usize,
     j: usize,
     to: Terminus,
@@ -91,21 +89,21 @@ pub fn test_cell(
     alone: bool,
     before: Cell,
 ) -> Cell
-    requires { (m : Map) × Set m lines work.old × OnLeg m lines stretch.now i j × (before.mark ≡ 1 → SoleLeg m stretch.now i j)
-        × Decides (Alone m lines stretch.now i) alone × EndsThere m lines stretch.now j to own
-        × DoneFor m lines to before.last work.old }
-    ensures { (m : Map) → Set m lines work.old → OnLeg m lines stretch.now i j
-        → (before.mark ≡ 1 → SoleLeg m stretch.now i j)
-        → Decides (Alone m lines stretch.now i) alone → EndsThere m lines stretch.now j to own
-        → DoneFor m lines to before.last work.old
-        → CellTested m lines stretch.now i j to own before.mark work.old work.new result }
+    requires { (m : Map) × Set m stretch.lines work.old × OnLeg m stretch.lines stretch.numbers.now i j × (before.mark ≡ 1 → SoleLeg m stretch.numbers.now i j)
+        × Decides (Alone m stretch.lines stretch.numbers.now i) alone × EndsThere m stretch.lines stretch.numbers.now j to own
+        × DoneFor m stretch.lines to before.last work.old }
+    ensures { (m : Map) → Set m stretch.entry.lines work.old → OnLeg m stretch.entry.lines stretch.entry.numbers.now i j
+        → (before.mark ≡ 1 → SoleLeg m stretch.entry.numbers.now i j)
+        → Decides (Alone m stretch.entry.lines stretch.entry.numbers.now i) alone → EndsThere m stretch.entry.lines stretch.entry.numbers.now j to own
+        → DoneFor m stretch.entry.lines to before.last work.old
+        → CellTested m stretch.entry.lines stretch.entry.numbers.now i j to own before.mark work.old work.new result }
 {
     let mark = before.mark;
     if mark != 1 {
         return before;
     }
     if own {
-        return own_cell(work, lines, stretch, i, j, to, alone, before);
+        return own_cell(work, stretch, i, j, to, alone, before);
     }
-    search_cell(work, lines, stretch, i, j, to, own, alone, before)
+    search_cell(work, stretch, i, j, to, own, alone, before)
 }

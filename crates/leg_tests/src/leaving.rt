@@ -28,7 +28,7 @@ pub fn list_leaving(work: &mut [u32], lines: usize)
     }
 }
 
-// The list of node `v`: 1 + its first line, or 0 where there is none.
+// The list of node `v`: 1 + its first line, or 0 where there is none, as its cell holds it.
 pub fn first_from(work: &[u32], lines: usize, v: usize) -> usize
     requires { (m : Map) × Held work.now lines m × Leaving m lines work.now × (v < length m.nodes) }
     ensures { (m : Map) → Leaving m lines work.now → v < length m.nodes → result ≡ latest m v lines }

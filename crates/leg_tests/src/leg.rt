@@ -9,12 +9,11 @@ ghost use Rattle.model.specs.Reading.{any, matching};
 ghost use Rattle.work_area.specs.Area.{Held};
 ghost use Rattle.buffers.specs.Decides.{Decides};
 ghost use Rattle.fields.specs.Leg.{arrival_in, leg_in};
-ghost use Rattle.stretches.specs.Stretch.{Known};
 ghost use Rattle.leg_tests.specs.LegTests.{leg_from, Fits, Measured};
 
 use fields::coordinate::{LONGITUDE_ADDED, difference, longitude_difference};
 use fields::leg::{Attributes, Leg, distance};
-use stretches::lines::{attributes_of, coordinate, node_of};
+use stretches::lines::{LineList, coordinate};
 use work_area::{END, SECTOR_BACK, SECTOR_OUT, START};
 
 // Whether a difference fits 16 bits.
@@ -44,48 +43,40 @@ fn fits(work: &[u32], lines: usize, from: usize, to: usize) -> bool
 }
 
 // Whether the differences of the leg from position `i` to position `j` fit.
-pub fn leg_fits(work: &[u32], lines: usize, stretch: &[u32], i: usize, j: usize) -> bool
-    requires known { Known lines stretch.now × (i < j) × (j ≤ length stretch.now) }
-    requires held { (m : Map) × Held work.now lines m }
-    ensures { (m : Map) → Held work.now lines m → Decides (Fits m (slice i j stretch.now)) result }
+pub fn leg_fits(work: &[u32], stretch: LineList, i: usize, j: usize) -> bool
+    requires bounds { (i < j) × (j ≤ length stretch.numbers.now) }
+    requires held { (m : Map) × Held work.now stretch.lines m }
+    ensures { (m : Map) → Held work.now stretch.entry.lines m → Decides (Fits m (slice i j stretch.entry.numbers.now)) result }
 {
-    let from = node_of(work, lines, stretch, i, START);
-    let to = node_of(work, lines, stretch, j - 1, END);
-    fits(work, lines, from, to)
+    let from = stretch.node_of(work, i, START);
+    let to = stretch.node_of(work, j - 1, END);
+    fits(work, stretch.lines, from, to)
 }
 
 // How the leg to position `j` ends: with any line, or, on the last leg, as its last line does.
-fn arrival_to(work: &[u32], lines: usize, stretch: &[u32], j: usize) -> Option<Attributes>
-    requires known { Known lines stretch.now × (0 < j) × (j ≤ length stretch.now) }
-    requires held { (m : Map) × Held work.now lines m }
-    ensures { (m : Map) → Held work.now lines m
-        → arrival_in result ≡ cond (eqb j (length stretch.now)) (matching (arriving m (get_or stretch.now (j - 1) 0))) any }
+fn arrival_to(work: &[u32], stretch: LineList, j: usize) -> Option<Attributes>
+    requires bounds { (0 < j) × (j ≤ length stretch.numbers.now) }
+    requires held { (m : Map) × Held work.now stretch.lines m }
+    ensures { (m : Map) → Held work.now stretch.entry.lines m
+        → arrival_in result ≡ cond (eqb j (length stretch.entry.numbers.now)) (matching (arriving m (get_or stretch.entry.numbers.now (j - 1) 0))) any }
 {
-    if j < stretch.len() {
+    if j < stretch.numbers.len() {
         return None;
     }
-    Some(attributes_of(work, lines, stretch, j - 1, SECTOR_BACK))
+    Some(stretch.attributes_of(work, j - 1, SECTOR_BACK))
 }
 
 // The leg from position `i` to position `j`, of this lowest class and length, as its bytes will say.
-pub fn leg_of(
-    work: &[u32],
-    lines: usize,
-    stretch: &[u32],
-    i: usize,
-    j: usize,
-    class: u32,
-    len: u32,
-) -> Leg
-    requires known { Known lines stretch.now × (i < j) × (j ≤ length stretch.now) }
-    requires held { (m : Map) × Held work.now lines m }
-    ensures { (m : Map) → Held work.now lines m → Measured m stretch.now i j class len
-        → leg_in result ≡ leg_from m stretch.now i j }
+pub fn leg_of(work: &[u32], stretch: LineList, i: usize, j: usize, class: u32, len: u32) -> Leg
+    requires bounds { (i < j) × (j ≤ length stretch.numbers.now) }
+    requires held { (m : Map) × Held work.now stretch.lines m }
+    ensures { (m : Map) → Held work.now stretch.entry.lines m → Measured m stretch.entry.numbers.now i j class len
+        → leg_in result ≡ leg_from m stretch.entry.numbers.now i j }
 {
-    let from = node_of(work, lines, stretch, i, START);
-    let to = node_of(work, lines, stretch, j - 1, END);
-    let leaves = attributes_of(work, lines, stretch, i, SECTOR_OUT);
-    let arrival = arrival_to(work, lines, stretch, j);
+    let from = stretch.node_of(work, i, START);
+    let to = stretch.node_of(work, j - 1, END);
+    let leaves = stretch.attributes_of(work, i, SECTOR_OUT);
+    let arrival = arrival_to(work, stretch, j);
     let distance = distance(len);
     Leg {
         from,

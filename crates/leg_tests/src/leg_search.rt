@@ -13,7 +13,6 @@ ghost use Rattle.search_cells.specs.Area.{Set};
 ghost use Rattle.way_lengths.specs.Ways.{Stands};
 ghost use Rattle.buffers.specs.Decides.{Decides};
 ghost use Rattle.legs.specs.Verdict.{LimitFor, Says, Anywhere, ReadingTo};
-ghost use Rattle.stretches.specs.Stretch.{Known};
 ghost use Rattle.leg_tests.specs.LegTests.{leg_from, Alone, Serves, EndsThere, Sole, OwnLines, DoneFor, DoneUpTo, Trial, Prepared};
 ghost use Rattle.model.specs.Reading as definitions;
 
@@ -24,23 +23,15 @@ use legs::first_lines::{from_line, from_lines};
 use model::limits::GREATEST_LEG_LENGTH;
 use search::search;
 use sole_ways::ahead::goal_for;
-use stretches::lines::field_of;
+use stretches::lines::LineList;
 use way_lengths::Terminus;
 use work_area::{FRC, LENGTH};
 
 // A length for a search to look ahead to from the leg from position `i`, so that it serves longer legs too: `goal`, or how long the legs of
 // the same lowest class get where that is less.
-fn look_ahead(
-    work: &[u32],
-    lines: usize,
-    stretch: &[u32],
-    i: usize,
-    class: u32,
-    len: u32,
-    goal: u32,
-) -> u32
-    requires known { Known lines stretch.now × (i ≤ length stretch.now) × (goal ≤ greatest_leg_length) }
-    requires held { (m : Map) × Held work.now lines m }
+fn look_ahead(work: &[u32], stretch: LineList, i: usize, class: u32, len: u32, goal: u32) -> u32
+    requires bounds { (i ≤ length stretch.numbers.now) × (goal ≤ greatest_leg_length) }
+    requires held { (m : Map) × Held work.now stretch.lines m }
     ensures { len ≤ result }
 {
     let mut far = len;
@@ -48,22 +39,22 @@ fn look_ahead(
         if goal <= far {
             return far;
         }
-        if class < field_of(work, lines, stretch, k, FRC) {
+        if class < stretch.field_of(work, k, FRC) {
             return far;
         }
-        far += field_of(work, lines, stretch, k, LENGTH);
+        far += stretch.field_of(work, k, LENGTH);
     }
     far
 }
 
 // The limit of a search for the leg from position `i`, of this lowest class and length, and for longer ones.
-fn limit_for(work: &[u32], lines: usize, stretch: &[u32], i: usize, class: u32, len: u32) -> u32
-    requires known { Known lines stretch.now × (i ≤ length stretch.now) × (len ≤ greatest_leg_length) }
-    requires held { (m : Map) × Held work.now lines m }
+fn limit_for(work: &[u32], stretch: LineList, i: usize, class: u32, len: u32) -> u32
+    requires bounds { (i ≤ length stretch.numbers.now) × (len ≤ greatest_leg_length) }
+    requires held { (m : Map) × Held work.now stretch.lines m }
     ensures { LimitFor (distance len) result }
 {
     let goal = goal_for(len + len / 2, 0);
-    let far = look_ahead(work, lines, stretch, i, class, len, goal);
+    let far = look_ahead(work, stretch, i, class, len, goal);
     if GREATEST_LEG_LENGTH <= far {
         return GREATEST_LEG_LENGTH;
     }
@@ -81,18 +72,17 @@ pub struct Done {
 // limit that is searched up to.
 pub fn prepare(
     work: &mut [u32],
-    lines: usize,
-    stretch: &[u32],
+    stretch: LineList,
     i: usize,
     to: Terminus,
     class: u32,
     len: u32,
     last: Option<Done>,
 ) -> u32
-    requires known { Known lines stretch.now × (length stretch.now ≤ 64) × (i ≤ length stretch.now) × (len ≤ greatest_leg_length) × (class ≤ 7) }
-    requires set { (m : Map) × Set m lines work.old × Stands (mirror m) lines to }
-    ensures { (m : Map) → Set m lines work.old → Stands (mirror m) lines to → DoneFor m lines to last work.old
-        → Prepared m lines class to len work.old work.new result }
+    requires bounds { (length stretch.numbers.now ≤ 64) × (i ≤ length stretch.numbers.now) × (len ≤ greatest_leg_length) × (class ≤ 7) }
+    requires set { (m : Map) × Set m stretch.lines work.old × Stands (mirror m) stretch.lines to }
+    ensures { (m : Map) → Set m stretch.entry.lines work.old → Stands (mirror m) stretch.entry.lines to → DoneFor m stretch.entry.lines to last work.old
+        → Prepared m stretch.entry.lines class to len work.old work.new result }
 {
     if let Some(done) = last {
         if done.class == class {
@@ -101,8 +91,8 @@ pub fn prepare(
             }
         }
     }
-    let limit = limit_for(work, lines, stretch, i, class, len);
-    search(work, lines, to, class, limit);
+    let limit = limit_for(work, stretch, i, class, len);
+    search(work, stretch.lines, to, class, limit);
     limit
 }
 
@@ -110,8 +100,7 @@ pub fn prepare(
 // is alone, readings have no other.
 fn verdict_on(
     work: &[u32],
-    lines: usize,
-    stretch: &[u32],
+    stretch: LineList,
     i: usize,
     j: usize,
     class: u32,
@@ -119,18 +108,18 @@ fn verdict_on(
     alone: bool,
     limit: u32,
 ) -> Verdict
-    requires { (m : Map) × (to : Terminus) × Set m lines work.now × Trial m lines stretch.now i j class len
-        × Decides (Alone m lines stretch.now i) alone × Serves m lines stretch.now j to × DoneUpTo m lines class to len limit work.now }
-    ensures { (m : Map) → (to : Terminus) → Set m lines work.now → Trial m lines stretch.now i j class len
-        → Decides (Alone m lines stretch.now i) alone → Serves m lines stretch.now j to
-        → DoneUpTo m lines class to len limit work.now
-        → Says m (ReadingTo m (leg_from m stretch.now i j) to) Anywhere result }
+    requires { (m : Map) × (to : Terminus) × Set m stretch.lines work.now × Trial m stretch.lines stretch.numbers.now i j class len
+        × Decides (Alone m stretch.lines stretch.numbers.now i) alone × Serves m stretch.lines stretch.numbers.now j to × DoneUpTo m stretch.lines class to len limit work.now }
+    ensures { (m : Map) → (to : Terminus) → Set m stretch.entry.lines work.now → Trial m stretch.entry.lines stretch.entry.numbers.now i j class len
+        → Decides (Alone m stretch.entry.lines stretch.entry.numbers.now i) alone → Serves m stretch.entry.lines stretch.entry.numbers.now j to
+        → DoneUpTo m stretch.entry.lines class to len limit work.now
+        → Says m (ReadingTo m (leg_from m stretch.entry.numbers.now i j) to) Anywhere result }
 {
-    let leg = leg_of(work, lines, stretch, i, j, class, len);
+    let leg = leg_of(work, stretch, i, j, class, len);
     if alone {
-        return from_line(work, lines, wide(stretch[i]), leg, limit);
+        return from_line(work, stretch.lines, wide(stretch.numbers[i]), leg, limit);
     }
-    from_lines(work, lines, leg, limit)
+    from_lines(work, stretch.lines, leg, limit)
 }
 
 // Whether a leg's own lines, by their first line and their length, are its only reading to their terminus.
@@ -168,8 +157,7 @@ fn is_unread(found: Verdict) -> bool
 // Whether the leg from position `i` to position `j` passes the test of a terminus, after a search back from it: of its own, or of another.
 pub fn test_leg(
     work: &[u32],
-    lines: usize,
-    stretch: &[u32],
+    stretch: LineList,
     i: usize,
     j: usize,
     class: u32,
@@ -178,17 +166,17 @@ pub fn test_leg(
     own: bool,
     limit: u32,
 ) -> bool
-    requires { (m : Map) × (to : Terminus) × Set m lines work.now × Trial m lines stretch.now i j class len
-        × Decides (Alone m lines stretch.now i) alone × EndsThere m lines stretch.now j to own × (len ≤ greatest_leg_length)
-        × DoneUpTo m lines class to len limit work.now }
-    ensures { (m : Map) → (to : Terminus) → Set m lines work.now → Trial m lines stretch.now i j class len
-        → Decides (Alone m lines stretch.now i) alone → EndsThere m lines stretch.now j to own → len ≤ greatest_leg_length
-        → DoneUpTo m lines class to len limit work.now
-        → Decides (Sole m (leg_from m stretch.now i j) (slice i j stretch.now) to) result }
+    requires { (m : Map) × (to : Terminus) × Set m stretch.lines work.now × Trial m stretch.lines stretch.numbers.now i j class len
+        × Decides (Alone m stretch.lines stretch.numbers.now i) alone × EndsThere m stretch.lines stretch.numbers.now j to own × (len ≤ greatest_leg_length)
+        × DoneUpTo m stretch.lines class to len limit work.now }
+    ensures { (m : Map) → (to : Terminus) → Set m stretch.entry.lines work.now → Trial m stretch.entry.lines stretch.entry.numbers.now i j class len
+        → Decides (Alone m stretch.entry.lines stretch.entry.numbers.now i) alone → EndsThere m stretch.entry.lines stretch.entry.numbers.now j to own → len ≤ greatest_leg_length
+        → DoneUpTo m stretch.entry.lines class to len limit work.now
+        → Decides (Sole m (leg_from m stretch.entry.numbers.now i j) (slice i j stretch.entry.numbers.now) to) result }
 {
-    let found = verdict_on(work, lines, stretch, i, j, class, len, alone, limit);
+    let found = verdict_on(work, stretch, i, j, class, len, alone, limit);
     if own {
-        return is_sole(found, wide(stretch[i]), len);
+        return is_sole(found, wide(stretch.numbers[i]), len);
     }
     is_unread(found)
 }

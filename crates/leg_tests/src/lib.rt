@@ -9,7 +9,6 @@ ghost use Rattle.model.specs.LegTests.{tests_made};
 ghost use Rattle.work_area.specs.Area.{Held};
 ghost use Rattle.buffers.specs.Kept.{Kept};
 ghost use Rattle.search_cells.specs.Area.{Set};
-ghost use Rattle.stretches.specs.Stretch.{Known};
 ghost use Rattle.sole_ways.specs.SoleWays.{Blank};
 ghost use Rattle.leg_tests.specs.LegTests.{Noted, NotesKept, FirstMarked, SoleTested, SoleColumn, SoleLegs, ColumnTested, LegsSifted, AllTested};
 ghost use Rattle.leg_tests.specs.Leaving.{Leaving};
@@ -22,7 +21,7 @@ use leaving::list_leaving;
 use search_cells::adjacency::{first_leaving, next_leaving};
 use sole_ways::row::POSITIONS;
 use sole_ways::test_rows;
-use stretches::lines::{attributes_of, node_of};
+use stretches::lines::LineList;
 use turning::turn_round;
 use way_lengths::Terminus;
 use work_area::{END, SECTOR_BACK};
@@ -39,68 +38,68 @@ mod leg_search;
 const ARRIVALS_LENGTH: usize = 1_089;
 
 // Notes at number 65 * i of the table, which is no leg's, whether the line at position `i` is alone.
-fn note_alone(work: &[u32], lines: usize, stretch: &[u32], table: &mut [u8])
-    requires known { Known lines stretch.now × (length stretch.now ≤ 64) × (65 * length stretch.now ≤ length table.old) }
-    requires held { (m : Map) × Held work.now lines m × Leaving m lines work.now }
-    ensures notes_kept { NotesKept (length stretch.now) table.old table.new }
-    ensures noted { (m : Map) → Held work.now lines m → Leaving m lines work.now
-        → Noted m lines stretch.now table.new }
+fn note_alone(work: &[u32], stretch: LineList, table: &mut [u8])
+    requires bounds { (length stretch.numbers.now ≤ 64) × (65 * length stretch.numbers.now ≤ length table.old) }
+    requires held { (m : Map) × Held work.now stretch.lines m × Leaving m stretch.lines work.now }
+    ensures notes_kept { NotesKept (length stretch.entry.numbers.now) table.old table.new }
+    ensures noted { (m : Map) → Held work.now stretch.entry.lines m → Leaving m stretch.entry.lines work.now
+        → Noted m stretch.entry.lines stretch.entry.numbers.now table.new }
 {
-    for i in 0..stretch.len() {
-        table[POSITIONS * i] = alone_mark(work, lines, stretch, i);
+    for i in 0..stretch.numbers.len() {
+        table[POSITIONS * i] = alone_mark(work, stretch, i);
     }
 }
 
 // Tests all legs to the last position: by their own last line, and by each other line that ends at the node there.
-fn test_last_column(work: &mut [u32], lines: usize, stretch: &[u32], table: &mut [u8])
-    requires stretch_nonzero { (0 < length stretch.now) × (length stretch.now ≤ 64) × (65 * length stretch.now ≤ length table.old) }
-    requires set { (m : Map) × Set m lines work.old × Connected m stretch.now × Noted m lines stretch.now table.old
-        × SoleColumn m stretch.now (length stretch.now) table.old }
-    ensures { (m : Map) → Set m lines work.old → Connected m stretch.now
-        → Noted m lines stretch.now table.old → SoleColumn m stretch.now (length stretch.now) table.old
-        → ColumnTested m lines stretch.now (length stretch.now) table.old table.new work.old
+fn test_last_column(work: &mut [u32], stretch: LineList, table: &mut [u8])
+    requires stretch_nonzero { (0 < length stretch.numbers.now) × (length stretch.numbers.now ≤ 64) × (65 * length stretch.numbers.now ≤ length table.old) }
+    requires set { (m : Map) × Set m stretch.lines work.old × Connected m stretch.numbers.now × Noted m stretch.lines stretch.numbers.now table.old
+        × SoleColumn m stretch.numbers.now (length stretch.numbers.now) table.old }
+    ensures { (m : Map) → Set m stretch.entry.lines work.old → Connected m stretch.entry.numbers.now
+        → Noted m stretch.entry.lines stretch.entry.numbers.now table.old → SoleColumn m stretch.entry.numbers.now (length stretch.entry.numbers.now) table.old
+        → ColumnTested m stretch.entry.lines stretch.entry.numbers.now (length stretch.entry.numbers.now) table.old table.new work.old
         work.new }
 {
-    let j = stretch.len();
-    let own = Terminus::Line(wide(stretch[j - 1]));
-    test_column(work, lines, stretch, j, own, true, table);
-    let arrives = attributes_of(work, lines, stretch, j - 1, SECTOR_BACK);
-    let v = node_of(work, lines, stretch, j - 1, END);
-    let mut at = first_leaving(work, lines, v);
+    let j = stretch.numbers.len();
+    let own = Terminus::Line(wide(stretch.numbers[j - 1]));
+    test_column(work, stretch, j, own, true, table);
+    let arrives = stretch.attributes_of(work, j - 1, SECTOR_BACK);
+    let v = stretch.node_of(work, j - 1, END);
+    let mut at = first_leaving(work, stretch.lines, v);
     while 0 < at {
-        test_candidate(work, lines, stretch, at - 1, arrives, table);
-        at = next_leaving(work, lines, at);
+        test_candidate(work, stretch, at - 1, arrives, table);
+        at = next_leaving(work, stretch.lines, at);
     }
 }
 
 // Tests all legs to position `j`.
-fn test_to(work: &mut [u32], lines: usize, stretch: &[u32], j: usize, table: &mut [u8])
-    requires j_nonzero { (0 < j) × (j ≤ length stretch.now) × (length stretch.now ≤ 64) × (65 * length stretch.now ≤ length table.old) }
-    requires set { (m : Map) × Set m lines work.old × Connected m stretch.now × Noted m lines stretch.now table.old
-        × SoleColumn m stretch.now j table.old }
-    ensures { (m : Map) → Set m lines work.old → Connected m stretch.now
-        → Noted m lines stretch.now table.old → SoleColumn m stretch.now j table.old
-        → ColumnTested m lines stretch.now j table.old table.new work.old work.new }
+fn test_to(work: &mut [u32], stretch: LineList, j: usize, table: &mut [u8])
+    requires j_nonzero { (0 < j) × (j ≤ length stretch.numbers.now) × (length stretch.numbers.now ≤ 64) × (65 * length stretch.numbers.now ≤ length table.old) }
+    requires set { (m : Map) × Set m stretch.lines work.old × Connected m stretch.numbers.now × Noted m stretch.lines stretch.numbers.now table.old
+        × SoleColumn m stretch.numbers.now j table.old }
+    ensures { (m : Map) → Set m stretch.entry.lines work.old → Connected m stretch.entry.numbers.now
+        → Noted m stretch.entry.lines stretch.entry.numbers.now table.old → SoleColumn m stretch.entry.numbers.now j table.old
+        → ColumnTested m stretch.entry.lines stretch.entry.numbers.now j table.old table.new work.old work.new }
 {
-    if j == stretch.len() {
-        test_last_column(work, lines, stretch, table);
+    if j == stretch.numbers.len() {
+        test_last_column(work, stretch, table);
         return;
     }
-    let own = Terminus::Node(node_of(work, lines, stretch, j - 1, END));
-    test_column(work, lines, stretch, j, own, true, table);
+    let own = Terminus::Node(stretch.node_of(work, j - 1, END));
+    test_column(work, stretch, j, own, true, table);
 }
 
 // Tests the legs that are sole ways: a number of the table stays 1 where the leg may be used.
-fn sift_legs(work: &mut [u32], lines: usize, stretch: &[u32], table: &mut [u8])
-    requires stretch_len_bound { (length stretch.now ≤ 64) × (65 * length stretch.now ≤ length table.old) }
-    requires set { (m : Map) × Set m lines work.old × Connected m stretch.now × SoleLegs m stretch.now table.old }
-    ensures { (m : Map) → Set m lines work.old → Connected m stretch.now → SoleLegs m stretch.now table.old
-        → LegsSifted m lines stretch.now table.old table.new work.old work.new }
+fn sift_legs(work: &mut [u32], stretch: LineList, table: &mut [u8])
+    requires stretch_len_bound { (length stretch.numbers.now ≤ 64) × (65 * length stretch.numbers.now ≤ length table.old) }
+    requires set { (m : Map) × Set m stretch.lines work.old × Connected m stretch.numbers.now × SoleLegs m stretch.numbers.now table.old }
+    ensures { (m : Map) → Set m stretch.entry.lines work.old → Connected m stretch.entry.numbers.now → SoleLegs m stretch.entry.numbers.now table.old
+        → LegsSifted m stretch.entry.lines stretch.entry.numbers.now table.old table.new work.old work.new }
 {
-    list_leaving(work, lines);
-    note_alone(work, lines, stretch, table);
-    for j in 1..stretch.len() + 1 {
-        test_to(work, lines, stretch, j, table);
+    list_leaving(work, stretch.lines);
+    note_alone(work, stretch, table);
+    for j in 1..stretch.numbers.len() + 1 {
+        test_to(work, stretch, j, table);
     }
 }
 
@@ -119,67 +118,49 @@ fn mark_first(stretch: &[u32], tests: usize, table: &mut [u8]) -> usize
 }
 
 // Tests whether legs are sole ways, row by row on the map turned round: the tests made.
-fn test_turned(
-    work: &mut [u32],
-    lines: usize,
-    stretch: &[u32],
-    tests: usize,
-    table: &mut [u8],
-) -> usize
-    requires stretch_len_bound { (length stretch.now ≤ 64) × (65 * length stretch.now ≤ length table.old) × Blank table.old }
-    requires set { (m : Map) × Set m lines work.old × Connected m stretch.now }
-    ensures value { result ≡ tests_made (length stretch.now) tests }
-    ensures sole_tested { (m : Map) → Set m lines work.old → Connected m stretch.now
-        → SoleTested m lines stretch.now result table.old table.new work.old work.new }
+fn test_turned(work: &mut [u32], stretch: LineList, tests: usize, table: &mut [u8]) -> usize
+    requires stretch_len_bound { (length stretch.numbers.now ≤ 64) × (65 * length stretch.numbers.now ≤ length table.old) × Blank table.old }
+    requires set { (m : Map) × Set m stretch.lines work.old × Connected m stretch.numbers.now }
+    ensures value { result ≡ tests_made (length stretch.entry.numbers.now) tests }
+    ensures sole_tested { (m : Map) → Set m stretch.entry.lines work.old → Connected m stretch.entry.numbers.now
+        → SoleTested m stretch.entry.lines stretch.entry.numbers.now result table.old table.new work.old work.new }
 {
     let mut arrivals: [u32; ARRIVALS_LENGTH] = [0; ARRIVALS_LENGTH];
-    list_firsts(work, lines, stretch, &mut arrivals);
-    list_nexts(work, lines, &mut arrivals);
-    turn_round(work, lines);
-    let tested = test_rows(work, lines, stretch, tests, &arrivals, table);
-    turn_round(work, lines);
+    list_firsts(work, stretch, &mut arrivals);
+    list_nexts(work, stretch.lines, &mut arrivals);
+    turn_round(work, stretch.lines);
+    let tested = test_rows(work, stretch, tests, &arrivals, table);
+    turn_round(work, stretch.lines);
     tested
 }
 
 // The same, without a search where the first leg is the only one to test.
-fn test_sole_ways(
-    work: &mut [u32],
-    lines: usize,
-    stretch: &[u32],
-    tests: usize,
-    table: &mut [u8],
-) -> usize
-    requires stretch_len_bound { (length stretch.now ≤ 64) × (65 * length stretch.now ≤ length table.old) × Blank table.old }
-    requires set { (m : Map) × Set m lines work.old × Connected m stretch.now }
-    ensures value { result ≡ tests_made (length stretch.now) tests }
-    ensures sole_tested { (m : Map) → Set m lines work.old → Connected m stretch.now
-        → SoleTested m lines stretch.now result table.old table.new work.old work.new }
+fn test_sole_ways(work: &mut [u32], stretch: LineList, tests: usize, table: &mut [u8]) -> usize
+    requires stretch_len_bound { (length stretch.numbers.now ≤ 64) × (65 * length stretch.numbers.now ≤ length table.old) × Blank table.old }
+    requires set { (m : Map) × Set m stretch.lines work.old × Connected m stretch.numbers.now }
+    ensures value { result ≡ tests_made (length stretch.entry.numbers.now) tests }
+    ensures sole_tested { (m : Map) → Set m stretch.entry.lines work.old → Connected m stretch.entry.numbers.now
+        → SoleTested m stretch.entry.lines stretch.entry.numbers.now result table.old table.new work.old work.new }
 {
-    if stretch.len() <= 1 {
-        return mark_first(stretch, tests, table);
+    if stretch.numbers.len() <= 1 {
+        return mark_first(stretch.numbers, tests, table);
     }
     if tests <= 1 {
-        return mark_first(stretch, tests, table);
+        return mark_first(stretch.numbers, tests, table);
     }
-    test_turned(work, lines, stretch, tests, table)
+    test_turned(work, stretch, tests, table)
 }
 
 // Tests as many legs of a stretch as it may, or all, in order of their start, then their end: the tests made. Number 65 * i + j of the table becomes 1 where the
 // leg from position `i` to position `j` is tested good.
-pub fn test_legs(
-    work: &mut [u32],
-    lines: usize,
-    stretch: &[u32],
-    tests: usize,
-    table: &mut [u8],
-) -> usize
-    requires stretch_len_bound { (length stretch.now ≤ 64) × (65 * length stretch.now ≤ length table.old) × Blank table.old }
-    requires set { (m : Map) × Set m lines work.old × Connected m stretch.now }
-    ensures value { result ≡ tests_made (length stretch.now) tests }
-    ensures all_tested { (m : Map) → Set m lines work.old → Connected m stretch.now
-        → AllTested m lines stretch.now result table.old table.new work.old work.new }
+pub fn test_legs(work: &mut [u32], stretch: LineList, tests: usize, table: &mut [u8]) -> usize
+    requires stretch_len_bound { (length stretch.numbers.now ≤ 64) × (65 * length stretch.numbers.now ≤ length table.old) × Blank table.old }
+    requires set { (m : Map) × Set m stretch.lines work.old × Connected m stretch.numbers.now }
+    ensures value { result ≡ tests_made (length stretch.entry.numbers.now) tests }
+    ensures all_tested { (m : Map) → Set m stretch.entry.lines work.old → Connected m stretch.entry.numbers.now
+        → AllTested m stretch.entry.lines stretch.entry.numbers.now result table.old table.new work.old work.new }
 {
-    let made = test_sole_ways(work, lines, stretch, tests, table);
-    sift_legs(work, lines, stretch, table);
+    let made = test_sole_ways(work, stretch, tests, table);
+    sift_legs(work, stretch, table);
     made
 }

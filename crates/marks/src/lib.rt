@@ -19,7 +19,7 @@ fn mark(i: usize) -> u32
     3_000_000_000 + (i % 1_000_000) as u32
 }
 
-// The same for a buffer of bytes.
+// The same for a buffer of bytes. Functions for marks of either type would be no plainer: each contract would have to name the mark's number.
 fn byte_mark(i: usize) -> u8
     ensures { result ≡ byte_mark_of i }
 {

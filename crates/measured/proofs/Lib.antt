@@ -1,3 +1,2 @@
 -- Laws that the measured functions share.
 pub mod Refused
-pub mod Offsets

@@ -148,6 +148,7 @@ pub extern "C" fn measured_write_point(
 }
 
 // The byte of an offset on a leg, or 256 where it does not lie on it.
+#[tactic(auto, unfolding(crate::specs::Offsets::byte_number))]
 #[unsafe(no_mangle)]
 pub extern "C" fn measured_offset_byte(leg: u32, offset: u32) -> u32
     ensures { result ≡ byte_number leg offset }

@@ -11,6 +11,7 @@ use model::Refusal;
 use references::reference::{Reference, byte_at};
 
 // What tells a point along line from a line reference: its orientation and the side of road.
+// They are numbers and no enums, since a host may give any number, and `write_point` refuses those above 3.
 #[derive(Clone, Copy)]
 pub struct Marks {
     pub orientation: u32,

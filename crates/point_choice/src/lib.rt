@@ -75,6 +75,7 @@ pub fn choose(good: &[u8], n: usize, cuts: &mut [u32]) -> Option<usize>
     cuts[0] = 0;
     let mut i = 0;
     let mut k = 0;
+    // A walk along the route, by steps as long as its legs.
     while i < n {
         i = first_cut(good, n, &best, i).to;
         k += 1;

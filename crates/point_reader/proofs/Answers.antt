@@ -70,9 +70,10 @@ module _ (m : Map) (a : PointAlong) (room : ℕ) (before after : List ℕ) where
         let e = ap (λ (l : List ℕ). reference_at l 1) (line_first bs copy rest put) ∙ reference_is bs s ∙ ap line_reference same in
         subst (λ (q : Reference). ReadAnswered (ReadOn m q room) before after r) e d
 
-    pub found_by_line : {found : ReadLines} → ReadAnswered (ReadOn m (reference_at (take (length bs) copy) 1) room) before after (Ok found) →
-        PointReadAnswered (PointReadOn m a room) before after (Ok (point_read found.count found.positive a.orientation a.side))
-    found_by_line d = let l = by_line _ d in found_outcome _ l.outcome l.asked l.answers l.buffer_after refl
+    pub found_by_line : {found : ReadLines} {orientation side : ℕ} → orientation ≡ a.orientation → side ≡ a.side →
+        ReadAnswered (ReadOn m (reference_at (take (length bs) copy) 1) room) before after (Ok found) →
+        PointReadAnswered (PointReadOn m a room) before after (Ok (point_read found.count found.positive orientation side))
+    found_by_line e f d = let l = by_line _ d in rw (e, f) (found_outcome _ l.outcome l.asked l.answers l.buffer_after refl)
 
     pub refused_by_line : {given : Refusal} → ReadAnswered (ReadOn m (reference_at (take (length bs) copy) 1) room) before after (Err given) →
         PointReadAnswered (PointReadOn m a room) before after (Err given)

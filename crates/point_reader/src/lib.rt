@@ -76,7 +76,8 @@ pub fn read_point(
     )
 }
 
-// The answer on a map that is ready in the work area, for a point out of a message: whether the message is of that map is asked first.
+// The answer on a map that is ready in the work area, for a point out of a message: whether the message is of that map is asked first. Lines have a function
+// of their own for it: one for both would take what is asked on the map, and what an outcome is, as parameters.
 fn on_front(
     map: &[u8],
     message: &[u8],

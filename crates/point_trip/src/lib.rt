@@ -51,6 +51,7 @@ pub fn write_and_read(
     Ok(Back { written, answer })
 }
 
+// Stretches have a function of their own: one for both would need a trait with the two calls and their promises, which is longer than this.
 // Writes two points on one map, and where their bytes are the same, reads them. `None` says that the bytes differ.
 pub fn write_two_and_read(
     map: &[u8],

@@ -1,5 +1,5 @@
 -- A point is written as the stretch of its line alone is, with the marks added.
-use Prim.Native.Nat.{ℕ, ◌≤◌, ◌<◌}
+use Prim.Native.Nat.{ℕ, zero, suc, ◌≤◌, ◌<◌}
 use mathlib.Core.Path.{◌≡◌, refl, sym, ap, subst, ◌∙◌}
 use mathlib.Core.Bool.{true}
 use mathlib.Core.List.{List, [], ◌∷◌, append-nil}
@@ -30,6 +30,8 @@ use Rattle.model.proofs.BestFound.{ordinary_on}
 use Rattle.model.proofs.PointBytes.{point_size, few_offsets}
 use Rattle.model.proofs.PointTrip.{as_stretch}
 use Rattle.model.proofs.PointWriting.{Taken}
+use Rattle.work_area.specs.Area.{Held}
+use Rattle.stretches.specs.Known.{Known}
 use Rattle.reference_bytes.specs.Put.{Inside}
 use Rattle.point_bytes.specs.PointForm.{with_marks}
 use Rattle.point_bytes.proofs.AsLine.{as_line, with_length, line_size, first_p_at, last_p_at, placed_at, marks_over}
@@ -44,6 +46,10 @@ own_stretch p = stretch_of (own_leg p) p.offset 0
 module _ {m : Map} {p : GivenPoint} (t : Taken m p) where
   pub own_connected : Connected m (own_leg p)
   own_connected = single t.known
+
+  pub own_known : {w : List ℕ} {n : ℕ} → Held w n m → Known n (own_leg p)
+  own_known held zero h = omega (arith, held.line_count, t.known)
+  own_known held (suc i) h = absurd (omega arith)
 
   pub own_inside : Inside m (own_stretch p)
   unfolding first_of last_of

@@ -9,12 +9,12 @@ ghost use Rattle.work_area.specs.Area.{Held};
 ghost use Rattle.search_cells.specs.Area.{Set};
 ghost use Rattle.point_writer.specs.PointChecks.{ChecksPoint, PutsPoint};
 
-use buffers::copy;
-use buffers::wide;
+use buffers::{copy, wide};
 use model::limits::GREATEST_MARK;
 use model::{PointWriteAnswer, Refusal};
 use opening::open_map;
 use point_bytes::{Marks, put_marks};
+use stretches::lines::LineList;
 use work_area::step::in_work_area;
 use work_area::{LENGTH, field};
 use writer::on_part;
@@ -64,7 +64,11 @@ fn on_line(
         bytes.old bytes.new result }
 {
     let mut reference = [0u8; Marks::LONGEST];
-    let written = on_part(work, lines, &[line], offset, 0, 1, &mut reference)?;
+    let alone = LineList {
+        numbers: &[line],
+        lines,
+    };
+    let written = on_part(work, alone, offset, 0, 1, &mut reference)?;
     put_marks(&mut reference, marks);
     put_bytes(&reference[..written.bytes], bytes)
 }

@@ -1,6 +1,6 @@
 -- The legs that the cuts of a table make, one by one.
 use Prim.Native.Nat.{ℕ, zero, suc, ◌+◌, ◌-◌, ◌≤◌, ◌<◌}
-use mathlib.Core.Path.{◌≡◌, refl, sym, ◌∙◌, ap, subst}
+use mathlib.Core.Path.{◌≡◌, refl, sym, ◌∙◌, ap}
 use mathlib.Core.List.{List, [], ◌∷◌, ◌++◌}
 use native.Mathlib.Numerals.{add-one}
 use native.Mathlib.Omega.{arith}
@@ -9,12 +9,8 @@ use lib.Seq.{slice, take-add, drop_at, length-take-le}
 use lib.Dec.{eqb}
 use Rattle.model.specs.Map.{Map}
 use Rattle.model.specs.Choice.{Good}
-use Rattle.work_area.specs.Area.{Held}
-use Rattle.stretches.specs.Stretch.{Known}
 use Rattle.point_choice.specs.Cuts.{Route, there, leg, cut_legs}
 use Rattle.reference_bytes.specs.Put.{cut_at, cut_leg, CutInto}
-use Rattle.stretches.proofs.Stretches.{known_drop}
-use Rattle.stretches.proofs.Checks.{known_take}
 use Rattle.point_choice.proofs.Routes.{short}
 
 -- Leg `t` of a route.
@@ -60,12 +56,6 @@ module _ {m : Map} {lines table : List ℕ} {legs : ℕ} {cs : List ℕ} (k : Cu
 
   -- By the lines that are lent for the leg.
   module _ {ls : List ℕ} (e : ls ≡ cut_leg lines cs t) where
-    pub part_known : {w : List ℕ} {n : ℕ} → Held w n m → Known n ls
-    part_known h =
-        subst (λ (n : ℕ). Known n ls) h.line_count
-        (subst (λ (xs : List ℕ). Known (length m.lines) xs) (whole_part ∙ sym e)
-        (known_take _ (drop (cut_at cs t) lines) (cut_at cs (t + 1) - cut_at cs t) (known_drop _ lines (cut_at cs t) k.known)))
-
     pub part_good : Good m (eqb (cut_at cs (t + 1)) (length lines)) ls
     part_good = rw e leg_good
 
@@ -73,9 +63,6 @@ module _ {m : Map} {lines table : List ℕ} {legs : ℕ} {cs : List ℕ} (k : Cu
     part_few =
         omega
         (arith, ap (λ (xs : List ℕ). length xs) (e ∙ sym whole_part), length-take (cut_at cs (t + 1) - cut_at cs t) (drop (cut_at cs t) lines), here.1, k.few)
-
-pub cut_known : {m : Map} {lines table : List ℕ} {legs : ℕ} {cs w : List ℕ} {n : ℕ} → CutInto m lines table legs cs → Held w n m → Known n lines
-cut_known {lines = lines} k h = subst (λ (n : ℕ). Known n lines) h.line_count k.known
 
 -- One leg more.
 legs_on : (lines : List ℕ) (i : ℕ) (cs : List ℕ) (t : ℕ) → t < length cs →

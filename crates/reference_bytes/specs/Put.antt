@@ -7,7 +7,7 @@ use Rattle.model.specs.Stretch.{Stretch}
 use Rattle.model.specs.Reference.{status_byte, bytes3, byte_p, offset_bytes}
 use Rattle.model.specs.Choice.{good, from_node, offset_of}
 use Rattle.model.specs.Work.{placed}
-use Rattle.stretches.specs.Stretch.{Known}
+use Rattle.stretches.specs.Known.{Known}
 use Rattle.point_choice.specs.Cuts.{Route, Tested}
 
 -- Where leg `t` starts, by the cuts; and its lines.

@@ -7,7 +7,6 @@ ghost use Rattle.model.specs.Reference.{point_bytes};
 ghost use Rattle.model.specs.Choice.{points_of, stretch_bytes};
 ghost use Rattle.work_area.specs.Area.{Held};
 ghost use Rattle.fields.specs.Leg.{attributes_in};
-ghost use Rattle.stretches.specs.Stretch.{Known};
 ghost use Rattle.model.specs.Stretch.{stretch_of};
 ghost use Rattle.point_choice.specs.Cuts.{cut_legs};
 ghost use Rattle.reference_bytes.specs.Point.{bytes_of_point, PointIs};
@@ -21,7 +20,7 @@ use fields::leg::Attributes;
 use fields::offset::offset_byte;
 use point::{Point, point_of};
 use references::reference::Reference;
-use stretches::lines::{attributes_of, coordinate, node_of, total_length};
+use stretches::lines::{LineList, coordinate};
 use work_area::{SECTOR_BACK, START};
 
 mod point;
@@ -32,15 +31,15 @@ const POSITIVE: u32 = 64;
 const NEGATIVE: u32 = 32;
 
 // Puts the status byte and the codes of the first point.
-fn put_start(work: &[u32], lines: usize, stretch: &[u32], bytes: &mut [u8])
-    requires known { Known lines stretch.now × (0 < length stretch.now) × (7 ≤ length bytes.old) }
-    requires held { (m : Map) × Held work.now lines m }
-    ensures { (m : Map) → Held work.now lines m
-        → bytes.new ≡ put_at 0 (start_bytes m stretch.now) bytes.old }
+fn put_start(work: &[u32], stretch: LineList, bytes: &mut [u8])
+    requires room { (0 < length stretch.numbers.now) × (7 ≤ length bytes.old) }
+    requires held { (m : Map) × Held work.now stretch.lines m }
+    ensures { (m : Map) → Held work.now stretch.entry.lines m
+        → bytes.new ≡ put_at 0 (start_bytes m stretch.entry.numbers.now) bytes.old }
 {
-    let v = node_of(work, lines, stretch, 0, START);
-    let lon = longitude_code(coordinate(work, lines, v, 0));
-    let lat = latitude_code(coordinate(work, lines, v, 1));
+    let v = stretch.node_of(work, 0, START);
+    let lon = longitude_code(coordinate(work, stretch.lines, v, 0));
+    let lat = latitude_code(coordinate(work, stretch.lines, v, 1));
     bytes[0] = Reference::STATUS;
     put3(bytes, 1, lon);
     put3(bytes, 4, lat);
@@ -59,33 +58,27 @@ fn put_point(bytes: &mut [u8], at: usize, point: Point)
 }
 
 // The lines of leg `t`.
-fn leg_of<'a>(stretch: &'a [u32], cuts: &[u32], legs: usize, t: usize) -> &'a [u32]
+fn leg_of<'a>(stretch: LineList<'a>, cuts: &[u32], legs: usize, t: usize) -> LineList<'a>
     requires t_lt_legs { (t < legs) × (legs < length cuts.now) }
-    requires by_index { (m : Map) × (cs : List ℕ) × CutInto m stretch.now cuts.now legs cs }
-    ensures { (m : Map) → (cs : List ℕ) → CutInto m stretch.now cuts.now legs cs
-        → result.now ≡ cut_leg stretch.now cs t }
+    requires by_index { (m : Map) × (cs : List ℕ) × CutInto m stretch.numbers.now cuts.now legs cs }
+    ensures map { result.lines ≡ stretch.entry.lines }
+    ensures leg { (m : Map) → (cs : List ℕ) → CutInto m stretch.entry.numbers.now cuts.now legs cs
+        → result.numbers.now ≡ cut_leg stretch.entry.numbers.now cs t }
 {
-    &stretch[wide(cuts[t])..wide(cuts[t + 1])]
+    stretch.part(wide(cuts[t]), wide(cuts[t + 1]))
 }
 
 // Puts the points but the last, one after another.
-fn put_points(
-    work: &[u32],
-    lines: usize,
-    stretch: &[u32],
-    cuts: &[u32],
-    legs: usize,
-    bytes: &mut [u8],
-)
+fn put_points(work: &[u32], stretch: LineList, cuts: &[u32], legs: usize, bytes: &mut [u8])
     requires legs_in_bounds { (legs < length cuts.now) × (7 + 7 * legs ≤ length bytes.old) }
-    requires by_index { (m : Map) × (cs : List ℕ) × Held work.now lines m × CutInto m stretch.now cuts.now legs cs }
-    ensures { (m : Map) → (cs : List ℕ) → Held work.now lines m
-        → CutInto m stretch.now cuts.now legs cs
-        → bytes.new ≡ put_at 7 (point_bytes (points_of m (cut_legs stretch.now 0 cs)) []) bytes.old }
+    requires by_index { (m : Map) × (cs : List ℕ) × Held work.now stretch.lines m × CutInto m stretch.numbers.now cuts.now legs cs }
+    ensures { (m : Map) → (cs : List ℕ) → Held work.now stretch.entry.lines m
+        → CutInto m stretch.entry.numbers.now cuts.now legs cs
+        → bytes.new ≡ put_at 7 (point_bytes (points_of m (cut_legs stretch.entry.numbers.now 0 cs)) []) bytes.old }
 {
     for t in 0..legs {
         let leg = leg_of(stretch, cuts, legs, t);
-        let point = point_of(work, lines, leg);
+        let point = point_of(work, leg);
         put_point(
             bytes,
             Reference::FIRST_P + Reference::MIDDLE_POINT * t,
@@ -140,8 +133,7 @@ fn put_last(bytes: &mut [u8], at: usize, a: Attributes, pos: u32, neg: u32)
 // Puts the bytes from the last point's P on: where they end.
 fn put_end(
     work: &[u32],
-    lines: usize,
-    stretch: &[u32],
+    stretch: LineList,
     cuts: &[u32],
     legs: usize,
     pos: u32,
@@ -149,18 +141,18 @@ fn put_end(
     bytes: &mut [u8],
 ) -> usize
     requires legs_nonzero { (0 < legs) × (legs < length cuts.now) × (7 + 7 * legs + 2 + flagged pos 1 + flagged neg 1 ≤ length bytes.old) }
-    requires by_index { (m : Map) × (cs : List ℕ) × Held work.now lines m × CutInto m stretch.now cuts.now legs cs
-        × Inside m (stretch_of stretch.now pos neg) }
+    requires by_index { (m : Map) × (cs : List ℕ) × Held work.now stretch.lines m × CutInto m stretch.numbers.now cuts.now legs cs
+        × Inside m (stretch_of stretch.numbers.now pos neg) }
     ensures { (result ≡ 7 + 7 * legs + 2 + flagged pos 1 + flagged neg 1)
-        × ((m : Map) → (cs : List ℕ) → Held work.now lines m
-        → CutInto m stretch.now cuts.now legs cs
-        → bytes.new ≡ put_at (7 + 7 * legs) (end_bytes m stretch.now (cut_leg stretch.now cs 0)
-        (cut_leg stretch.now cs (legs - 1)) pos neg) bytes.old) }
+        × ((m : Map) → (cs : List ℕ) → Held work.now stretch.entry.lines m
+        → CutInto m stretch.entry.numbers.now cuts.now legs cs
+        → bytes.new ≡ put_at (7 + 7 * legs) (end_bytes m stretch.entry.numbers.now (cut_leg stretch.entry.numbers.now cs 0)
+        (cut_leg stretch.entry.numbers.now cs (legs - 1)) pos neg) bytes.old) }
 {
     let at = Reference::FIRST_P + Reference::MIDDLE_POINT * legs;
-    let a = attributes_of(work, lines, stretch, stretch.len() - 1, SECTOR_BACK);
-    let first = total_length(work, lines, leg_of(stretch, cuts, legs, 0)) as u32;
-    let last = total_length(work, lines, leg_of(stretch, cuts, legs, legs - 1)) as u32;
+    let a = stretch.attributes_of(work, stretch.numbers.len() - 1, SECTOR_BACK);
+    let first = leg_of(stretch, cuts, legs, 0).total_length(work) as u32;
+    let last = leg_of(stretch, cuts, legs, legs - 1).total_length(work) as u32;
     put_last(bytes, at, a, pos, neg);
     put_offsets(bytes, at + 2, first, pos, last, neg)
 }
@@ -168,8 +160,7 @@ fn put_end(
 // Puts the reference of a stretch that is cut into legs, if the buffer has room for it: the count of its bytes, or none where it has not.
 pub fn put(
     work: &[u32],
-    lines: usize,
-    stretch: &[u32],
+    stretch: LineList,
     cuts: &[u32],
     legs: usize,
     pos: u32,
@@ -177,11 +168,11 @@ pub fn put(
     bytes: &mut [u8],
 ) -> Option<usize>
     requires legs_in_bounds { legs < length cuts.now }
-    requires by_index { (m : Map) × (cs : List ℕ) × Held work.now lines m × CutInto m stretch.now cuts.now legs cs
-        × Inside m (stretch_of stretch.now pos neg) }
-    ensures { (m : Map) → (cs : List ℕ) → Held work.now lines m
-        → CutInto m stretch.now cuts.now legs cs
-        → Puts (stretch_bytes m (cut_legs stretch.now 0 cs) (stretch_of stretch.now pos neg))
+    requires by_index { (m : Map) × (cs : List ℕ) × Held work.now stretch.lines m × CutInto m stretch.numbers.now cuts.now legs cs
+        × Inside m (stretch_of stretch.numbers.now pos neg) }
+    ensures { (m : Map) → (cs : List ℕ) → Held work.now stretch.entry.lines m
+        → CutInto m stretch.entry.numbers.now cuts.now legs cs
+        → Puts (stretch_bytes m (cut_legs stretch.entry.numbers.now 0 cs) (stretch_of stretch.entry.numbers.now pos neg))
         bytes.old bytes.new result }
 {
     let length = Reference::FIRST_P
@@ -192,8 +183,8 @@ pub fn put(
     if bytes.len() < length {
         return None;
     }
-    put_start(work, lines, stretch, bytes);
-    put_points(work, lines, stretch, cuts, legs, bytes);
-    let n = put_end(work, lines, stretch, cuts, legs, pos, neg, bytes);
+    put_start(work, stretch, bytes);
+    put_points(work, stretch, cuts, legs, bytes);
+    let n = put_end(work, stretch, cuts, legs, pos, neg, bytes);
     Some(n)
 }

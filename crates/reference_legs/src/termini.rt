@@ -13,6 +13,7 @@ use search_cells::adjacency::{first_leaving, next_leaving};
 use way_lengths::Terminus;
 
 // Where the first terminus of a leg is: 1 + the line, for a leg that any line may end the count of lines, which stands for its end node, or 0 for none.
+// The cells of the lent work area hold the lines of a chain so.
 #[tactic(auto, unfolding(fields::specs::Leg::arrival_in))]
 pub fn first_terminus(work: &[u32], lines: usize, leg: Leg) -> usize
     requires { (m : Map) × Set m lines work.now × (leg.to < length m.nodes) }

@@ -1,6 +1,6 @@
 -- The table of the points' nodes, one point at a time: what it holds after k points, and what that comes to.
 use Prim.Native.Nat.{ℕ, ◌+◌, ◌≤◌, ◌<◌}
-use mathlib.Core.Path.{◌≡◌, sym, ap, subst, ◌∙◌}
+use mathlib.Core.Path.{◌≡◌, sym, ap, ◌∙◌}
 use mathlib.Core.List.{List}
 use native.Mathlib.Omega.{arith}
 use lib.ListN.{length, get_or, set, length-set}
@@ -16,10 +16,8 @@ use Rattle.work_area.proofs.Holding.{lon_at, lat_at}
 use Rattle.work_area.proofs.Held.{node_path}
 use Rattle.references.specs.declared.node.Sought.{Sought}
 use Rattle.references.specs.declared.node.Sought.TheVariants.{Codes}
-use Rattle.std.proofs.Common.{Result, Ok, Err}
-use Rattle.model.specs.declared.Refusal.{Refusal}
 use Rattle.references.specs.Node.{passes}
-use Rattle.references.specs.Legs.{place_p, sought_after, AllFound, PointMissing, PlacesOf, PlacesPut}
+use Rattle.references.specs.Legs.{place_p, sought_after, AllFound}
 use Rattle.buffers.proofs.Kept.{kept_then}
 use Rattle.references.proofs.Located.{next_node, PointsFound, Step, located_all, located_up_to}
 
@@ -89,11 +87,3 @@ module _ (bytes work : List ℕ) (nodes : ℕ) where
         seek (passes (sought_after bytes work k (get_or places k 0))) 0 m.nodes ≡ missing → locate m (reference_at bytes points) ≡ no_node (k + 1)
     tracked_no_more inside t m lines h gone =
         located_up_to m bytes points places k inside (t.path m lines h) (sym (seeks_next h k (get_or places k 0) (t.below k (omega arith))) ∙ gone)
-
--- What is known of the points once the answer on them is known.
-module _ {bytes work before after : List ℕ} {points nodes : ℕ} {r : Result (Unit {0}) Refusal} (put : PlacesPut bytes points work nodes before after r) where
-  pub all_found : {x : Unit {0}} → r ≡ Ok x → AllFound bytes points work nodes after
-  all_found e = subst (λ (q : Result (Unit {0}) Refusal). PlacesOf bytes points work nodes after q) e put.answers
-
-  pub none_found : {why : Refusal} → r ≡ Err why → PointMissing bytes points work nodes why
-  none_found e = subst (λ (q : Result (Unit {0}) Refusal). PlacesOf bytes points work nodes after q) e put.answers

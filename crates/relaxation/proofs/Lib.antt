@@ -1,5 +1,4 @@
 -- Laws that the proofs of the functions cite.
-pub mod Noting
 pub mod Growing
 pub mod Queueing
 pub mod Staying

@@ -14,17 +14,6 @@ use Rattle.search.specs.Seeds.{InsertedSeed}
 use Rattle.buffers.proofs.Cases.{le_or_lt}
 use Rattle.relaxation.proofs.Queueing.{queued_in, ordered_more}
 
-pub seed_first : {key : ℕ} {w : List ℕ} → queue_from < length w → InsertedSeed 0 key w (set w queue_from key)
-seed_first {key} {w} full =
-    let here = get_or-set_same w queue_from key 0 full in
-    record {
-      ordered = λ o i k i≤ k<. let e : i ≡ k = omega arith in rw e (omega arith);
-      queue = λ i i<. inl (let e : i ≡ 0 = omega arith in rw e here);
-      still = λ k k<. absurd (omega arith);
-      here = (0, omega arith, here);
-      kept = kept_set queue_from key (omega arith) (omega arith);
-    }
-
 module _ {end key : ℕ} {w v : List ℕ} (s : Inserted 0 end key w v) where
   still_in : (k : ℕ) → k < end → (i : ℕ) × (i < end + 1) × (queued v i ≡ queued w k)
   still_in k k< =

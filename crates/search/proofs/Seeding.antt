@@ -69,12 +69,6 @@ module _ {q : Task} {n c limit count end j : ℕ} {w : List ℕ} (s : Seeding q 
   still : ((line_at q.map j).frc ≤ c → (line_at q.map j).length ≤ limit → ⊥) → Seeded q n c limit j w w count end
   still out = record { seeding = s; based = λ ok near. absurd (out ok near); others = λ k k< d. refl; kept = kept_none }
 
-  pub seed_shut : c < get_or w (line_place j + line_frc) 0 → Seeded q n c limit j w w count end
-  seed_shut x = still (λ ok near. omega (arith, class_of))
-
-  pub seed_far : limit < get_or w (line_place j + line_length) 0 → Seeded q n c limit j w w count end
-  seed_far x = still (λ ok near. omega (arith, length_of))
-
   -- It is reached.
   module _ {x : ℕ} {first second : List ℕ} {r : Bool} (ok : get_or w (line_place j + line_frc) 0 ≤ c) (is : x ≡ get_or w (line_place j + line_length) 0) (near : x ≤ limit)
       (put : Put j 0 x count w first) (sent : Sent q.map limit j first second r) (b : Begins q.map q.from j) where

@@ -10,7 +10,7 @@ use Rattle.model.specs.Lines.{line_at, Connected, total, lowest, first_of}
 use Rattle.work_area.specs.Mirror.{mirror}
 use Rattle.way_lengths.specs.Ways.{line, OnlyWay}
 use Rattle.search_cells.specs.Area.{length_to, predecessor}
-use Rattle.stretches.specs.Stretch.{Known}
+use Rattle.stretches.specs.Known.{Known}
 use Rattle.sole_ways.specs.declared.ahead.Along.{Along}
 use Rattle.sole_ways.specs.SoleWays.{SoleUnder, Follows, Advanced}
 use Rattle.sole_ways.proofs.Slices.{first_of_slice, slice_more, total_then, lowest_then, total_slice_more, lowest_slice_more, next_follows}

@@ -9,7 +9,7 @@ use Rattle.model.specs.Lines.{line_at}
 use Rattle.work_area.specs.Mirror.{mirror}
 use Rattle.work_area.proofs.Mirrored.{line_mirrored}
 use Rattle.search_cells.specs.Area.{Set}
-use Rattle.stretches.specs.Stretch.{Known}
+use Rattle.stretches.specs.Known.{Known}
 use Rattle.sole_ways.specs.declared.part.Part.{Part}
 use Rattle.sole_ways.specs.SoleWays.{Measures}
 use Rattle.sole_ways.proofs.Slices.{total_slice_more, lowest_slice_more, total_slice_none, lowest_slice_none}

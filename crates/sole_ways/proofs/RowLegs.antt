@@ -15,7 +15,7 @@ use Rattle.buffers.specs.Decides.{Decides}
 use Rattle.buffers.proofs.Kept.{kept_then}
 use Rattle.work_area.specs.Mirror.{mirror}
 use Rattle.search_cells.specs.Area.{Set}
-use Rattle.stretches.specs.Stretch.{Known}
+use Rattle.stretches.specs.Known.{Known}
 use Rattle.way_lengths.specs.Ways.{line}
 use Rattle.sole_ways.specs.declared.part.Part.{Part}
 use Rattle.sole_ways.specs.declared.ahead.Along.{Along}

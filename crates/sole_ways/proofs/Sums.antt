@@ -4,7 +4,7 @@ use Rattle.model.specs.Map.{Map, greatest_number}
 use Rattle.model.specs.Lines.{line_at}
 use Rattle.model.specs.Reading.{greatest_leg_length}
 use Rattle.work_area.specs.Area.{Held}
-use Rattle.stretches.specs.Stretch.{Known}
+use Rattle.stretches.specs.Known.{Known}
 use Prim.Native.Nat.{ℕ, ◌+◌, ◌≤◌, ◌<◌}
 use mathlib.Core.List.{List}
 use native.Mathlib.Omega.{arith}

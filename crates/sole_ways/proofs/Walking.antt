@@ -17,7 +17,7 @@ use Rattle.way_lengths.specs.Ways.{line, Way}
 use Rattle.way_lengths.proofs.Plain.{way_one, total_one}
 use Rattle.search_cells.specs.Area.{Searched, Set, Tie, length_to, predecessor, several}
 use Rattle.ways.proofs.Back.{near, short, tie_near}
-use Rattle.stretches.specs.Stretch.{Known}
+use Rattle.stretches.specs.Known.{Known}
 use Rattle.sole_ways.specs.declared.ahead.Along.{Along}
 use Rattle.sole_ways.specs.SoleWays.{Follows, Joins, Walled}
 use Rattle.sole_ways.proofs.Slices.{first_of_slice, last_of_slice, total_then, lowest_then, total_slice_more, slice_connected}

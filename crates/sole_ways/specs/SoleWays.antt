@@ -14,7 +14,7 @@ use Rattle.buffers.specs.Kept.{Kept}
 use Rattle.way_lengths.specs.declared.Terminus.{Terminus}
 use Rattle.way_lengths.specs.Ways.{line, node, Way, OnlyWay}
 use Rattle.search_cells.specs.Area.{Searched, Set, length_to, latest}
-use Rattle.stretches.specs.Stretch.{Known}
+use Rattle.stretches.specs.Known.{Known}
 use Rattle.sole_ways.specs.declared.part.Part.{Part}
 use Rattle.sole_ways.specs.declared.ahead.Along.{Along}
 use Rattle.sole_ways.specs.declared.test.SoleTest.{SoleTest}

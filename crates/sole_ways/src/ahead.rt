@@ -4,13 +4,13 @@ ghost use Rattle.model.specs.Map.{Map};
 ghost use Rattle.model.specs.Reading.{greatest_leg_length};
 ghost use Rattle.work_area.specs.Area.{Held};
 ghost use Rattle.search_cells.specs.Area.{Set};
-ghost use Rattle.stretches.specs.Stretch.{Known};
 ghost use Rattle.sole_ways.specs.SoleWays.{OnTrial, SearchedFor};
 
 use crate::part::{Part, one_more};
 use buffers::wide;
 use model::limits::GREATEST_LEG_LENGTH;
 use search::search;
+use stretches::lines::LineList;
 use way_lengths::Terminus;
 
 // What a search from the first line of a row's legs serves: lines up to a class, and lengths up to a limit. Up to position `to` the stretch's lines are
@@ -30,25 +30,18 @@ pub fn goal_for(len: u32, reach: u32) -> u32
 }
 
 // A longer part for a search to look ahead to, so that it serves later legs too: up to `goal` or to position `end`, over lines up to the class `most`.
-fn look_ahead(
-    work: &[u32],
-    lines: usize,
-    stretch: &[u32],
-    part: Part,
-    end: usize,
-    most: u32,
-    goal: u32,
-) -> Part
-    requires known { Known lines stretch.now × (end ≤ length stretch.now) × (goal ≤ greatest_leg_length) }
-    requires held { (m : Map) × Held work.now lines m }
+fn look_ahead(work: &[u32], stretch: LineList, part: Part, end: usize, most: u32, goal: u32) -> Part
+    requires bounds { (end ≤ length stretch.numbers.now) × (goal ≤ greatest_leg_length) }
+    requires held { (m : Map) × Held work.now stretch.lines m }
     ensures { (part.class ≤ result.class) × (part.length ≤ result.length) × (result.class ≤ max part.class most) }
 {
     let mut far = part;
+    // The part moves its own end on: a counter beside it would be no plainer.
     while far.to < end {
         if goal <= far.length {
             return far;
         }
-        let next = one_more(work, lines, stretch, far);
+        let next = one_more(work, stretch, far);
         if most < next.class {
             return far;
         }
@@ -61,26 +54,25 @@ fn look_ahead(
 // `reach` is a guess of how long the legs of the row get.
 pub fn search_ahead(
     work: &mut [u32],
-    lines: usize,
-    stretch: &[u32],
+    stretch: LineList,
     part: Part,
     end: usize,
     most: u32,
     reach: u32,
 ) -> Along
-    requires end_in_bounds { end ≤ length stretch.now }
-    requires set { (m : Map) × Set m lines work.old × OnTrial m lines stretch.now part }
-    ensures { (m : Map) → Set m lines work.old → OnTrial m lines stretch.now part
-        → SearchedFor m lines stretch.now part most work.old work.new result }
+    requires end_in_bounds { end ≤ length stretch.numbers.now }
+    requires set { (m : Map) × Set m stretch.lines work.old × OnTrial m stretch.lines stretch.numbers.now part }
+    ensures { (m : Map) → Set m stretch.entry.lines work.old → OnTrial m stretch.entry.lines stretch.entry.numbers.now part
+        → SearchedFor m stretch.entry.lines stretch.entry.numbers.now part most work.old work.new result }
 {
     let goal = goal_for(part.length, reach);
-    let far = look_ahead(work, lines, stretch, part, end, most, goal);
+    let far = look_ahead(work, stretch, part, end, most, goal);
     let limit = far.length.min(GREATEST_LEG_LENGTH);
     let from = part.from;
     search(
         work,
-        lines,
-        Terminus::Line(wide(stretch[from])),
+        stretch.lines,
+        Terminus::Line(wide(stretch.numbers[from])),
         far.class,
         limit,
     );

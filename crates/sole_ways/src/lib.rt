@@ -9,11 +9,11 @@ ghost use Rattle.model.specs.Lines.{Connected};
 ghost use Rattle.model.specs.LegTests.{tests_made};
 ghost use Rattle.work_area.specs.Mirror.{mirror};
 ghost use Rattle.search_cells.specs.Area.{Set};
-ghost use Rattle.stretches.specs.Stretch.{Known};
 ghost use Rattle.sole_ways.specs.SoleWays.{Blank, Arriving, RowsTested};
 
 use model::limits::GREATEST_LEG_LENGTH;
 use row::{Row, test_row};
+use stretches::lines::LineList;
 
 pub mod ahead;
 pub mod along;
@@ -29,30 +29,29 @@ const FIRST_REACH: u32 = GREATEST_LEG_LENGTH / 15;
 // sole way that is no longer than a leg can be.
 pub fn test_rows(
     work: &mut [u32],
-    lines: usize,
-    stretch: &[u32],
+    stretch: LineList,
     tests: usize,
     arrivals: &[u32],
     table: &mut [u8],
 ) -> usize
-    requires stretch_len_bound { (length stretch.now ≤ 64) × (65 * length stretch.now ≤ length table.old) × Known lines stretch.now × Blank table.old }
-    requires set { (m : Map) × Set m lines work.old × Connected (mirror m) stretch.now × Arriving m lines stretch.now arrivals.now }
-    ensures value { result ≡ tests_made (length stretch.now) tests }
-    ensures rows_tested { (m : Map) → Set m lines work.old → Connected (mirror m) stretch.now
-        → Arriving m lines stretch.now arrivals.now
-        → RowsTested m lines stretch.now result table.old table.new work.old work.new }
+    requires stretch_len_bound { (length stretch.numbers.now ≤ 64) × (65 * length stretch.numbers.now ≤ length table.old) × Blank table.old }
+    requires set { (m : Map) × Set m stretch.lines work.old × Connected (mirror m) stretch.numbers.now × Arriving m stretch.lines stretch.numbers.now arrivals.now }
+    ensures value { result ≡ tests_made (length stretch.entry.numbers.now) tests }
+    ensures rows_tested { (m : Map) → Set m stretch.entry.lines work.old → Connected (mirror m) stretch.entry.numbers.now
+        → Arriving m stretch.entry.lines stretch.entry.numbers.now arrivals.now
+        → RowsTested m stretch.entry.lines stretch.entry.numbers.now result table.old table.new work.old work.new }
 {
     let mut left = tests;
     let mut row = Row {
         reach: FIRST_REACH,
         wall: None,
     };
-    for i in 0..stretch.len() {
+    for i in 0..stretch.numbers.len() {
         if left == 0 {
             return tests;
         }
-        let end = i + left.min(stretch.len() - i);
-        row = test_row(work, lines, stretch, i, end, arrivals, row, table);
+        let end = i + left.min(stretch.numbers.len() - i);
+        row = test_row(work, stretch, i, end, arrivals, row, table);
         left -= end - i;
     }
     tests - left

@@ -4,10 +4,9 @@ ghost use Rattle.model.specs.Map.{Map};
 ghost use Rattle.model.specs.Reading.{greatest_leg_length};
 ghost use Rattle.work_area.specs.Area.{Held};
 ghost use Rattle.work_area.specs.Mirror.{mirror};
-ghost use Rattle.stretches.specs.Stretch.{Known};
 ghost use Rattle.sole_ways.specs.SoleWays.{none_from, Measures, OneMore};
 
-use stretches::lines::field_of;
+use stretches::lines::LineList;
 use work_area::{FRC, LENGTH};
 
 #[derive(Clone, Copy)]
@@ -31,15 +30,15 @@ pub fn none_from(i: usize) -> Part
 }
 
 // The part with the next line of the stretch.
-pub fn one_more(work: &[u32], lines: usize, stretch: &[u32], part: Part) -> Part
-    requires known { Known lines stretch.now × (part.to < length stretch.now) × (part.length ≤ greatest_leg_length) }
-    requires held { (m : Map) × Held work.now lines m }
+pub fn one_more(work: &[u32], stretch: LineList, part: Part) -> Part
+    requires bounds { (part.to < length stretch.numbers.now) × (part.length ≤ greatest_leg_length) }
+    requires held { (m : Map) × Held work.now stretch.lines m }
     ensures one_more { OneMore part result }
-    ensures measures { (m : Map) → Held work.now lines m → Measures (mirror m) stretch.now part
-        → Measures (mirror m) stretch.now result }
+    ensures measures { (m : Map) → Held work.now stretch.entry.lines m → Measures (mirror m) stretch.entry.numbers.now part
+        → Measures (mirror m) stretch.entry.numbers.now result }
 {
-    let frc = field_of(work, lines, stretch, part.to, FRC);
-    let length = part.length + field_of(work, lines, stretch, part.to, LENGTH);
+    let frc = stretch.field_of(work, part.to, FRC);
+    let length = part.length + stretch.field_of(work, part.to, LENGTH);
     Part {
         from: part.from,
         to: part.to + 1,

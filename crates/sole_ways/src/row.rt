@@ -6,13 +6,13 @@ ghost use Rattle.work_area.specs.Mirror.{mirror};
 ghost use Rattle.search_cells.specs.Area.{Set};
 ghost use Rattle.buffers.specs.Decides.{Decides};
 ghost use Rattle.buffers.specs.Kept.{Kept};
-ghost use Rattle.stretches.specs.Stretch.{Known};
 ghost use Rattle.sole_ways.specs.SoleWays.{mark, Arriving, WalledIf, RowBefore, RowCleared, RowTested};
 
 use crate::part::{none_from, one_more};
 use crate::test::test_sole;
 use crate::wall::{Wall, bars, find_wall};
 use model::limits::GREATEST_LEG_LENGTH;
+use stretches::lines::LineList;
 
 // The greatest count of a stretch's positions: one more than of its lines.
 pub const POSITIONS: usize = 65;
@@ -47,30 +47,29 @@ pub struct Row {
 // Tests the legs from position `i` up to position `end`, after the row `before`.
 pub fn test_row(
     work: &mut [u32],
-    lines: usize,
-    stretch: &[u32],
+    stretch: LineList,
     i: usize,
     end: usize,
     arrivals: &[u32],
     before: Row,
     table: &mut [u8],
 ) -> Row
-    requires i_lt_end { (i < end) × (end ≤ length stretch.now) × (length stretch.now ≤ 64) × (65 * length stretch.now ≤ length table.old)
-        × Known lines stretch.now }
-    requires set { (m : Map) × Set m lines work.old × Connected (mirror m) stretch.now × Arriving m lines stretch.now arrivals.now
-        × RowBefore (mirror m) stretch.now i table.old }
-    ensures { (m : Map) → Set m lines work.old → Connected (mirror m) stretch.now
-        → Arriving m lines stretch.now arrivals.now → RowBefore (mirror m) stretch.now i table.old
-        → WalledIf (mirror m) stretch.now before.wall → WalledIf (mirror m) stretch.now result.wall
-        × RowTested m lines stretch.now i end table.old table.new work.old work.new }
+    requires i_lt_end { (i < end) × (end ≤ length stretch.numbers.now) × (length stretch.numbers.now ≤ 64) × (65 * length stretch.numbers.now ≤ length table.old) }
+    requires set { (m : Map) × Set m stretch.lines work.old × Connected (mirror m) stretch.numbers.now × Arriving m stretch.lines stretch.numbers.now arrivals.now
+        × RowBefore (mirror m) stretch.numbers.now i table.old }
+    ensures { (m : Map) → Set m stretch.entry.lines work.old → Connected (mirror m) stretch.entry.numbers.now
+        → Arriving m stretch.entry.lines stretch.entry.numbers.now arrivals.now → RowBefore (mirror m) stretch.entry.numbers.now i table.old
+        → WalledIf (mirror m) stretch.entry.numbers.now before.wall → WalledIf (mirror m) stretch.entry.numbers.now result.wall
+        × RowTested m stretch.entry.lines stretch.entry.numbers.now i end table.old table.new work.old work.new }
 {
     let reach = before.reach;
     let wall = before.wall;
     clear_row(table, i, end);
     let mut last = None;
     let mut part = none_from(i);
+    // The part moves its own end on: a counter beside it would be no plainer.
     while part.to < end {
-        part = one_more(work, lines, stretch, part);
+        part = one_more(work, stretch, part);
         // A longer leg is too long as well.
         if GREATEST_LEG_LENGTH < part.length {
             break;
@@ -83,14 +82,14 @@ pub fn test_row(
         if is_known(table, i, j) {
             table[POSITIONS * i + j] = 1;
         } else {
-            let test = test_sole(work, lines, stretch, part, end, arrivals, reach, last);
+            let test = test_sole(work, stretch, part, end, arrivals, reach, last);
             let along = test.along;
             last = Some(along);
             if test.sole {
                 table[POSITIONS * i + j] = 1;
             } else if along.to < j {
                 // Another way is as short up to a line of the leg, and so it is for longer legs.
-                let found = find_wall(work, lines, stretch, i, along, wall);
+                let found = find_wall(work, stretch, i, along, wall);
                 return Row {
                     reach: part.length,
                     wall: found,

@@ -7,13 +7,13 @@ ghost use Rattle.model.specs.Work.{work_length};
 ghost use Rattle.work_area.specs.Mirror.{mirror};
 ghost use Rattle.search_cells.specs.Area.{Set, several, predecessor};
 ghost use Rattle.buffers.specs.Decides.{Decides};
-ghost use Rattle.stretches.specs.Stretch.{Known};
 ghost use Rattle.sole_ways.specs.SoleWays.{Follows, Joins, Bars, WalledIf};
 
 use crate::ahead::Along;
 use crate::part::Part;
 use buffers::wide;
 use search_cells::cells::{SEVERAL, length_to, predecessor_at};
+use stretches::lines::LineList;
 use work_area::{FRC, field};
 
 // Another way, over lines up to a class, leaves the stretch behind the line at position `from` and is back at the node at position `to`.
@@ -58,26 +58,26 @@ fn one_before(work: &[u32], l: usize) -> Option<usize>
 // Goes back from line `last` by predecessors: the wall from where it meets the stretch behind position `i`, or `old`.
 fn walk_back(
     work: &[u32],
-    lines: usize,
-    stretch: &[u32],
+    stretch: LineList,
     i: usize,
     along: Along,
     last: usize,
     old: Option<Wall>,
 ) -> Option<Wall>
-    requires known { Known lines stretch.now × (along.to < length stretch.now) × (0 < along.to) }
-    requires set { (m : Map) × Set m lines work.now × Follows m lines stretch.now i work.now along
-        × Joins m lines stretch.now along.to work.now last }
-    ensures { (m : Map) → Set m lines work.now → Connected (mirror m) stretch.now
-        → Follows m lines stretch.now i work.now along → Joins m lines stretch.now along.to work.now last
-        → WalledIf (mirror m) stretch.now old → WalledIf (mirror m) stretch.now result }
+    requires bounds { (along.to < length stretch.numbers.now) × (0 < along.to) }
+    requires set { (m : Map) × Set m stretch.lines work.now × Follows m stretch.lines stretch.numbers.now i work.now along
+        × Joins m stretch.lines stretch.numbers.now along.to work.now last }
+    ensures { (m : Map) → Set m stretch.entry.lines work.now → Connected (mirror m) stretch.entry.numbers.now
+        → Follows m stretch.entry.lines stretch.entry.numbers.now i work.now along → Joins m stretch.entry.lines stretch.entry.numbers.now along.to work.now last
+        → WalledIf (mirror m) stretch.entry.numbers.now old → WalledIf (mirror m) stretch.entry.numbers.now result }
 {
     let to = along.to;
     let mut at = last;
     let mut class = field(work, last, FRC);
     let mut k = to - 1;
+    // A step goes back along the stretch or along the other way: no count of either.
     while i < k {
-        let own = wide(stretch[k]);
+        let own = wide(stretch.numbers[k]);
         if at == own {
             return Some(Wall { from: k, to, class });
         }
@@ -97,32 +97,31 @@ fn walk_back(
 // The wall where the way to the line at position `along.to` does not come from the stretch's own line before it, or `old` where none is found.
 pub fn find_wall(
     work: &[u32],
-    lines: usize,
-    stretch: &[u32],
+    stretch: LineList,
     i: usize,
     along: Along,
     old: Option<Wall>,
 ) -> Option<Wall>
-    requires known { Known lines stretch.now × (along.to < length stretch.now) }
-    requires set { (m : Map) × Set m lines work.now × Follows m lines stretch.now i work.now along }
-    ensures { (m : Map) → Set m lines work.now → Connected (mirror m) stretch.now
-        → Follows m lines stretch.now i work.now along
-        → WalledIf (mirror m) stretch.now old → WalledIf (mirror m) stretch.now result }
+    requires bounds { along.to < length stretch.numbers.now }
+    requires set { (m : Map) × Set m stretch.lines work.now × Follows m stretch.lines stretch.numbers.now i work.now along }
+    ensures { (m : Map) → Set m stretch.entry.lines work.now → Connected (mirror m) stretch.entry.numbers.now
+        → Follows m stretch.entry.lines stretch.entry.numbers.now i work.now along
+        → WalledIf (mirror m) stretch.entry.numbers.now old → WalledIf (mirror m) stretch.entry.numbers.now result }
 {
     let to = along.to;
-    let here = wide(stretch[to]);
+    let here = wide(stretch.numbers[to]);
     if along.limit < length_to(work, here) {
         return old;
     }
     let Some(last) = one_before(work, here) else {
         return old;
     };
-    let before = wide(stretch[to - 1]);
+    let before = wide(stretch.numbers[to - 1]);
     if last == before {
         return old;
     }
     if length_to(work, before) < length_to(work, last) {
         return old;
     }
-    walk_back(work, lines, stretch, i, along, last, old)
+    walk_back(work, stretch, i, along, last, old)
 }

@@ -16,7 +16,8 @@ use Rattle.model.proofs.Tests.{neither}
 use Rattle.model.proofs.Skipping.{Left, taken, no_pair, meet}
 use Rattle.stretches.specs.declared.stretch.Remaining.{Remaining}
 use Rattle.work_area.specs.Area.{Held}
-use Rattle.stretches.specs.Stretch.{Known, part_of, Leaves, Passes}
+use Rattle.stretches.specs.Known.{Known}
+use Rattle.stretches.specs.Stretch.{part_of, Leaves, Passes}
 use Rattle.stretches.proofs.Stretches.{known_all, known_drop}
 
 some_taken : (m : Map) (n : ℕ) (ls : List ℕ) → 0 < total m (take n ls) → 0 < n

@@ -14,7 +14,8 @@ use Rattle.model.specs.Lines.{line_at, total}
 use Rattle.model.specs.Stretch.{unknown, some_pair, apart, gap, skip, remaining, stretch_of}
 use Rattle.model.proofs.Tests.{neither}
 use Rattle.model.proofs.Skipping.{total_append}
-use Rattle.stretches.specs.Stretch.{Known, Skips}
+use Rattle.stretches.specs.Known.{Known}
+use Rattle.stretches.specs.Stretch.{Skips}
 
 -- One line more, and the end.
 pub drop_next : (ls : List ℕ) (i : ℕ) → i < length ls → drop i ls ≡ get_or ls i 0 ∷ drop (i + 1) ls

@@ -9,7 +9,7 @@ use Rattle.model.specs.Map.{Map, greatest_line_length, greatest_number}
 use Rattle.model.specs.Lines.{line_at, total}
 use Rattle.model.specs.Stretch.{greatest_stretch}
 use Rattle.work_area.specs.Area.{Held}
-use Rattle.stretches.specs.Stretch.{Known}
+use Rattle.stretches.specs.Known.{Known}
 use Rattle.stretches.proofs.Stretches.{total_none, total_on}
 
 module _ {m : Map} {lines : ℕ} {work : List ℕ} (held : Held work lines m) (ls : List ℕ) (known : Known lines ls) where

@@ -1,14 +1,10 @@
 -- What is said of a stretch as it is given, on a map that the work area holds (paper 01, "A stretch"; refusals 7 to 9).
-use Rattle.std.specs.Prelude.{ℕ, ◌-◌, ◌≤◌, ◌<◌, ◌≡◌, List, length, get_or, take, drop, Result, Ok, Err}
+use Rattle.std.specs.Prelude.{ℕ, ◌-◌, ◌≤◌, ◌<◌, ◌≡◌, List, length, take, drop, Result, Ok, Err}
 use Rattle.model.specs.declared.Refusal.{Refusal}
 use Rattle.model.specs.Refusal.{refusal_of}
 use Rattle.model.specs.Map.{Map}
 use Rattle.model.specs.Stretch.{Stretch, skip, remaining, remains, refused, check_stretch, stretch_of}
 use Rattle.stretches.specs.declared.stretch.Remaining.{Remaining}
-
--- Each of these is one of so many lines.
-abbrev pub Known : ℕ → List ℕ → Type 0
-Known lines ls = (i : ℕ) → i < length ls → get_or ls i 0 < lines
 
 -- An offset drops these lines down to `left`, and so much is left of it.
 abbrev pub Skips : Map → ℕ → List ℕ → List ℕ → ℕ → Type 0

@@ -3,9 +3,9 @@ ghost use Rattle.std.specs.Prelude.{◌≡◌, ◌≤◌, reverse, length, take,
 ghost use Rattle.model.specs.Map.{Map};
 ghost use Rattle.model.specs.Stretch.{unknown, gap, banned_pair, stretch_of};
 ghost use Rattle.work_area.specs.Area.{Held};
-ghost use Rattle.stretches.specs.Stretch.{Known, Skips, Leaves, Checks};
+ghost use Rattle.stretches.specs.Stretch.{Skips, Leaves, Checks};
 
-use crate::lines::{field_of, total_length};
+use crate::lines::LineList;
 use banned_turns::banned;
 use buffers::wide;
 use model::Refusal;
@@ -36,14 +36,13 @@ fn has_unknown(lines: usize, stretch: &[u32]) -> bool
 }
 
 // Whether a line does not end where the next starts.
-fn has_gap(work: &[u32], lines: usize, stretch: &[u32]) -> bool
-    requires known { Known lines stretch.now }
-    requires held { (m : Map) × Held work.now lines m }
-    ensures { (m : Map) → Held work.now lines m → result ≡ gap m stretch.now }
+fn has_gap(work: &[u32], stretch: LineList) -> bool
+    requires held { (m : Map) × Held work.now stretch.lines m }
+    ensures { (m : Map) → Held work.now stretch.entry.lines m → result ≡ gap m stretch.entry.numbers.now }
 {
-    for i in 1..stretch.len() {
-        let end = field_of(work, lines, stretch, i - 1, END);
-        let start = field_of(work, lines, stretch, i, START);
+    for i in 1..stretch.numbers.len() {
+        let end = stretch.field_of(work, i - 1, END);
+        let start = stretch.field_of(work, i, START);
         if end != start {
             return true;
         }
@@ -52,15 +51,14 @@ fn has_gap(work: &[u32], lines: usize, stretch: &[u32]) -> bool
 }
 
 // Whether a turn from a line into the next is banned.
-fn has_ban(work: &[u32], lines: usize, stretch: &[u32]) -> bool
-    requires known { Known lines stretch.now }
-    requires held { (m : Map) × Held work.now lines m }
-    ensures { (m : Map) → Held work.now lines m → result ≡ banned_pair m stretch.now }
+fn has_ban(work: &[u32], stretch: LineList) -> bool
+    requires held { (m : Map) × Held work.now stretch.lines m }
+    ensures { (m : Map) → Held work.now stretch.entry.lines m → result ≡ banned_pair m stretch.entry.numbers.now }
 {
-    for i in 1..stretch.len() {
-        let l = wide(stretch[i - 1]);
-        let k = wide(stretch[i]);
-        if banned(work, lines, l, k) {
+    for i in 1..stretch.numbers.len() {
+        let l = wide(stretch.numbers[i - 1]);
+        let k = wide(stretch.numbers[i]);
+        if banned(work, stretch.lines, l, k) {
             return true;
         }
     }
@@ -68,36 +66,34 @@ fn has_ban(work: &[u32], lines: usize, stretch: &[u32]) -> bool
 }
 
 // Drops lines from the front while the offset is not below the first one's length. The lines from `at` on are left.
-fn skip_front(work: &[u32], lines: usize, stretch: &[u32], offset: u32) -> Stop
-    requires known { Known lines stretch.now }
-    requires held { (m : Map) × Held work.now lines m }
-    ensures { (result.at ≤ length stretch.now) × ((m : Map) → Held work.now lines m
-        → Skips m offset stretch.now (drop result.at stretch.now) result.offset) }
+fn skip_front(work: &[u32], stretch: LineList, offset: u32) -> Stop
+    requires held { (m : Map) × Held work.now stretch.lines m }
+    ensures { (result.at ≤ length stretch.entry.numbers.now) × ((m : Map) → Held work.now stretch.entry.lines m
+        → Skips m offset stretch.entry.numbers.now (drop result.at stretch.entry.numbers.now) result.offset) }
 {
     let mut left = offset;
-    for at in 0..stretch.len() {
-        let length = field_of(work, lines, stretch, at, LENGTH);
+    for at in 0..stretch.numbers.len() {
+        let length = stretch.field_of(work, at, LENGTH);
         if left < length {
             return Stop { at, offset: left };
         }
         left -= length;
     }
     Stop {
-        at: stretch.len(),
+        at: stretch.numbers.len(),
         offset: left,
     }
 }
 
 // The same from the end. The first `at` lines are left.
-fn skip_back(work: &[u32], lines: usize, stretch: &[u32], offset: u32) -> Stop
-    requires known { Known lines stretch.now }
-    requires held { (m : Map) × Held work.now lines m }
-    ensures { (result.at ≤ length stretch.now) × ((m : Map) → Held work.now lines m
-        → Skips m offset (reverse stretch.now) (reverse (take result.at stretch.now)) result.offset) }
+fn skip_back(work: &[u32], stretch: LineList, offset: u32) -> Stop
+    requires held { (m : Map) × Held work.now stretch.lines m }
+    ensures { (result.at ≤ length stretch.entry.numbers.now) × ((m : Map) → Held work.now stretch.entry.lines m
+        → Skips m offset (reverse stretch.entry.numbers.now) (reverse (take result.at stretch.entry.numbers.now)) result.offset) }
 {
     let mut left = offset;
-    for last in (0..stretch.len()).rev() {
-        let length = field_of(work, lines, stretch, last, LENGTH);
+    for last in (0..stretch.numbers.len()).rev() {
+        let length = stretch.field_of(work, last, LENGTH);
         if left < length {
             return Stop {
                 at: last + 1,
@@ -113,14 +109,13 @@ fn skip_back(work: &[u32], lines: usize, stretch: &[u32], offset: u32) -> Stop
 }
 
 // What the two offsets leave of a stretch.
-fn after_offsets(work: &[u32], lines: usize, stretch: &[u32], pos: u32, neg: u32) -> Remaining
-    requires known { Known lines stretch.now }
-    requires held { (m : Map) × Held work.now lines m }
-    ensures { (m : Map) → Held work.now lines m → Leaves m (stretch_of stretch.now pos neg) result }
+fn after_offsets(work: &[u32], stretch: LineList, pos: u32, neg: u32) -> Remaining
+    requires held { (m : Map) × Held work.now stretch.lines m }
+    ensures { (m : Map) → Held work.now stretch.entry.lines m → Leaves m (stretch_of stretch.entry.numbers.now pos neg) result }
 {
-    let front = skip_front(work, lines, stretch, pos);
+    let front = skip_front(work, stretch, pos);
     let from = front.at;
-    let back = skip_back(work, lines, &stretch[from..], neg);
+    let back = skip_back(work, stretch.part(from, stretch.numbers.len()), neg);
     let to = from + back.at;
     Remaining {
         from,
@@ -150,14 +145,18 @@ pub fn check(
     if has_unknown(lines, stretch) {
         return Err(Refusal::StretchLines);
     }
-    if has_gap(work, lines, stretch) {
+    let list = LineList {
+        numbers: stretch,
+        lines,
+    };
+    if has_gap(work, list) {
         return Err(Refusal::StretchGap);
     }
-    if has_ban(work, lines, stretch) {
+    if has_ban(work, list) {
         return Err(Refusal::StretchBan);
     }
-    if total_length(work, lines, stretch) <= wide(pos) + wide(neg) {
+    if list.total_length(work) <= wide(pos) + wide(neg) {
         return Err(Refusal::StretchOffsets);
     }
-    Ok(after_offsets(work, lines, stretch, pos, neg))
+    Ok(after_offsets(work, list, pos, neg))
 }

@@ -132,14 +132,11 @@ fn write_reading(
     }
     let limit = longest_leg(leg.distance);
     search(work, lines, terminus_of(leg, reading), leg.lowest, limit);
-    match ways_from(work, lines, first, limit) {
-        Ways::Nothing => 0,
-        Ways::Several(_) => 0,
-        Ways::One(_, _, count) => {
-            write_lines(work, first, &mut out[..count]);
-            count
-        }
-    }
+    let Ways::One(_, _, count) = ways_from(work, lines, first, limit) else {
+        return 0;
+    };
+    write_lines(work, first, &mut out[..count]);
+    count
 }
 
 // Prints the verdict on a leg, and the lines of its reading where there is one.
@@ -183,7 +180,12 @@ fn run(rt: &impl Print, bytes: &[u8], work: &mut [u32])
         if given.start < given.end {
             map = given;
         }
-        show(rt, &bytes[map.start..map.end], &bytes[leg.start..leg.end], work);
+        show(
+            rt,
+            &bytes[map.start..map.end],
+            &bytes[leg.start..leg.end],
+            work,
+        );
         hand_over(rt, b"\n");
     }
 }

@@ -134,7 +134,7 @@ fn ask_finished(rt: &impl Print, m: Message, buffer: &[u8], n: u32) {
 fn ask_received(rt: &impl Print, message: &[u8], n: u32) {
     let mut row = [0; ROW];
     let part = place(message, n as usize);
-    let placed = put_number(b"from ", part.0 as u64, &mut row, 0);
+    let placed = put_number(b"from ", part.start as u64, &mut row, 0);
     let end = put(b" ", &mut row, placed);
     hand_over(rt, &row[..end]);
     show_part(rt, received(message, n as usize));

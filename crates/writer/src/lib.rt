@@ -19,6 +19,7 @@ use opening::open_map;
 use point_choice::choose;
 use point_choice::untested::hoped_legs;
 use reference_bytes::put;
+use stretches::lines::LineList;
 use stretches::stretch::check;
 use work_area::step::in_work_area;
 
@@ -37,22 +38,16 @@ struct Found {
 
 // Tests legs, and chooses points over those tested good: `cuts` gets 0 and then where each leg ends. There may be no choice of points even when untested
 // legs count as good, or none over legs tested good.
-fn find(
-    work: &mut [u32],
-    lines: usize,
-    part: &[u32],
-    tests: u32,
-    cuts: &mut [u32],
-) -> Result<Found, Refusal>
-    requires part_len_bound { (length part.now ≤ 64) × (length part.now < length cuts.old) }
-    requires set { (m : Map) × Set m lines work.old × Connected m part.now }
-    ensures { (m : Map) → Set m lines work.old → Connected m part.now
-        → Set m lines work.new × Finds m part.now (tests_made (length part.now) tests) cuts.new result }
+fn find(work: &mut [u32], part: LineList, tests: u32, cuts: &mut [u32]) -> Result<Found, Refusal>
+    requires part_len_bound { (length part.numbers.now ≤ 64) × (length part.numbers.now < length cuts.old) }
+    requires set { (m : Map) × Set m part.lines work.old × Connected m part.numbers.now }
+    ensures { (m : Map) → Set m part.entry.lines work.old → Connected m part.entry.numbers.now
+        → Set m part.entry.lines work.new × Finds m part.entry.numbers.now (tests_made (length part.entry.numbers.now) tests) cuts.new result }
 {
     let mut table = [0u8; LEG_TESTS];
-    let made = test_legs(work, lines, part, tests as usize, &mut table);
-    let chosen = choose(&table, part.len(), cuts);
-    let hoped = hoped_legs(&mut table, part.len(), made).ok_or(Refusal::NoChoice)?;
+    let made = test_legs(work, part, tests as usize, &mut table);
+    let chosen = choose(&table, part.numbers.len(), cuts);
+    let hoped = hoped_legs(&mut table, part.numbers.len(), made).ok_or(Refusal::NoChoice)?;
     let legs = chosen.ok_or(Refusal::Unfinished)?;
     let excess = (legs - hoped) as u32;
     Ok(Found {
@@ -65,24 +60,21 @@ fn find(
 // The answer for what remains of a stretch, with so many leg tests.
 pub fn on_part(
     work: &mut [u32],
-    lines: usize,
-    part: &[u32],
+    part: LineList,
     pos: u32,
     neg: u32,
     tests: u32,
     bytes: &mut [u8],
 ) -> WriteAnswer
-    requires part_len_bound { length part.now ≤ 64 }
-    requires set { (m : Map) × Set m lines work.old × Connected m part.now × Inside m (stretch_of part.now pos neg) }
-    ensures { (m : Map) → Set m lines work.old → Connected m part.now → Inside m (stretch_of part.now pos neg)
-        → WriteAnswered (WriteOn m (stretch_of part.now pos neg) (tests_made (length part.now) tests) (length bytes.old))
+    requires part_len_bound { length part.numbers.now ≤ 64 }
+    requires set { (m : Map) × Set m part.lines work.old × Connected m part.numbers.now × Inside m (stretch_of part.numbers.now pos neg) }
+    ensures { (m : Map) → Set m part.entry.lines work.old → Connected m part.entry.numbers.now → Inside m (stretch_of part.entry.numbers.now pos neg)
+        → WriteAnswered (WriteOn m (stretch_of part.entry.numbers.now pos neg) (tests_made (length part.entry.numbers.now) tests) (length bytes.old))
         bytes.old bytes.new result }
 {
     let mut cuts = [0; CUTS];
-    let found = find(work, lines, part, tests, &mut cuts)?;
-    let count = put(work, lines, part, &cuts, found.legs, pos, neg, bytes).ok_or(
-        Refusal::BytesShort,
-    )?;
+    let found = find(work, part, tests, &mut cuts)?;
+    let count = put(work, part, &cuts, found.legs, pos, neg, bytes).ok_or(Refusal::BytesShort)?;
     Ok(WrittenBytes {
         bytes: count,
         tests: found.tests,
@@ -106,15 +98,11 @@ fn on_map(
         bytes.old bytes.new result }
 {
     let left = check(work, lines, stretch, pos, neg)?;
-    on_part(
-        work,
+    let part = LineList {
+        numbers: &stretch[left.from..left.to],
         lines,
-        &stretch[left.from..left.to],
-        left.pos,
-        left.neg,
-        tests,
-        bytes,
-    )
+    };
+    on_part(work, part, left.pos, left.neg, tests, bytes)
 }
 
 // Writes a stretch of lines with its offsets, in centimetres, on a map, by `tests` leg tests at most. An answer that it is written has the count of bytes,

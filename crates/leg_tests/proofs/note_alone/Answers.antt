@@ -30,7 +30,7 @@ loop-i-preserved c =
         legs = λ k j h u. get_or-set_other l.table (65 * l.i) (65 * k + j) c.alone_mark.result 0 (λ e. omega arith) ∙ l.invariant.kept.legs k j h u;
         kept = kept_then l.invariant.kept.kept (kept_set (65 * l.i) c.alone_mark.result (omega arith) (omega arith));
       };
-      noted = λ m held lists. note_more (λ k x. Marks (Alone m a.lines a.stretch.now k) x) l.table l.i c.alone_mark.result (omega arith)
+      noted = λ m held lists. note_more (λ k x. Marks (Alone m a.stretch.lines a.stretch.numbers.now k) x) l.table l.i c.alone_mark.result (omega arith)
           (l.invariant.noted m held lists) (c.alone_mark.ensures m held lists);
     }
 

@@ -10,7 +10,7 @@ use Rattle.leg_tests.proofs.note_alone.Given as goal
 abbrev pub invariant-loop-i : goal.invariant-loop-i
 invariant-loop-i l =
     record {
-      kept : NotesKept (length l.stretch) l.initial.table l.table;
-      noted : (m : Map) → Held l.work l.lines m → Leaving m l.lines l.work → (k : ℕ) → k < l.i →
-          Marks (Alone m l.lines l.stretch k) (get_or l.table (65 * k) 0);
+      kept : NotesKept (length l.stretch.numbers.now) l.initial.table l.table;
+      noted : (m : Map) → Held l.work l.stretch.lines m → Leaving m l.stretch.lines l.work → (k : ℕ) → k < l.i →
+          Marks (Alone m l.stretch.lines l.stretch.numbers.now k) (get_or l.table (65 * k) 0);
     }

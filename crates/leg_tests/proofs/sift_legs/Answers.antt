@@ -1,6 +1,5 @@
 -- One column more.
 use Rattle.std.proofs.Common.{ℕ, ◌≤◌, List, length, sym, ◌∙◌, arith}
-use Rattle.leg_tests.proofs.Trials.{all_known}
 use Rattle.leg_tests.proofs.Walking.{columns_start, columns_sole, columns_on, columns_end, sifted_noted}
 use Rattle.model.specs.Map.{Map}
 use Rattle.leg_tests.specs.LegTests.{NotesKept, SoleLegs}
@@ -11,7 +10,7 @@ note_alone-requires c =
     let p = c.requires.stretch_len_bound in
     let q = c.requires.set in
     let listed = c.list_leaving.ensures q.0 q.1 in
-    record { known = (all_known q.1 q.2, p.0, p.1); held = (q.0, listed.worked.set.held, listed.leaving) }
+    record { bounds = (p.0, p.1); held = (q.0, listed.worked.set.held, listed.leaving) }
 
 -- The notes leave the legs' numbers as they were.
 module _ {m : Map} {s a b : List ℕ} (few : length s ≤ 64) (kept : NotesKept (length s) a b) where

@@ -8,5 +8,5 @@ use Rattle.leg_tests.proofs.sift_legs.Given as goal
 
 abbrev pub invariant-loop-j : goal.invariant-loop-j
 invariant-loop-j l =
-    (m : Map) → Set m l.lines l.initial.work → Connected m l.stretch → Noted m l.lines l.stretch l.initial.table → SoleLegs m l.stretch l.initial.table →
-    Columns m l.lines l.stretch l.initial.table l.table l.initial.work l.work l.j
+    (m : Map) → Set m l.stretch.lines l.initial.work → Connected m l.stretch.numbers.now → Noted m l.stretch.lines l.stretch.numbers.now l.initial.table → SoleLegs m l.stretch.numbers.now l.initial.table →
+    Columns m l.stretch.lines l.stretch.numbers.now l.initial.table l.table l.initial.work l.work l.j

@@ -1,7 +1,6 @@
 -- `test_last_column` meets its contract: after the own last line, those that end at the node are tested one after another.
 use Rattle.leg_tests.proofs.Walking.{Testing, testing_start, testing_on, testing_end, testing_sole, ends_there, column_again, column_after}
 use Rattle.leg_tests.proofs.Sifting.{noted_kept}
-use Rattle.leg_tests.proofs.Trials.{all_known}
 use Rattle.leg_tests.proofs.Termini.{own_line}
 use Rattle.leg_tests.specs.LegTests.{Own, Noted, SoleColumn, ColumnSifted}
 use Rattle.stretches.specs.Attributes.{attributes_by}
@@ -23,51 +22,53 @@ use Rattle.leg_tests.proofs.test_last_column.Statement.{statement}
 use Rattle.leg_tests.proofs.test_last_column.Tie as tie
 
 abbrev invariant-loop : tie.invariant-loop-at
-invariant-loop work₀ lines stretch table₀ j arrives v at₀ work table at =
+invariant-loop work₀ list table₀ j arrives v at₀ work table at =
+    let lines = list.lines in
+    let stretch = list.numbers.now in
     (length work ≡ length work₀) × (length table ≡ length table₀) ×
     ((m : Map) → Connected m stretch → ColumnSifted m lines stretch (length stretch) (line (get_or stretch (length stretch - 1) 0)) true table₀ table₀ work₀ work₀ →
     Noted m lines stretch table₀ → SoleColumn m stretch (length stretch) table₀ → Testing m lines stretch table₀ table work₀ work at)
 
 abbrev decreases-loop : tie.decreases-loop-at
-decreases-loop work₀ lines stretch table₀ j arrives v at₀ work table at = at
+decreases-loop work₀ list table₀ j arrives v at₀ work table at = at
 
 -- The own last line is the legs' own terminus, and they are tested by it.
-own : (c : tie.After-wide invariant-loop decreases-loop) → let a = c.args in let s = a.stretch.now in
-    (m : Map) → Set m a.lines a.work.now → Connected m s → Own m a.lines s (length s) (line c.wide.result)
+own : (c : tie.After-wide invariant-loop decreases-loop) → let a = c.args in let s = a.stretch.numbers.now in
+    (m : Map) → Set m a.stretch.lines a.work.now → Connected m s → Own m a.stretch.lines s (length s) (line c.wide.result)
 own c m set joint =
-    rw c.wide.ensures.0 (own_line set.held c.args.stretch.now (all_known set joint) c.requires.0.0)
+    rw c.wide.ensures.0 (own_line set.held c.args.stretch.numbers.now c.args.stretch.known c.requires.0.0)
 
 owned : (c : tie.After-test_column invariant-loop decreases-loop) →
     let a = c.args in
-    let s = a.stretch.now in
+    let s = a.stretch.numbers.now in
     let o = c.test_column in
-    (m : Map) → Set m a.lines a.work.now → Connected m s → Noted m a.lines s a.table.now → SoleColumn m s (length s) a.table.now →
-    ColumnSifted m a.lines s (length s) (line (get_or s (length s - 1) 0)) true a.table.now o.new.table a.work.now o.new.work
+    (m : Map) → Set m a.stretch.lines a.work.now → Connected m s → Noted m a.stretch.lines s a.table.now → SoleColumn m s (length s) a.table.now →
+    ColumnSifted m a.stretch.lines s (length s) (line (get_or s (length s - 1) 0)) true a.table.now o.new.table a.work.now o.new.work
 owned c m set joint noted sole =
     rw c.wide.ensures.0 at (c.test_column.ensures m set joint (own c.before.before.before m set joint) noted sole)
 
 same-attributes : (c : tie.After-attributes_of-arrives invariant-loop decreases-loop) →
     let a = c.args in
-    let s = a.stretch.now in
-    (m : Map) → Set m a.lines c.test_column.new.work → attributes_in c.attributes_of-arrives.result ≡ arriving m (get_or s (length s - 1) 0)
+    let s = a.stretch.numbers.now in
+    (m : Map) → Set m a.stretch.lines c.test_column.new.work → attributes_in c.attributes_of-arrives.result ≡ arriving m (get_or s (length s - 1) 0)
 unfolding attributes_by arriving
 same-attributes c m set = c.attributes_of-arrives.ensures m set.held
 
 -- What is known at the loop.
 module _ (c : tie.After-first_leaving-at invariant-loop decreases-loop) where
-  again : let a = c.args in let s = a.stretch.now in let o = c.test_column in
-      (m : Map) → Set m a.lines a.work.now → Connected m s → Noted m a.lines s a.table.now → SoleColumn m s (length s) a.table.now →
-      ColumnSifted m a.lines s (length s) (line (get_or s (length s - 1) 0)) true o.new.table o.new.table o.new.work o.new.work
+  again : let a = c.args in let s = a.stretch.numbers.now in let o = c.test_column in
+      (m : Map) → Set m a.stretch.lines a.work.now → Connected m s → Noted m a.stretch.lines s a.table.now → SoleColumn m s (length s) a.table.now →
+      ColumnSifted m a.stretch.lines s (length s) (line (get_or s (length s - 1) 0)) true o.new.table o.new.table o.new.work o.new.work
   again m set joint noted sole = column_again (owned c.before.before.before.before.before.before.before m set joint noted sole)
 
-  noted_now : let a = c.args in let s = a.stretch.now in let o = c.test_column in
-      (m : Map) → Set m a.lines a.work.now → Connected m s → Noted m a.lines s a.table.now → SoleColumn m s (length s) a.table.now →
-      Noted m a.lines s o.new.table
+  noted_now : let a = c.args in let s = a.stretch.numbers.now in let o = c.test_column in
+      (m : Map) → Set m a.stretch.lines a.work.now → Connected m s → Noted m a.stretch.lines s a.table.now → SoleColumn m s (length s) a.table.now →
+      Noted m a.stretch.lines s o.new.table
   noted_now m set joint noted sole =
-      noted_kept m c.args.lines c.args.stretch.now c.requires.0.0 (owned c.before.before.before.before.before.before.before m set joint noted sole).kept noted
+      noted_kept m c.args.stretch.lines c.args.stretch.numbers.now c.requires.0.0 (owned c.before.before.before.before.before.before.before m set joint noted sole).kept noted
 
-  sole_now : let a = c.args in let s = a.stretch.now in let o = c.test_column in
-      (m : Map) → Set m a.lines a.work.now → Connected m s → Noted m a.lines s a.table.now → SoleColumn m s (length s) a.table.now →
+  sole_now : let a = c.args in let s = a.stretch.numbers.now in let o = c.test_column in
+      (m : Map) → Set m a.stretch.lines a.work.now → Connected m s → Noted m a.stretch.lines s a.table.now → SoleColumn m s (length s) a.table.now →
       SoleColumn m s (length s) o.new.table
   sole_now m set joint noted sole i h one = sole i h (((owned c.before.before.before.before.before.before.before m set joint noted sole).sifted i h).still one)
 
@@ -96,7 +97,7 @@ attributes-of-requires : tie.Need-attributes_of-arrives-requires invariant-loop 
 attributes-of-requires c κs =
     let q = c.requires.1 in
     let set = (owned c.before.before.before.before q.0 q.1 q.2 q.3 q.4).worked.set in
-    ((all_known set q.2, omega (arith, c.requires.0.0), omega arith), (q.0, set.held))
+    ((omega (arith, c.requires.0.0), omega arith), (q.0, set.held))
 
 sub-node-of : tie.Need-overflow_sub-j-3 invariant-loop decreases-loop
 sub-node-of c = search rules
@@ -105,7 +106,7 @@ node-of-requires : tie.Need-node_of-v-requires invariant-loop decreases-loop
 node-of-requires c κs =
     let q = c.requires.1 in
     let set = (owned c.before.before.before.before.before q.0 q.1 q.2 q.3 q.4).worked.set in
-    ((all_known set q.2, omega (arith, c.requires.0.0), omega arith), (q.0, set.held))
+    ((omega (arith, c.requires.0.0), omega arith), (q.0, set.held))
 
 first-leaving-requires : tie.Need-first_leaving-at-requires invariant-loop decreases-loop
 first-leaving-requires c κs =
@@ -121,7 +122,7 @@ loop-holds c = (
       let set = o.worked.set in
       let v = c.node_of-v.ensures m set.held in
       testing_start joint c.first_leaving-at.result
-      (c.first_leaving-at.ensures (mirror m) (mirrored set.held) set.chained v.1 ∙ ap (λ (x : ℕ). latest (mirror m) x c.args.lines) v.0) o,
+      (c.first_leaving-at.ensures (mirror m) (mirrored set.held) set.chained v.1 ∙ ap (λ (x : ℕ). latest (mirror m) x c.args.stretch.lines) v.0) o,
 )
 
 -- The legs after the test of the next last line.
@@ -129,12 +130,12 @@ column : (c : tie.After-test_candidate invariant-loop decreases-loop) →
     let at-loop = c.before.before.before.before in
     let at-first-leaving = at-loop.before in
     let a = c.args in
-    let s = a.stretch.now in
+    let s = a.stretch.numbers.now in
     let l = c.loop-at in
     let b = c.test_column.new.table in
     let v = c.test_column.new.work in
-    (m : Map) → Connected m s → ColumnSifted m a.lines s (length s) (line (get_or s (length s - 1) 0)) true b b v v → Noted m a.lines s b → SoleColumn m s (length s) b →
-    ColumnSifted m a.lines s (length s) (line (l.at - 1)) false l.table c.test_candidate.new.table l.work c.test_candidate.new.work
+    (m : Map) → Connected m s → ColumnSifted m a.stretch.lines s (length s) (line (get_or s (length s - 1) 0)) true b b v v → Noted m a.stretch.lines s b → SoleColumn m s (length s) b →
+    ColumnSifted m a.stretch.lines s (length s) (line (l.at - 1)) false l.table c.test_candidate.new.table l.work c.test_candidate.new.work
 column c m joint o noted sole =
     let at-loop-test = c.before.before.before in
     let at-loop = at-loop-test.before in
@@ -143,7 +144,7 @@ column c m joint o noted sole =
     let k = l.invariant.2 m joint o noted sole in
     c.test_candidate.ensures m k.worked.set joint (ends_there m (l.at - 1) (k.list.joined c.loop-at-test.true))
     (same-attributes c.before.before.before.before.before.before.before m o.worked.set)
-    (noted_kept m c.args.lines c.args.stretch.now c.requires.0.0 k.kept noted) k.owned (testing_sole joint sole k)
+    (noted_kept m c.args.stretch.lines c.args.stretch.numbers.now c.requires.0.0 k.kept noted) k.owned (testing_sole joint sole k)
 
 sub-test-candidate : tie.Need-overflow_sub-at invariant-loop decreases-loop
 sub-test-candidate c = search rules
@@ -166,7 +167,7 @@ test-candidate-requires c κs =
         q.2,
         ends_there m (l.at - 1) (k.list.joined some),
         same-attributes c.before.before.before.before.before.before m o.worked.set,
-        noted_kept m c.args.lines c.args.stretch.now p.0.0 k.kept noted,
+        noted_kept m c.args.stretch.lines c.args.stretch.numbers.now p.0.0 k.kept noted,
         k.owned,
         testing_sole q.2 sole k,
       ),

@@ -7,9 +7,6 @@ use Rattle.measured.proofs.measured_search.Goals as goal
 pub returns-then-work-lt-WORK_LENGTH : goal.returns-then-work-lt-WORK_LENGTH
 returns-then-work-lt-WORK_LENGTH c = short _ _ c.if-work-lt-WORK_LENGTH.true
 
-pub search_again-requires : goal.search_again-requires
-search_again-requires c = let w = c.in-Ok.ensures.answers in (w.map, w.set)
-
 pub returns-in-Ok : goal.returns-in-Ok
 unfolding refused_by
 returns-in-Ok c = full _ _ c.if-work-lt-WORK_LENGTH.false c.in-Ok.ensures.answers.decodes

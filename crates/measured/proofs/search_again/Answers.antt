@@ -5,9 +5,6 @@ use Rattle.work_area.proofs.Holding.{held_kept}
 use Rattle.search_cells.proofs.Holding.{mirrored}
 use Rattle.measured.proofs.search_again.Goals as goal
 
-pub loop-init : goal.loop-init
-loop-init c = c.requires
-
 pub search-requires : goal.search-requires
 search-requires c =
     let v = c.loop.invariant in (

@@ -33,5 +33,5 @@ returns-in_err-found c m set count =
 pub returns : goal.returns
 unfolding point_along_at
 returns c m set count =
-    rw (c.marks_in-marks.ensures.0, c.marks_in-marks.ensures.1)
-    (found_by_line m _ _ _ _ _ _ _ (shaped _ _ c.requires.bytes_value).0 refl c.put_line.ensures (c.in_ok-found.ensures m set count))
+    found_by_line m _ _ _ _ _ _ _ (shaped _ _ c.requires.bytes_value).0 refl c.put_line.ensures c.marks_in-marks.ensures.0 c.marks_in-marks.ensures.1
+    (c.in_ok-found.ensures m set count)

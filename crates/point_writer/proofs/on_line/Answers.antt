@@ -5,8 +5,13 @@ use Rattle.std.proofs.Math.Seq.{length-take-le}
 use Rattle.model.specs.PointAlong.{point_given}
 use Rattle.point_bytes.specs.PointForm.{with_marks}
 use Rattle.model.proofs.PointWriting.{taken}
-use Rattle.point_writer.proofs.Writing.{own_connected, own_inside, own_written, own_refused, unmarked, marked_first, point_put}
+use Rattle.point_writer.proofs.Writing.{own_connected, own_known, own_inside, own_written, own_refused, unmarked, marked_first, point_put}
 use Rattle.point_writer.proofs.on_line.Goals as goal
+
+pub invariant_of-alone : goal.invariant_of-alone
+invariant_of-alone c =
+    let (_, set, passed) = c.requires in
+    record { known = own_known (taken _ _ passed) set.held }
 
 pub on_part-requires-clause-set : goal.on_part-requires-clause-set
 on_part-requires-clause-set c =

@@ -11,5 +11,5 @@ use Rattle.reference_bytes.proofs.put_points.Given as goal
 
 abbrev pub invariant-loop-t : goal.invariant-loop-t
 invariant-loop-t l =
-    (m : Map) → (cs : List ℕ) → Held l.work l.lines m → CutInto m l.stretch l.cuts l.legs cs →
-    l.bytes ≡ put_at 7 (point_bytes (points_of m (cut_legs l.stretch 0 (take l.t cs))) []) l.fn.bytes
+    (m : Map) → (cs : List ℕ) → Held l.work l.stretch.lines m → CutInto m l.stretch.numbers.now l.cuts l.legs cs →
+    l.bytes ≡ put_at 7 (point_bytes (points_of m (cut_legs l.stretch.numbers.now 0 (take l.t cs))) []) l.fn.bytes

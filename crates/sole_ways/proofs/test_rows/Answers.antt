@@ -7,14 +7,14 @@ use Rattle.sole_ways.proofs.test_rows.Goals as goal
 pub loop-i-init : goal.loop-i-init
 loop-i-init c =
     record {
-      left_over = omega (arith, legs_none (length c.args.stretch.now));
-      ordered = λ m set joint arriving. (ordered_start c.requires.stretch_len_bound.3 set, tt);
+      left_over = omega (arith, legs_none (length c.args.stretch.numbers.now));
+      ordered = λ m set joint arriving. (ordered_start c.requires.stretch_len_bound.2 set, tt);
     }
 
 pub returns-then-left-eq0 : goal.returns-then-left-eq0
 returns-then-left-eq0 c =
     let l = c.loop-i in
-    let n = length c.args.stretch.now in
+    let n = length c.args.stretch.numbers.now in
     let none : c.args.tests - legs_before n l.i ≡ 0 = omega arith in
     let made = made_early n c.args.tests l.i (omega arith) none in
     record { value = made; rows_tested = λ m set joint arriving. ordered_end made (λ h. omega (arith, none)) (l.invariant.ordered m set joint arriving).0 }
@@ -26,7 +26,7 @@ test_row-row-requires c =
     let l = c.loop-i in
     let k = (l.invariant.ordered q.0 q.1 q.2 q.3).0 in
     record {
-      i_lt_end = (omega arith, omega arith, p.0, omega arith, p.2);
+      i_lt_end = (omega arith, omega arith, p.0, omega arith);
       set = (q.0, k.worked.set, q.2, q.3, row_before (omega arith) k);
     }
 
@@ -34,7 +34,7 @@ pub loop-i-preserved : goal.loop-i-preserved
 loop-i-preserved c =
     let l = c.loop-i in
     let r = c.test_row-row in
-    let n = length c.args.stretch.now in
+    let n = length c.args.stretch.numbers.now in
     let end = l.i + c.min.result in
     let e : end ≡ min n (l.i + l.left) = omega arith in
     record {
@@ -48,7 +48,7 @@ loop-i-preserved c =
 pub returns : goal.returns
 returns c =
     let l = c.loop-i in
-    let n = length c.args.stretch.now in
+    let n = length c.args.stretch.numbers.now in
     let all : l.i ≡ n = omega arith in
     let made = made_all n c.args.tests l.left (l.invariant.left_over ∙ ap (λ (k : ℕ). c.args.tests - legs_before n k) all) in
     record {

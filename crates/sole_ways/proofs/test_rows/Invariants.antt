@@ -12,7 +12,7 @@ use Rattle.sole_ways.proofs.test_rows.Given as goal
 abbrev pub invariant-loop-i : goal.invariant-loop-i
 invariant-loop-i l =
     record {
-      left_over : l.left ≡ l.tests - legs_before (length l.stretch) l.i;
-      ordered : (m : Map) → Set m l.lines l.initial.work → Connected (mirror m) l.stretch → Arriving m l.lines l.stretch l.arrivals →
-          Ordered m l.lines l.stretch l.tests l.initial.table l.table l.initial.work l.work l.i × WalledIf (mirror m) l.stretch l.row.wall;
+      left_over : l.left ≡ l.tests - legs_before (length l.stretch.numbers.now) l.i;
+      ordered : (m : Map) → Set m l.stretch.lines l.initial.work → Connected (mirror m) l.stretch.numbers.now → Arriving m l.stretch.lines l.stretch.numbers.now l.arrivals →
+          Ordered m l.stretch.lines l.stretch.numbers.now l.tests l.initial.table l.table l.initial.work l.work l.i × WalledIf (mirror m) l.stretch.numbers.now l.row.wall;
     }

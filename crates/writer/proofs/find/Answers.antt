@@ -14,7 +14,7 @@ test_legs-made-requires-clause-stretch_len_bound c = (c.requires.part_len_bound.
 
 pub returns-in_err-hoped : goal.returns-in_err-hoped
 returns-in_err-hoped c m set joint =
-    let part = c.args.part.now in
+    let part = c.args.part.numbers.now in
     let t = c.test_legs-made in
     let all = t.ensures.all_tested m set joint in
     let none = rw c.in_err-hoped.ensures.ok_part at c.hoped_legs.ensures.fewest in
@@ -31,7 +31,7 @@ returns-in_err-hoped c m set joint =
 
 pub returns-in_err-legs : goal.returns-in_err-legs
 returns-in_err-legs c m set joint =
-    let part = c.args.part.now in
+    let part = c.args.part.numbers.now in
     let t = c.test_legs-made in
     let all = t.ensures.all_tested m set joint in
     let hoped = rw c.in_ok-hoped.ensures.ok_part at c.hoped_legs.ensures.fewest in
@@ -50,7 +50,7 @@ overflow_sub-excess c =
     let t = c.test_legs-made in
     let hoped = rw c.in_ok-hoped.ensures.ok_part at c.hoped_legs.ensures.fewest in
     let legs = rw c.in_ok-legs.ensures.ok_part at c.choose-chosen.ensures in
-    fewer m c.args.part.now t.result t.new.table joint c.requires.part_len_bound.0 (t.ensures.all_tested m set joint).tested hoped c.args.cuts.now legs
+    fewer m c.args.part.numbers.now t.result t.new.table joint c.requires.part_len_bound.0 (t.ensures.all_tested m set joint).tested hoped c.args.cuts.now legs
 
 pub overflow_cast-excess : goal.overflow_cast-excess
 overflow_cast-excess c =
@@ -59,11 +59,11 @@ overflow_cast-excess c =
 
 pub overflow_cast-result : goal.overflow_cast-result
 overflow_cast-result c =
-    omega (arith, c.test_legs-made.ensures.value, few_tests (length c.args.part.now) c.args.tests c.requires.part_len_bound.0)
+    omega (arith, c.test_legs-made.ensures.value, few_tests (length c.args.part.numbers.now) c.args.tests c.requires.part_len_bound.0)
 
 pub returns : goal.returns
 returns c m set joint =
-    let part = c.args.part.now in
+    let part = c.args.part.numbers.now in
     let t = c.test_legs-made in
     let all = t.ensures.all_tested m set joint in
     let hoped = rw c.in_ok-hoped.ensures.ok_part at c.hoped_legs.ensures.fewest in

@@ -3,6 +3,7 @@ use Rattle.std.proofs.lemmas.Result.{err_from_is_err_and}
 use Rattle.model.proofs.Answering.{answered_by}
 use Rattle.stretches.proofs.Checks.{left_of, left_connected}
 use Rattle.model.specs.Stretch.{stretch_of}
+use Rattle.leg_tests.proofs.Trials.{all_known}
 use Rattle.writer.proofs.Writing.{left_inside}
 use Rattle.writer.proofs.Answers.{stretch_refused}
 use Rattle.writer.proofs.on_map.Goals as goal
@@ -12,6 +13,11 @@ returns-in_err-left c m set =
     let a = c.args in
     let p = err_from_is_err_and c.from_residual.result c.from_residual.ensures.1 in
     rw (p.1, p.2) (stretch_refused m (stretch_of a.stretch.now a.pos a.neg) _ _ _ (c.in_err-left.ensures m set.held))
+
+pub invariant_of-part : goal.invariant_of-part
+invariant_of-part c =
+    let (m, set) = c.requires in
+    record { known = all_known set (left_connected (c.in_ok-left.ensures m set.held)) }
 
 pub on_part-requires-clause-part_len_bound : goal.on_part-requires-clause-part_len_bound
 on_part-requires-clause-part_len_bound c =

@@ -10,7 +10,7 @@ use Rattle.leg_tests.proofs.alone.alone_mark.Given as goal
 
 abbrev pub invariant-loop-at : goal.invariant-loop-at
 invariant-loop-at l =
-    (m : Map) → Held l.work l.lines m → Leaving m l.lines l.work → Along m l.lines l.v l.own (λ x. leaving m x ≡ attributes_in l.leaves) l.at
+    (m : Map) → Held l.work l.stretch.lines m → Leaving m l.stretch.lines l.work → Along m l.stretch.lines l.v l.own (λ x. leaving m x ≡ attributes_in l.leaves) l.at
 
 abbrev pub decreases-loop-at : goal.decreases-loop-at
 decreases-loop-at l = l.at

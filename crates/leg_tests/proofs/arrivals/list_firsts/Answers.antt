@@ -23,7 +23,7 @@ overflow_cast-arrivals c =
     omega (
       arith,
       c.first_leaving.ensures (mirror p.0) (mirrored p.1.held) p.1.chained v.1,
-      latest_le (mirror p.0) c.node_of-v.result c.args.lines,
+      latest_le (mirror p.0) c.node_of-v.result c.args.stretch.lines,
       f.few_lines,
       p.1.held.line_count,
     )
@@ -33,9 +33,9 @@ loop-j-preserved c m set =
     let l = c.loop-j in
     let v = c.node_of-v.ensures m set.held in
     firsts_more l.j c.first_leaving.result (omega arith)
-    (c.first_leaving.ensures (mirror m) (mirrored set.held) set.chained v.1 ∙ ap (λ (x : ℕ). latest (mirror m) x c.args.lines) v.0) (l.invariant m set)
+    (c.first_leaving.ensures (mirror m) (mirrored set.held) set.chained v.1 ∙ ap (λ (x : ℕ). latest (mirror m) x c.args.stretch.lines) v.0) (l.invariant m set)
 
 pub returns : goal.returns
 returns c m set =
-    let e : c.loop-j.j ≡ length c.args.stretch.now = omega arith in
+    let e : c.loop-j.j ≡ length c.args.stretch.numbers.now = omega arith in
     rw e at (c.loop-j.invariant m set)

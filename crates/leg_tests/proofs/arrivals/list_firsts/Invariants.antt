@@ -5,4 +5,4 @@ use Rattle.leg_tests.specs.Arrivals.{Firsts}
 use Rattle.leg_tests.proofs.arrivals.list_firsts.Given as goal
 
 abbrev pub invariant-loop-j : goal.invariant-loop-j
-invariant-loop-j l = (m : Map) → Set m l.lines l.work → Firsts m l.lines l.stretch l.j l.initial.arrivals l.arrivals
+invariant-loop-j l = (m : Map) → Set m l.stretch.lines l.work → Firsts m l.stretch.lines l.stretch.numbers.now l.j l.initial.arrivals l.arrivals

@@ -11,5 +11,5 @@ pub returns-then-alone : goal.returns-then-alone
 returns-then-alone c e m set t sole alone own done =
     let a = c.args in
     let fit = rw c.if-not-leg_fits.false at (c.leg_fits.ensures m set.held) in
-    let lone = subst (Decides (Alone m a.lines a.stretch.now a.i)) c.if-alone.true alone in
+    let lone = subst (Decides (Alone m a.stretch.lines a.stretch.numbers.now a.i)) c.if-alone.true alone in
     record { sifted = stays_so (alone_read t own sole set.held.line_count lone fit); done = done; worked = worked_none set }

@@ -4,7 +4,6 @@ use Rattle.sole_ways.proofs.Working.{worked_none}
 use Rattle.leg_tests.proofs.Opening.{not_alike, not_again}
 use Rattle.leg_tests.proofs.Sifting.{column_none}
 use Rattle.leg_tests.proofs.Termini.{serves_line}
-use Rattle.leg_tests.proofs.Trials.{all_known}
 use Rattle.leg_tests.proofs.columns.test_candidate.Goals as goal
 
 pub returns-then-last-wide : goal.returns-then-last-wide
@@ -16,7 +15,7 @@ pub returns-then-not-arrives_as : goal.returns-then-not-arrives_as
 returns-then-not-arrives_as c m set joint ends e noted owned sole =
     let differs = rw c.if-not-arrives_as.true at (c.arrives_as.ensures m set.held) in
     record {
-      sifted = λ i h. not_alike c.args.stretch.now joint h (omega arith) refl (λ same. differs (same ∙ sym e));
+      sifted = λ i h. not_alike c.args.stretch.numbers.now joint h (omega arith) refl (λ same. differs (same ∙ sym e));
       kept = column_none;
       worked = worked_none set;
     }
@@ -30,7 +29,7 @@ test_column-requires-clause-set c =
       q.1,
       q.2,
       record {
-        serves = serves_line q.1.held c.args.stretch.now (all_known q.1 q.2) p.3 q.3 (alike ∙ q.4);
+        serves = serves_line q.1.held c.args.stretch.numbers.now c.args.stretch.known p.3 q.3 (alike ∙ q.4);
         differs = λ same. c.if-last-wide.false (sym same ∙ sym c.wide.ensures.0);
       },
       q.5,
@@ -42,7 +41,7 @@ returns c m set joint ends e noted owned sole =
     let alike = rw c.if-not-arrives_as.false at (c.arrives_as.ensures m set.held) in
     c.test_column.ensures m set joint
     (record {
-      serves = serves_line set.held c.args.stretch.now (all_known set joint) c.requires.stretch_nonzero.3 ends (alike ∙ e);
+      serves = serves_line set.held c.args.stretch.numbers.now c.args.stretch.known c.requires.stretch_nonzero.3 ends (alike ∙ e);
       differs = λ same. c.if-last-wide.false (sym same ∙ sym c.wide.ensures.0);
     })
     noted sole

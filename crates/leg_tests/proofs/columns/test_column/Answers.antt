@@ -19,7 +19,7 @@ test_cell-cell-requires c =
       k.worked.set,
       leg_of_lem q.1 q.2 p.2 before p.1,
       λ one. q.5 (l.i - 1) before (sym (l.invariant.earlier (l.i - 1) (omega arith)) ∙ one),
-      noted_kept q.0 a.lines a.stretch.now p.0 l.invariant.kept q.4 (l.i - 1) (omega arith),
+      noted_kept q.0 a.stretch.lines a.stretch.numbers.now p.0 l.invariant.kept q.4 (l.i - 1) (omega arith),
       q.3,
       k.done,
     )
@@ -39,7 +39,7 @@ loop-i-preserved c =
           let k = l.invariant.sifting m set joint there noted sole in
           sifting_on c.test_cell-cell.result k (omega arith) room same
           (c.test_cell-cell.ensures m k.worked.set (leg_of_lem set joint p.2 before p.1) (λ one. sole (l.i - 1) before (sym same ∙ one))
-          (noted_kept m a.lines a.stretch.now p.0 l.invariant.kept noted (l.i - 1) (omega arith)) there k.done);
+          (noted_kept m a.stretch.lines a.stretch.numbers.now p.0 l.invariant.kept noted (l.i - 1) (omega arith)) there k.done);
     }
 
 pub returns : goal.returns

@@ -13,7 +13,7 @@ invariant-loop-i l =
     record {
       kept : ColumnKept l.j l.initial.table l.table;
       earlier : (k : ℕ) → k < l.i → mark l.table k l.j ≡ mark l.initial.table k l.j;
-      sifting : (m : Map) → Set m l.lines l.initial.work → Connected m l.stretch → EndsThere m l.lines l.stretch l.j l.to l.own →
-          Noted m l.lines l.stretch l.initial.table → SoleColumn m l.stretch l.j l.initial.table →
-          Sifting m l.lines l.stretch l.j l.to l.own l.initial.table l.table l.initial.work l.work l.last l.i;
+      sifting : (m : Map) → Set m l.stretch.lines l.initial.work → Connected m l.stretch.numbers.now → EndsThere m l.stretch.lines l.stretch.numbers.now l.j l.to l.own →
+          Noted m l.stretch.lines l.stretch.numbers.now l.initial.table → SoleColumn m l.stretch.numbers.now l.j l.initial.table →
+          Sifting m l.stretch.lines l.stretch.numbers.now l.j l.to l.own l.initial.table l.table l.initial.work l.work l.last l.i;
     }

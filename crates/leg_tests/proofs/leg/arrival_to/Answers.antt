@@ -11,10 +11,10 @@ use Rattle.leg_tests.proofs.leg.arrival_to.Goals as goal
 
 pub returns-then-j-stretch : goal.returns-then-j-stretch
 unfolding arrival_in
-returns-then-j-stretch c m h = rw (ne_eqb c.args.j (length c.args.stretch.now) (λ e. omega (arith, c.if-j-stretch.true)))
+returns-then-j-stretch c m h = rw (ne_eqb c.args.j (length c.args.stretch.numbers.now) (λ e. omega (arith, c.if-j-stretch.true)))
 
 pub returns : goal.returns
 unfolding arrival_in attributes_by arriving
 returns c m h =
-    rw (eq-eqb c.args.j (length c.args.stretch.now) (omega (arith, c.if-j-stretch.false, c.requires.known.2)))
+    rw (eq-eqb c.args.j (length c.args.stretch.numbers.now) (omega (arith, c.if-j-stretch.false, c.requires.bounds.1)))
     (ap matching (c.attributes_of.ensures m h))

@@ -11,10 +11,10 @@ use Rattle.leg_tests.proofs.leg.leg_fits.Goals as goal
 pub returns : goal.returns
 returns c m held =
     let a = c.args in
-    let p = c.requires.known in
+    let p = c.requires.bounds in
     let from = c.node_of-from.ensures m held in
     let to = c.node_of-to.ensures m held in
-    let s = a.stretch.now in
-    subst (λ (x : ℕ). Decides (DifferencesFit (node_at m x) (node_at m (to_node m (slice a.i a.j s)))) c.fits.result) (from.0 ∙ from_of_slice s a.i a.j p.1 p.2 m)
+    let s = a.stretch.numbers.now in
+    subst (λ (x : ℕ). Decides (DifferencesFit (node_at m x) (node_at m (to_node m (slice a.i a.j s)))) c.fits.result) (from.0 ∙ from_of_slice s a.i a.j p.0 p.1 m)
     (subst (λ (x : ℕ). Decides (DifferencesFit (node_at m c.node_of-from.result) (node_at m x)) c.fits.result)
-    (to.0 ∙ to_of_slice s a.i a.j p.1 p.2 m) (c.fits.ensures m held from.1 to.1))
+    (to.0 ∙ to_of_slice s a.i a.j p.0 p.1 m) (c.fits.ensures m held from.1 to.1))

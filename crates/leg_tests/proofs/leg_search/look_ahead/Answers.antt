@@ -10,5 +10,5 @@ overflow_add-far c =
     omega (
       arith,
       c.field_of-far.ensures p.0 p.1,
-      no_overflow c.args.stretch.now (l.k - 1) l.far p.1 c.requires.known.0 (omega arith) (omega arith),
+      no_overflow c.args.stretch.numbers.now (l.k - 1) l.far p.1 c.args.stretch.known (omega arith) (omega arith),
     )

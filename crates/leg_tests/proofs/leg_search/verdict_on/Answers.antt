@@ -19,7 +19,7 @@ returns-then-alone c m to set t alone serves up =
     let e = c.leg_of-leg.ensures m set.held t.measured in
     let says = c.from_line.ensures m to (ready t set serves up leg e) in
     says_alone t set.held.line_count (rw c.if-alone.true at alone)
-    (subst (λ (f : ℕ). Says m (ReadingFrom m (leg_from m a.stretch.now a.i a.j) f to) (StandsIn a.work.now) c.from_line.result) c.wide.ensures.0
+    (subst (λ (f : ℕ). Says m (ReadingFrom m (leg_from m a.stretch.numbers.now a.i a.j) f to) (StandsIn a.work.now) c.from_line.result) c.wide.ensures.0
     (subst (λ (l : Leg). Says m (ReadingFrom m l c.wide.result to) (StandsIn a.work.now) c.from_line.result) e says))
 
 pub from_lines-requires : goal.from_lines-requires

@@ -26,5 +26,5 @@ returns c m set t =
     let first< = t.known a.part.from (omega (arith, t.measured.inside)) in
     let found = c.search.ensures (mirror m) (mirrored set.held) set.chained (omega (arith, c.wide.ensures.0, first<)) in
     searched_for t set
-    (subst (λ (x : ℕ). Finished (mirror m) a.lines far.result.class (line x) c.min-limit.result a.work.now c.search.new.work) c.wide.ensures.0 found)
+    (subst (λ (x : ℕ). Finished (mirror m) a.stretch.lines far.result.class (line x) c.min-limit.result a.work.now c.search.new.work) c.wide.ensures.0 found)
     far.ensures.0 (omega (arith, far.ensures.1, t.within)) far.ensures.2

@@ -12,6 +12,6 @@ use Rattle.sole_ways.proofs.along.advance.Given as goal
 
 abbrev pub invariant-loop-at : goal.invariant-loop-at
 invariant-loop-at l =
-    (m : Map) (b : Along) → Set m l.lines l.work → Connected (mirror m) l.stretch → Follows m l.lines l.stretch l.from l.work b → b.to ≡ l.initial.at →
-    total (mirror m) (slice l.from l.to l.stretch) ≤ b.limit → lowest (mirror m) (slice l.from l.to l.stretch) ≤ b.class →
-    Going m l.lines l.stretch l.from l.to l.work b l.at
+    (m : Map) (b : Along) → Set m l.stretch.lines l.work → Connected (mirror m) l.stretch.numbers.now → Follows m l.stretch.lines l.stretch.numbers.now l.from l.work b → b.to ≡ l.initial.at →
+    total (mirror m) (slice l.from l.to l.stretch.numbers.now) ≤ b.limit → lowest (mirror m) (slice l.from l.to l.stretch.numbers.now) ≤ b.class →
+    Going m l.stretch.lines l.stretch.numbers.now l.from l.to l.work b l.at

@@ -12,18 +12,17 @@ loop-at-init c m set arriving =
     let p = c.requires.to_nonzero in
     passed_start
     (c.wide-at.ensures.0 ∙ arriving.firsts c.args.to p.0 p.1
-    ∙ ap (λ (l : ℕ). latest m (line_at (mirror m) l).end c.args.lines) (sym c.wide-own.ensures.0))
+    ∙ ap (λ (l : ℕ). latest m (line_at (mirror m) l).end c.args.stretch.lines) (sym c.wide-own.ensures.0))
 
 pub is_rival-requires : goal.is_rival-requires
 is_rival-requires c =
-    let p = c.requires.to_nonzero in
     let q = c.requires.set in
     let k = c.loop-at.invariant q.0 q.1 q.2 in
-    (omega (arith, k.list.within), omega (arith, p.3 (c.args.to - 1) (omega arith)), (q.0, q.1))
+    (omega (arith, k.list.within), omega (arith, c.args.stretch.known (c.args.to - 1) (omega arith)), (q.0, q.1))
 
 pub returns-then-is_rival : goal.returns-then-is_rival
 returns-then-is_rival c m set arriving =
-    subst (λ (l : ℕ). Rival m c.args.lines l c.args.work.now) c.wide-own.ensures.0
+    subst (λ (l : ℕ). Rival m c.args.stretch.lines l c.args.work.now) c.wide-own.ensures.0
     (passed_found (c.loop-at.invariant m set arriving) c.loop-at-test.true (rw c.if-is_rival.true at c.is_rival.ensures))
 
 pub bounds-arrivals-at : goal.bounds-arrivals-at
@@ -48,4 +47,4 @@ loop-at-preserved c m set arriving =
 pub returns : goal.returns
 returns c m set arriving r =
     passed_end (c.loop-at.invariant m set arriving) (omega arith)
-    (subst (λ (l : ℕ). Rival m c.args.lines l c.args.work.now) (sym c.wide-own.ensures.0) r)
+    (subst (λ (l : ℕ). Rival m c.args.stretch.lines l c.args.work.now) (sym c.wide-own.ensures.0) r)

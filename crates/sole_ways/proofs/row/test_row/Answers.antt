@@ -15,7 +15,7 @@ loop-part-init c =
       room = omega arith;
       short = omega arith;
       row = λ m set joint arriving before.
-          in_row_start c.args.stretch.now (omega arith) (row_start (mirror m) c.args.stretch.now c.args.i c.args.end c.clear_row.ensures) set;
+          in_row_start c.args.stretch.numbers.now (omega arith) (row_start (mirror m) c.args.stretch.numbers.now c.args.i c.args.end c.clear_row.ensures) set;
     })
 
 pub one_more-part-requires-clause-held : goal.one_more-part-requires-clause-held
@@ -64,7 +64,7 @@ test_sole-test-requires-clause-set c =
     let next = one.measures q.0 k.worked.set.held k.measured in (
       q.0,
       k.worked.set,
-      on_trial q.2 p.1 l.first l.after less one.one_more k next p.4 (omega arith),
+      on_trial q.2 p.1 l.first l.after less one.one_more k next c.args.stretch.known (omega arith),
       q.3,
       start_next q.2 p.1 l.first l.after less one.one_more k next,
       follows_next q.2 p.1 l.first l.after less one.one_more k next,
@@ -85,7 +85,7 @@ loop-part-preserved-then-test c =
       row = λ m set joint arriving before.
           let k = l.row m set joint arriving before in
           let next = one.measures m k.worked.set.held k.measured in
-          let tested = tested_next joint p.1 l.first l.after less one.one_more k next p.4 short arriving (c.test_sole-test.ensures m) in
+          let tested = tested_next joint p.1 l.first l.after less one.one_more k next c.args.stretch.known short arriving (c.test_sole-test.ensures m) in
           in_row_yes joint p.1 l.first l.after less one.one_more k next short tested (omega (arith, one.one_more.to)) c.if-test.true;
     }
 
@@ -99,7 +99,7 @@ find_wall-found-requires-clause-set c =
     let short : c.one_more-part.result.length ≤ greatest_leg_length = omega arith in
     let k = l.row q.0 q.1 q.2 q.3 (before_kept c.args.i c.args.end p.2 c.clear_row.ensures.kept q.4) in
     let next = one.measures q.0 k.worked.set.held k.measured in
-    let tested = tested_next q.2 p.1 l.first l.after less one.one_more k next p.4 short q.3 (c.test_sole-test.ensures q.0) in
+    let tested = tested_next q.2 p.1 l.first l.after less one.one_more k next c.args.stretch.known short q.3 (c.test_sole-test.ensures q.0) in
     (q.0, tested.worked.set, rw (one.one_more.from ∙ l.first) at tested.follows)
 
 pub returns-then-along-j : goal.returns-then-along-j
@@ -111,7 +111,7 @@ returns-then-along-j c m set joint arriving before walled =
     let short : c.one_more-part.result.length ≤ greatest_leg_length = omega arith in
     let k = l.row m set joint arriving (before_kept c.args.i c.args.end p.2 c.clear_row.ensures.kept before) in
     let next = one.measures m k.worked.set.held k.measured in
-    let tested = tested_next joint p.1 l.first l.after less one.one_more k next p.4 short arriving (c.test_sole-test.ensures m) in (
+    let tested = tested_next joint p.1 l.first l.after less one.one_more k next c.args.stretch.known short arriving (c.test_sole-test.ensures m) in (
       c.find_wall-found.ensures m tested.worked.set joint (rw (one.one_more.from ∙ l.first) at tested.follows) walled,
       row_cleared_then c.clear_row.ensures
           (in_row_broken joint p.1 l.first l.after less one.one_more k next short tested c.if-test.false c.if-along-j.true),
@@ -132,7 +132,7 @@ loop-part-preserved c =
       row = λ m set joint arriving before.
           let k = l.row m set joint arriving before in
           let next = one.measures m k.worked.set.held k.measured in
-          let tested = tested_next joint p.1 l.first l.after less one.one_more k next p.4 short arriving (c.test_sole-test.ensures m) in
+          let tested = tested_next joint p.1 l.first l.after less one.one_more k next c.args.stretch.known short arriving (c.test_sole-test.ensures m) in
           in_row_no joint p.1 l.first l.after less one.one_more k next short tested c.if-test.false;
     }
 

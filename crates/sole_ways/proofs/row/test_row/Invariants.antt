@@ -16,9 +16,9 @@ invariant-loop-part l =
       after : l.i ≤ l.part.to;
       room : l.part.to ≤ l.end;
       short : l.part.length ≤ greatest_leg_length;
-      row : (m : Map) → Set m l.lines l.initial.work → Connected (mirror m) l.stretch → Arriving m l.lines l.stretch l.arrivals →
-          RowBefore (mirror m) l.stretch l.i l.initial.table →
-          InRow m l.lines l.stretch l.i l.end l.initial.table l.table l.initial.work l.work l.last l.part;
+      row : (m : Map) → Set m l.stretch.lines l.initial.work → Connected (mirror m) l.stretch.numbers.now → Arriving m l.stretch.lines l.stretch.numbers.now l.arrivals →
+          RowBefore (mirror m) l.stretch.numbers.now l.i l.initial.table →
+          InRow m l.stretch.lines l.stretch.numbers.now l.i l.end l.initial.table l.table l.initial.work l.work l.last l.part;
     }
 
 abbrev pub decreases-loop-part : goal.decreases-loop-part

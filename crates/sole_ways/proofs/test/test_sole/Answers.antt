@@ -20,3 +20,10 @@ returns c m set t arriving start f =
     let o = c.search_ahead-own.ensures m r.worked.set t in
     tested_own t o.serves (c.look.ensures m o.worked.set t arriving o.follows o.serves o.start) (worked_then r.worked o.worked)
     (omega (arith, o.few, o.serves.classes))
+
+pub look-requires-clause-set : goal.look-requires-clause-set
+look-requires-clause-set c =
+    let (m, set, t, arriving, start, f) = c.requires.set in
+    let r = c.serve-along.ensures m set t start f in
+    let o = c.search_ahead-own.ensures m r.worked.set t in
+    (m, o.worked.set, t, arriving, o.follows, o.serves, o.start)

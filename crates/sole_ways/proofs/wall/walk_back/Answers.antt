@@ -20,9 +20,8 @@ loop-k-init c =
 
 pub returns-then-at-own : goal.returns-then-at-own
 returns-then-at-own c m set joint f j old =
-    let p = c.requires.known in
     let l = c.loop-k in
-    back_met p.0 joint f l.k c.loop-k-test.true l.invariant.before p.1 (c.if-at-own.true ∙ c.wide-own.ensures.0) j (l.invariant.back m _ set f refl j)
+    back_met c.args.stretch.known joint f l.k c.loop-k-test.true l.invariant.before c.requires.bounds.0 (c.if-at-own.true ∙ c.wide-own.ensures.0) j (l.invariant.back m _ set f refl j)
 
 pub loop-k-smaller : goal.loop-k-smaller
 loop-k-smaller c =

@@ -12,8 +12,8 @@ abbrev pub invariant-loop-k : goal.invariant-loop-k
 invariant-loop-k l =
     record {
       before : l.k < l.to;
-      back : (m : Map) (b : Along) → Set m l.lines l.work → Follows m l.lines l.stretch l.i l.work b → b.to ≡ l.to →
-          Joins m l.lines l.stretch l.to l.work l.last → WayBack (mirror m) l.lines b.limit l.work l.last l.at l.class;
+      back : (m : Map) (b : Along) → Set m l.stretch.lines l.work → Follows m l.stretch.lines l.stretch.numbers.now l.i l.work b → b.to ≡ l.to →
+          Joins m l.stretch.lines l.stretch.numbers.now l.to l.work l.last → WayBack (mirror m) l.stretch.lines b.limit l.work l.last l.at l.class;
     }
 
 abbrev pub decreases-loop-k : goal.decreases-loop-k

@@ -17,16 +17,13 @@ unfolding refusal_of
 returns-then-has_unknown c m h =
     no_such_line m _ c.if-stretch-eq0.false c.if-stretch-gt-GREATEST_STRETCH.false (sym (c.if-has_unknown.ensures m h.line_count))
 
-pub has_gap-requires-clause-known : goal.has_gap-requires-clause-known
-has_gap-requires-clause-known c = known_of _ c.requires.1 (c.if-has_unknown.ensures c.requires.0 c.requires.1.line_count)
+pub invariant_of-list : goal.invariant_of-list
+invariant_of-list c = record { known = known_of _ c.requires.1 (c.if-has_unknown.ensures c.requires.0 c.requires.1.line_count) }
 
 pub returns-then-has_gap : goal.returns-then-has_gap
 unfolding refusal_of
 returns-then-has_gap c m h =
     not_joined m _ c.if-stretch-eq0.false c.if-stretch-gt-GREATEST_STRETCH.false (sym (c.if-has_unknown.ensures m h.line_count)) (sym (c.if-has_gap.ensures m h))
-
-pub has_ban-requires-clause-known : goal.has_ban-requires-clause-known
-has_ban-requires-clause-known c = known_of _ c.requires.1 (c.if-has_unknown.ensures c.requires.0 c.requires.1.line_count)
 
 pub returns-then-has_ban : goal.returns-then-has_ban
 unfolding refusal_of
@@ -34,18 +31,11 @@ returns-then-has_ban c m h =
     banned_turn m _ c.if-stretch-eq0.false c.if-stretch-gt-GREATEST_STRETCH.false (sym (c.if-has_unknown.ensures m h.line_count)) (sym (c.if-has_gap.ensures m h))
     (sym (c.if-has_ban.ensures m h))
 
-pub total_length-requires-clause-known : goal.total_length-requires-clause-known
-total_length-requires-clause-known c =
-    (known_of _ c.requires.1 (c.if-has_unknown.ensures c.requires.0 c.requires.1.line_count), c.if-stretch-gt-GREATEST_STRETCH.false)
-
 pub returns-then-total_length-wide : goal.returns-then-total_length-wide
 unfolding refusal_of
 returns-then-total_length-wide c m h =
     too_far m _ c.if-stretch-eq0.false c.if-stretch-gt-GREATEST_STRETCH.false (sym (c.if-has_unknown.ensures m h.line_count)) (sym (c.if-has_gap.ensures m h))
     (sym (c.if-has_ban.ensures m h)) (omega (arith, c.total_length.ensures m h))
-
-pub after_offsets-requires-clause-known : goal.after_offsets-requires-clause-known
-after_offsets-requires-clause-known c = known_of _ c.requires.1 (c.if-has_unknown.ensures c.requires.0 c.requires.1.line_count)
 
 pub returns : goal.returns
 returns c m h =

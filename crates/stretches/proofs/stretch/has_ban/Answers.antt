@@ -19,7 +19,7 @@ pub banned-requires : goal.banned-requires
 banned-requires c =
     let p = c.requires in
     let held = p.held.1 in
-    (omega (arith, p.known c.loop-i.i c.loop-i-test.true), few held, held.full, (p.held.0.bans, held.bans_held))
+    (omega (arith, c.args.stretch.known c.loop-i.i c.loop-i-test.true), few held, held.full, (p.held.0.bans, held.bans_held))
 
 pub returns-then-banned : goal.returns-then-banned
 returns-then-banned c m h =

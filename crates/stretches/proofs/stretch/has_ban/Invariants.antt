@@ -6,4 +6,4 @@ use Rattle.work_area.specs.Area.{Held}
 use Rattle.stretches.proofs.stretch.has_ban.Given as goal
 
 abbrev pub invariant-loop-i : goal.invariant-loop-i
-invariant-loop-i l = (m : Map) → Held l.work l.lines m → banned_pair m l.stretch ≡ banned_pair m (drop (l.i - 1) l.stretch)
+invariant-loop-i l = (m : Map) → Held l.work l.stretch.lines m → banned_pair m l.stretch.numbers.now ≡ banned_pair m (drop (l.i - 1) l.stretch.numbers.now)

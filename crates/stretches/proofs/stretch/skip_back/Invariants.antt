@@ -6,4 +6,4 @@ use Rattle.work_area.specs.Area.{Held}
 use Rattle.stretches.proofs.stretch.skip_back.Given as goal
 
 abbrev pub invariant-loop-last : goal.invariant-loop-last
-invariant-loop-last l = (m : Map) → Held l.work l.lines m → skip m l.offset (reverse l.stretch) ≡ skip m l.left (reverse (take l.last l.stretch))
+invariant-loop-last l = (m : Map) → Held l.work l.stretch.lines m → skip m l.offset (reverse l.stretch.numbers.now) ≡ skip m l.left (reverse (take l.last l.stretch.numbers.now))

@@ -15,10 +15,10 @@ returns-then-left-length c = (
 pub loop-at-preserved : goal.loop-at-preserved
 loop-at-preserved c m h =
     c.loop-at.invariant m h ∙ rw (← c.field_of-length.ensures m h) at
-    (front_on m c.args.stretch.now c.loop-at.left c.loop-at.at c.loop-at-test.true (rw (c.field_of-length.ensures m h) at c.if-left-length.false))
+    (front_on m c.args.stretch.numbers.now c.loop-at.left c.loop-at.at c.loop-at-test.true (rw (c.field_of-length.ensures m h) at c.if-left-length.false))
 
 pub returns : goal.returns
 returns c =
-    let ls = c.args.stretch.now in
+    let ls = c.args.stretch.numbers.now in
     let e : c.loop-at.at ≡ length ls = omega arith in
     (omega arith, λ m h. rw (← e) (c.loop-at.invariant m h ∙ front_none m ls _ c.loop-at.at e))

@@ -6,4 +6,4 @@ use Rattle.work_area.specs.Area.{Held}
 use Rattle.stretches.proofs.stretch.skip_front.Given as goal
 
 abbrev pub invariant-loop-at : goal.invariant-loop-at
-invariant-loop-at l = (m : Map) → Held l.work l.lines m → skip m l.offset l.stretch ≡ skip m l.left (drop l.at l.stretch)
+invariant-loop-at l = (m : Map) → Held l.work l.stretch.lines m → skip m l.offset l.stretch.numbers.now ≡ skip m l.left (drop l.at l.stretch.numbers.now)

@@ -1,7 +1,7 @@
 -- Each number is that of the line.
 use Rattle.fields.specs.Leg.{attributes_in}
 use Rattle.stretches.specs.Attributes.{attributes_by}
-use Rattle.stretches.proofs.lines.attributes_of.Goals as goal
+use Rattle.stretches.proofs.lines.LineList.attributes_of.Goals as goal
 
 pub returns : goal.returns
 unfolding attributes_in attributes_by
