@@ -3,7 +3,8 @@ use Rattle.std.proofs.Common.{◌≡◌, ◌-◌, ◌<◌, length}
 use Rattle.model.specs.Map.{Map}
 use Rattle.search_cells.specs.Area.{Set}
 use Rattle.fields.specs.declared.leg.Verdict.TheVariants.{Unread, Several}
-use Rattle.references.specs.Legs.{legs_on, legs_at}
+use Rattle.references.specs.Formed.{legs_in}
+use Rattle.references.specs.Legs.{legs_on}
 use Rattle.reference_legs.specs.Legs.{PlacesIn}
 use Rattle.reference_legs.proofs.Candidates.{Tried}
 use Rattle.reference_legs.proofs.Gathering.{Gathering}
@@ -12,7 +13,7 @@ use Rattle.reference_legs.proofs.read_legs.Given as goal
 abbrev pub invariant-loop-k : goal.invariant-loop-k
 invariant-loop-k l =
     (m : Map) → Set m l.lines l.fn.work → PlacesIn m l.reference.points l.places →
-    Gathering m l.lines (legs_at l.reference.bytes.now l.reference.points l.places) l.k (legs_on l.reference.bytes.now l.reference.points l.places l.k (l.reference.points - l.k)) l.work l.fn.out l.out l.sums
+    Gathering m l.lines (legs_in l.reference l.places) l.k (legs_on l.reference.bytes.now l.reference.points l.places l.k (l.reference.points - l.k)) l.work l.fn.out l.out l.sums
 
 abbrev pub invariant-loop-at : goal.invariant-loop-at
 invariant-loop-at l =
