@@ -5,44 +5,34 @@ ghost use Rattle.std.specs.Prelude.{◌≡◌, MatchResult};
 ghost use Rattle.host_trip.specs.Trip.{WroteSo, NotWritten, TripTells, PairTells};
 
 use openlr::{Lines, Written, openlr_read, openlr_write};
-use round_trip::{Back, Which};
+use round_trip::{Back, Given, Which};
 
 pub mod point;
 
-// Writes a stretch: what was written, or the refusal's number.
-fn write(
-    map: &[u8],
-    stretch: &[u8],
-    pos: u32,
-    neg: u32,
-    tests: u32,
-    bytes: &mut [u8],
-) -> Result<Written, u32>
+// Writes a stretch as it is given: what was written, or the refusal's number.
+fn write_given(map: &[u8], given: Given<u8>, bytes: &mut [u8]) -> Result<Written, u32>
     ensures { MatchResult result
-        (λ w. (w.refusal ≡ 0) × WroteSo map.now stretch.now pos neg tests bytes.old bytes.new w.bytes w.tests w.excess)
-        (λ why. NotWritten map.now stretch.now pos neg tests bytes.old bytes.new why) }
+        (λ w. (w.refusal ≡ 0) × WroteSo map.now given.entry.stretch.now given.entry.pos given.entry.neg given.entry.tests bytes.old bytes.new w.bytes w.tests w.excess)
+        (λ why. NotWritten map.now given.entry.stretch.now given.entry.pos given.entry.neg given.entry.tests bytes.old bytes.new why) }
 {
-    let written = openlr_write(map, stretch, pos, neg, tests, bytes);
+    let written = openlr_write(map, given.stretch, given.pos, given.neg, given.tests, bytes);
     if written.refusal != 0 {
         return Err(written.refusal);
     }
     Ok(written)
 }
 
-// Writes a stretch, by `tests` leg tests at most, and reads what was written. What the buffers hold before is arbitrary.
+// Writes a stretch and reads what was written. What the buffers hold before is arbitrary.
 pub fn write_and_read(
     map: &[u8],
-    stretch: &[u8],
-    pos: u32,
-    neg: u32,
-    tests: u32,
+    given: Given<u8>,
     bytes: &mut [u8],
     lines: &mut [u8],
 ) -> Result<Back<Written, Lines>, u32>
-    ensures { TripTells map.now stretch.now pos neg tests bytes.old bytes.new
+    ensures { TripTells map.now given.entry.stretch.now given.entry.pos given.entry.neg given.entry.tests bytes.old bytes.new
         lines.old lines.new result }
 {
-    let written = write(map, stretch, pos, neg, tests, bytes)?;
+    let written = write_given(map, given, bytes)?;
     let answer = openlr_read(map, &bytes[..written.bytes as usize], lines);
     Ok(Back { written, answer })
 }
@@ -51,25 +41,18 @@ pub fn write_and_read(
 // differ.
 pub fn write_two_and_read(
     map: &[u8],
-    first: &[u8],
-    pos: u32,
-    neg: u32,
-    tests: u32,
-    second: &[u8],
-    second_pos: u32,
-    second_neg: u32,
-    second_tests: u32,
+    first: Given<u8>,
+    second: Given<u8>,
     bytes: &mut [u8],
     others: &mut [u8],
     lines: &mut [u8],
 ) -> Result<Option<Back<u32, Lines>>, Which<u32>>
-    ensures { PairTells map.now first.now pos neg tests second.now second_pos second_neg second_tests
+    ensures { PairTells map.now first.entry.stretch.now first.entry.pos first.entry.neg first.entry.tests
+        second.entry.stretch.now second.entry.pos second.entry.neg second.entry.tests
         bytes.old bytes.new others.old others.new lines.old lines.new result }
 {
-    let one = write(map, first, pos, neg, tests, bytes).map_err(Which::First)?;
-    let other = write(map, second, second_pos, second_neg, second_tests, others).map_err(
-        Which::Second,
-    )?;
+    let one = write_given(map, first, bytes).map_err(Which::First)?;
+    let other = write_given(map, second, others).map_err(Which::Second)?;
     let same = &bytes[..one.bytes as usize];
     if same != &others[..other.bytes as usize] {
         return Ok(None);

@@ -1,2 +1,3 @@
 -- Demand 3 as a claim about calls.
 pub mod Trip
+pub mod Given

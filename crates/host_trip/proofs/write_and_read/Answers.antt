@@ -5,10 +5,10 @@ use Rattle.host_trip.proofs.Handed.{bytes_fit, handed_back}
 use Rattle.host_trip.proofs.write_and_read.Goals as goal
 
 pub slice_bounds-openlr_read-end : goal.slice_bounds-openlr_read-end
-slice_bounds-openlr_read-end c = bytes_fit (_, _, c.in_ok-written.ensures.1) c.write.auto.bytes
+slice_bounds-openlr_read-end c = bytes_fit (_, _, c.in_ok-written.ensures.1) c.write_given.auto.bytes
 
 pub slice_bounds-openlr_read-end-2 : goal.slice_bounds-openlr_read-end-2
-slice_bounds-openlr_read-end-2 c = sym (length-take-le _ _ (bytes_fit (_, _, c.in_ok-written.ensures.1) c.write.auto.bytes))
+slice_bounds-openlr_read-end-2 c = sym (length-take-le _ _ (bytes_fit (_, _, c.in_ok-written.ensures.1) c.write_given.auto.bytes))
 
 pub returns : goal.returns
 returns c =
