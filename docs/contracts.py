@@ -1,4 +1,4 @@
-"""Prints every function of the crates with its contract, a line for each clause, or which of these lines have changed since a revision.
+"""Prints every function of the crates with its contract, a line for each clause, its closures' too, or which of these lines have changed since a revision.
 Usage: python3 docs/contracts.py [--signatures] [--since REVISION]   (make contracts, make contracts SINCE=REVISION)
 
 With --signatures a function's line has its parameters and its result as well. Of a revision in an older spelling every clause is told as changed that was
@@ -34,11 +34,12 @@ def module_of(path):
 
 
 def functions(text):
-    """Each function of a file: its name with `pub` before it, its signature, and the clauses of its contract."""
+    """Each function of a file: its name with `pub` before it, its signature, and the clauses of its contract. A closure with clauses follows its function,
+    under the same name and with no signature."""
     rows = iter(text.splitlines())
     for row in rows:
         found = FUNCTION.match(row)
-        if not found:
+        if not found and not CLAUSE.match(row):
             continue
         heads, clauses = [], []
         while not re.search(r"(^|\s)\{$", row):
@@ -49,10 +50,14 @@ def functions(text):
             else:
                 heads.append(row.strip())
             row = next(rows)
+        if not found:
+            yield name, None, clauses
+            continue
         heads.append(row.strip().removesuffix("{"))
         # A signature is told alike whether the layout has it in one line or in several.
         signature = re.sub(r"\( | (?=\))", lambda found: found[0].strip(), " ".join(heads)).replace(",)", ")")
-        yield (found[1] or "") + found[2], signature.strip(), clauses
+        name = (found[1] or "") + found[2]
+        yield name, signature.strip(), clauses
 
 
 def contracts(revision, signatures):
@@ -61,7 +66,10 @@ def contracts(revision, signatures):
         for name, signature, clauses in functions(text):
             public, _, short = name.rpartition(" ")
             whole = f"{public} {module_of(path)}::{short}".strip()
-            yield f"{whole}: {signature}" if signatures else whole
+            if signature is None:
+                whole += ", closure"
+            else:
+                yield f"{whole}: {signature}" if signatures else whole
             for clause in clauses:
                 yield f"{whole}: {clause}"
 
