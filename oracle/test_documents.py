@@ -72,7 +72,11 @@ class Contracts(unittest.TestCase):
         rows = list(contracts.contracts(None, False))
         clauses = [row for row in rows if re.search(r": (requires|ensures) (\w+ )?\{ .* \}$", row)]
         self.assertEqual(len(clauses), sum(len(re.findall(r"\b(?:requires|ensures) (?:\w+ )?\{", text)) for text in code))
-        self.assertEqual(len(rows) - len(clauses), sum(len(re.findall(r"^[^/\n]*\bfn \w", text, re.MULTILINE)) for text in code))
+        # What a type or a trait's law says in the place of a clause.
+        facts = [row for row in rows if re.search(r": \w+ \{ .* \}$", row) and row not in clauses]
+        self.assertEqual(len(facts), sum(len(re.findall(r"\bghost \w+(?::| =) \{", text)) for text in code))
+        self.assertGreater(len(facts), 2)
+        self.assertEqual(len(rows) - len(clauses) - len(facts), sum(len(re.findall(r"^[^/\n]*\bfn \w", text, re.MULTILINE)) for text in code))
 
 
 class LineLengths(unittest.TestCase):

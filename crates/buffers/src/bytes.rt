@@ -3,6 +3,9 @@ ghost use Rattle.std.specs.Prelude.{◌≡◌, ◌+◌, ◌≤◌, ◌<◌, ◌*
 ghost use Rattle.model.specs.Reference.{at2, at3, bytes2, bytes3};
 ghost use Rattle.buffers.specs.Placed.{put_at};
 
+// Bytes are copied as all values are. Who knows it by this name keeps it.
+pub use crate::copy;
+
 // The number of 16 bits at byte `i`.
 #[tactic(auto, unfolding(model::specs::Reference::at2))]
 pub fn at2(bytes: &[u8], i: usize) -> u32

@@ -1,7 +1,7 @@
 // The references of a message's bytes, as a box receives them (paper 02, W9), behind the front (W10).
 #![tactic(auto)]
 
-ghost use Rattle.std.specs.Prelude.{◌≡◌, ℕ, ◌≤◌, length, drop};
+ghost use Rattle.std.specs.Prelude.{◌≡◌, ℕ, ◌≤◌, min, length, drop};
 ghost use Rattle.model.specs.Front.{front_of};
 ghost use Rattle.model.specs.Message.{longest_message, of_length, next, reference_number, start_of_number, end_of_number};
 ghost use Rattle.model.specs.Front as definitions;
@@ -67,6 +67,13 @@ fn entry_at(message: &[u8], at: usize) -> Option<Part>
     entry_of(message, at + 2, first - GROUP + second * GROUP)
 }
 
+// How many references a walk to number `n` passes at most. Each takes a byte at least, and so they are no more than the bytes, however great the number.
+fn most_turns(message: &[u8], n: usize) -> usize
+    ensures { result ≡ min n (length message.now) }
+{
+    n.min(message.len())
+}
+
 // Where reference `n` of those from byte `behind` on stands, in a message of at most 16,384 bytes.
 fn place_behind(message: &[u8], behind: usize, n: usize) -> Part
     requires message_len_bound { (length message.now ≤ longest_message) × (behind ≤ length message.now) }
@@ -74,7 +81,7 @@ fn place_behind(message: &[u8], behind: usize, n: usize) -> Part
     ensures { (result.start ≡ start_of_number n message.now) × (result.end ≡ end_of_number n message.now) }
 {
     let mut at = behind;
-    for i in 0..n {
+    for i in 0..most_turns(message, n) {
         let Some(part) = entry_at(message, at) else {
             return Part::empty(at);
         };

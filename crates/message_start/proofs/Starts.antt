@@ -44,6 +44,12 @@ pub map_refused_lem : (mb buffer : List ℕ) (why : Refusal) (room : ℕ) → de
     StartAnswered (OnMap StartOutcome.refused (λ m. λ o. o ≡ start_on mb room) (decode mb)) buffer buffer (Err why)
 map_refused_lem mb buffer why room e = rw e (refused_start why refl)
 
+-- An area that is too short, told at once.
+pub area_short : (mb buffer work : List ℕ) → length work < work_length → StartCall mb work buffer (Err WorkAreaShort) work buffer
+unfolding refusal_of
+area_short mb buffer work h =
+    record { called = Answering.area_short StartOutcome.refused (λ m. λ o. o ≡ start_on mb (length buffer)) mb h (refused_start WorkAreaShort refl) }
+
 pub called : (mb before : List ℕ) {after work work' : List ℕ} {a : MessageAnswer} → (length work < work_length → (a ≡ Err WorkAreaShort) × (after ≡ before)) →
     (work_length ≤ length work → StartAnswered (OnMap StartOutcome.refused (λ m. λ o. o ≡ start_on mb (length before)) (decode mb)) before after a) →
     work' ≡ cleared work → StartCall mb work before a work' after

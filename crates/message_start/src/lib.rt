@@ -24,6 +24,7 @@ fn on_map(map: &[u8], buffer: &mut [u8]) -> MessageAnswer
 }
 
 // Starts a message for a map: the front stands first in the buffer, whatever stood there. The work area needs 14,336 numbers. They are 0 afterwards.
+#[tactic(auto, using(crate::proofs::Starts::area_short, model::proofs::Cleared::cleared_short))]
 pub fn start(map: &[u8], work: &mut [u32], buffer: &mut [u8]) -> MessageAnswer
     ensures { StartCall map.now work.old buffer.old result work.new buffer.new }
 {

@@ -1,5 +1,5 @@
 // The test of one leg of a row: whether its lines are a sole way.
-ghost use Rattle.std.specs.Prelude.{◌≡◌, true, ◌≤◌, ◌<◌, length, get_or};
+ghost use Rattle.std.specs.Prelude.{◌≡◌, true, ◌≤◌, ◌<◌, ◌+◌, ◌/◌, length, get_or, MatchOption};
 ghost use Rattle.std.proofs.Math.Seq.{slice};
 ghost use Rattle.model.specs.Map.{Map};
 ghost use Rattle.model.specs.Reading.{greatest_leg_length};
@@ -23,8 +23,16 @@ pub struct SoleTest {
     pub along: Along,
 }
 
-// The search that serves a part: the last one of the row, or one that is made now. How long the legs of the row get is guessed: for its first search it is
-// `reach`, what the row before came to; a row that goes on past that is likely to go on for some legs more.
+// A guess of how long the legs of a row get, once one of them has this length. For the first search of a row it is `reach`, what the row before came to. A
+// row that goes on past that is likely to go on for some legs more.
+fn guess(len: u32, reach: u32, last: Option<Along>) -> u32
+    requires { len ≤ greatest_leg_length }
+    ensures { MatchOption last (result ≡ reach) (λ along. result ≡ len + len / 2) }
+{
+    if last.is_some() { len + len / 2 } else { reach }
+}
+
+// The search that serves a part: the last one of the row, or one that is made now.
 fn serve(
     work: &mut [u32],
     stretch: LineList,
@@ -40,15 +48,14 @@ fn serve(
         → FollowsIf m stretch.entry.lines stretch.entry.numbers.now part.from work.old before
         → Served m stretch.entry.lines stretch.entry.numbers.now part work.old work.new result }
 {
-    let mut far = reach;
     if let Some(last) = before {
         if part.class <= last.class {
             if part.length <= last.limit {
                 return last;
             }
         }
-        far = part.length + part.length / 2;
     }
+    let far = guess(part.length, reach, before);
     search_ahead(work, stretch, part, end, LOWEST_CLASS, far)
 }
 

@@ -5,8 +5,15 @@ use Rattle.search_cells.specs.Area.{far, length_to}
 use Rattle.way_lengths.proofs.Follows.{follow}
 use Rattle.search_cells.proofs.Holding.{few}
 use Rattle.search_cells.proofs.Reached.{room_left}
-use Rattle.relaxation.proofs.Relaxing.{going_in, key_behind, notable_low, marked_apart, unmarked, apart, not_more, nearer, tied, shut, beyond, reaches}
+use Rattle.relaxation.proofs.Relaxing.{length_at, going_in, key_behind, notable_low, marked_apart, unmarked, apart, not_more, nearer, tied, shut, beyond, reaches}
+use Rattle.relaxation.proofs.Sums.{no_overflow}
 use Rattle.relaxation.proofs.relax.Goals as goal
+
+pub overflow_add-length : goal.overflow_add-length
+overflow_add-length c =
+    let p = c.requires.by_index in
+    let j = c.requires.j_lt_lines in
+    omega (arith, c.field.ensures, length_at p.2 p.3 j, no_overflow p.2 p.3 j)
 
 pub returns-then-found-length : goal.returns-then-found-length
 returns-then-found-length c =

@@ -1,6 +1,17 @@
--- Class and length take the next line in.
+-- Class and length take the next line in, and no sum overflows.
+use Rattle.std.proofs.Common.{arith}
 use Rattle.sole_ways.proofs.Parts.{measures_more}
+use Rattle.sole_ways.proofs.Sums.{no_overflow}
 use Rattle.sole_ways.proofs.part.one_more.Goals as goal
+
+pub overflow_add-length : goal.overflow_add-length
+overflow_add-length c =
+    let p = c.requires in
+    omega (
+      arith,
+      c.field_of.ensures p.held.0 p.held.1,
+      no_overflow c.args.stretch.numbers.now c.args.part.to c.args.part.length p.held.1 c.args.stretch.known p.bounds.0 p.bounds.1,
+    )
 
 pub returns-clause-measures : goal.returns-clause-measures
 returns-clause-measures c m held x =

@@ -2,6 +2,7 @@
 use Rattle.std.proofs.Common.{sym, arith}
 use Rattle.model.specs.Refusal.{refusal_of}
 use Rattle.stretches.proofs.Checks.{no_lines, too_many, no_such_line, not_joined, banned_turn, too_far, left, known_of}
+use Rattle.stretches.proofs.Sums.{offsets_fit}
 use Rattle.stretches.proofs.stretch.check.Goals as goal
 
 pub returns-then-stretch-eq0 : goal.returns-then-stretch-eq0
@@ -30,6 +31,9 @@ unfolding refusal_of
 returns-then-has_ban c m h =
     banned_turn m _ c.if-stretch-eq0.false c.if-stretch-gt-GREATEST_STRETCH.false (sym (c.if-has_unknown.ensures m h.line_count)) (sym (c.if-has_gap.ensures m h))
     (sym (c.if-has_ban.ensures m h))
+
+pub overflow_add-wide : goal.overflow_add-wide
+overflow_add-wide c = omega (arith, offsets_fit {pos = c.wide.result} {neg = c.wide-2.result} (omega arith) (omega arith))
 
 pub returns-then-total_length-wide : goal.returns-then-total_length-wide
 unfolding refusal_of
